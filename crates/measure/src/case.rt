@@ -1,0 +1,28 @@
+//! The cases by their names.
+
+use std::fmt;
+
+/// What is timed.
+#[derive(Clone, Copy, Debug, PartialEq, Eq)]
+pub enum Case {
+    /// A sum of bytes in memory: the speed of the machine.
+    Baseline,
+}
+
+impl Case {
+    /// The case of a name.
+    pub fn of(name: &str) -> Option<Case> {
+        match name {
+            "baseline" => Some(Case::Baseline),
+            _ => None,
+        }
+    }
+}
+
+impl fmt::Display for Case {
+    fn fmt<W: fmt::Write>(&self, f: &mut fmt::Formatter<W>) -> fmt::Result {
+        f.write_str(match self {
+            Case::Baseline => "baseline",
+        })
+    }
+}

@@ -1,0 +1,58 @@
+//! Times one case of the workroom's work: `measure CASE SIZE`.
+//!
+//! What the case computed goes to standard output, the same on every machine; the time that it took goes to
+//! standard error. The scripts in `benches/` compare the times with plain Rust.
+#![tactic(auto)]
+
+mod baseline;
+mod case;
+
+use case::Case;
+use std::alloc::{AllocError, Global};
+use std::process::ExitCode;
+use std::rt::{Clock, Env};
+use std::time::Instant;
+use std::{env, io};
+
+/// The number that the case computed from `size` items.
+fn outcome(alloc: Global, case: Case, size: u32) -> Result<u64, AllocError> {
+    match case {
+        Case::Baseline => baseline::byte_sum(alloc, size),
+    }
+}
+
+/// Times one case and prints what it computed.
+fn measure(
+    rt: &(impl Print + Eprint + Clock),
+    alloc: Global,
+    case: Case,
+    size: u32,
+) -> io::Result<()> {
+    let start = Instant::now(rt)?;
+    let outcome = outcome(alloc, case, size)?;
+    let nanoseconds = start.elapsed(rt)?.as_nanos();
+    println!(rt; "{case} {size} {outcome}")?;
+    eprintln!(rt; "{nanoseconds} ns")
+}
+
+/// The case and the size of the command line, if it has that form.
+fn read_words(rt: &(impl Env + AllocGlobal)) -> io::Result<Option<(Case, u32)>> {
+    let mut words = env::args(rt)?;
+    let _program = words.next();
+    let (Some(case), Some(size), None) = (words.next(), words.next(), words.next()) else {
+        return Ok(None);
+    };
+    let (Some(case), Ok(size)) = (Case::of(case.as_str()), size.as_str().parse::<u32>()) else {
+        return Ok(None);
+    };
+    Ok(Some((case, size)))
+}
+
+fn main(rt: HostRuntime) -> io::Result<ExitCode> {
+    let Some((case, size)) = read_words(&rt)? else {
+        eprintln!(rt; "usage: measure CASE SIZE")?;
+        return Ok(ExitCode::from(2));
+    };
+    measure(&rt, rt.alloc(), case, size)?;
+    Ok(ExitCode::SUCCESS)
+}
