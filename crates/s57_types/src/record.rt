@@ -1,0 +1,77 @@
+//! Vector and feature records.
+
+use crate::items::{Attrs, Deep, Ends, Partners, Places, Plane, Text};
+use crate::name::{Lnam, RecName};
+
+/// An attribute of ATTF, NATF or ATTV (S-57 Part 3, 7.6.3, 7.6.4 and 7.7.1.2): its code ATTL and its value ATVL.
+#[derive(Debug, Drop)]
+pub struct Attr {
+    pub code: u16,
+    pub value: Text,
+}
+
+/// A vector record pointer, one row of VRPT (S-57 Part 3, 7.7.1.4): the record pointed to, and the orientation,
+/// usage, topology and masking indicators.
+#[derive(Clone, Copy, Debug, PartialEq, Eq)]
+pub struct End {
+    pub to: RecName,
+    pub ornt: u8,
+    pub usag: u8,
+    pub topi: u8,
+    pub mask: u8,
+}
+
+/// A spatial pointer, one row of FSPT (S-57 Part 3, 7.6.8): the record pointed to, and the orientation, usage and
+/// masking indicators.
+#[derive(Clone, Copy, Debug, PartialEq, Eq)]
+pub struct Spot {
+    pub to: RecName,
+    pub ornt: u8,
+    pub usag: u8,
+    pub mask: u8,
+}
+
+/// A feature pointer, one row of FFPT (S-57 Part 3, 7.6.6): the feature object pointed to, the relationship
+/// indicator and a comment.
+#[derive(Debug, Drop)]
+pub struct Partner {
+    pub to: Lnam,
+    pub rind: u8,
+    pub comt: Text,
+}
+
+/// A vector record (S-57 Part 3, 7.7.1): its name, its version, its attributes (ATTV), its pointers (VRPT), its 2-D
+/// coordinates (SG2D) and its soundings (SG3D).
+#[derive(Debug, Drop)]
+pub struct Vector {
+    pub name: RecName,
+    pub rver: u16,
+    pub attrs: Attrs,
+    pub ends: Ends,
+    pub plane: Plane,
+    pub deep: Deep,
+}
+
+/// A feature record (S-57 Part 3, 7.6): its name, geometric primitive, group, object class and version, its
+/// identifier (FOID), its attributes (ATTF) and national attributes (NATF), its pointers to features (FFPT) and to
+/// vector records (FSPT).
+#[derive(Debug, Drop)]
+pub struct Feature {
+    pub name: RecName,
+    pub prim: u8,
+    pub grup: u8,
+    pub objl: u16,
+    pub rver: u16,
+    pub foid: Lnam,
+    pub attf: Attrs,
+    pub natf: Attrs,
+    pub partners: Partners,
+    pub places: Places,
+}
+
+/// A vector record or a feature record.
+#[derive(Debug, Drop)]
+pub enum Rec {
+    V(Vector),
+    F(Feature),
+}
