@@ -1,0 +1,18 @@
+//! The outside of the program: a file store, an output sink and a rendezvous hook for tests, each as a trait whose
+//! contract says when a call may fail and what it leaves, with stand-ins in memory.
+#![tactic(auto)]
+
+mod meet;
+mod mem_shelf;
+mod mem_sink;
+mod shelf;
+mod sink;
+
+pub use meet::{Meet, NoMeet, Stuck};
+pub use mem_shelf::MemShelf;
+pub use mem_sink::MemSink;
+pub use shelf::{Failed, Got, Shelf};
+pub use sink::Sink;
+
+#[cfg(test)]
+mod tests;

@@ -1,0 +1,82 @@
+//! An output sink in memory.
+
+ghost use Rattle.std.specs.Prelude.{◌≡◌, ◌+◌, ◌<◌, ◌++◌, [], Some, length, take, OnOk, OnErr};
+
+use crate::shelf::Failed;
+use crate::sink::Sink;
+use std::alloc::Global;
+
+/// An output sink that keeps what was written, and fails one call.
+#[derive(Drop)]
+pub struct MemSink {
+    bytes: Vec<u8>,
+    calls: u64,
+    failing: u64,
+    faults: u64,
+}
+
+impl MemSink {
+    ghost use Rattle.std.specs.Prelude.{◌≡◌, []};
+    ghost use Rattle.enc_outside.specs.MemSink.{sink_bytes, next_put, failing_put};
+
+    /// A sink to which nothing was written, and of which no call fails.
+    pub fn make(alloc: Global) -> MemSink
+        ensures bytes { sink_bytes result ≡ [] }
+        ensures calls { next_put result ≡ 1 }
+        ensures failing { failing_put result ≡ 0 }
+    {
+        MemSink {
+            bytes: Vec::new(alloc),
+            calls: 0,
+            failing: 0,
+            faults: 0,
+        }
+    }
+
+    /// Has one call fail, by its number from 1 over all calls as a sink; 0 fails none.
+    pub fn fail_at(&mut self, call: u64)
+        ensures bytes { sink_bytes self.new ≡ sink_bytes self.old }
+        ensures calls { next_put self.new ≡ next_put self.old }
+        ensures failing { failing_put self.new ≡ call }
+    {
+        self.failing = call;
+    }
+
+    /// The bytes that were written.
+    pub fn bytes(&self) -> &[u8]
+        ensures { result.now ≡ sink_bytes self.now }
+    {
+        &self.bytes
+    }
+}
+
+impl Sink for MemSink {
+    ghost use Rattle.std.specs.Prelude.{◌≡◌, ◌<◌, ◌++◌, List, ℕ, Option, Some, length, take, IfOk, OnErr, IsErr};
+    ghost use Rattle.enc_outside.specs.Count.{Counts};
+    ghost use Rattle.enc_outside.specs.Files.{Told, StaysUntold};
+    ghost use Rattle.enc_outside.specs.Sink.{Took};
+    ghost use Rattle.enc_outside.specs.MemSink.{sink_bytes, IsFailing, IsNext};
+
+    ghost written = { λ s. Some (sink_bytes s) };
+
+    ghost faults = { λ s. s.faults };
+
+    /// It fails at the call that was set, and where memory was refused.
+    fn put(&mut self, bytes: &[u8]) -> Result<usize, Failed>
+        requires { 0 < length bytes.now }
+        ensures took { IfOk result (Took bytes.now) }
+        ensures ok { IfOk result (λ n. sink_bytes self.new ≡ sink_bytes self.old ++ take n bytes.now) }
+        ensures err { OnErr result (sink_bytes self.new ≡ sink_bytes self.old) }
+        ensures faults { Counts self.old.faults self.new.faults result }
+        ensures set { IsFailing self.old → IsErr result }
+        ensures next { IsNext self.old self.new }
+    {
+        let failing = self.calls < u64::MAX && self.calls + 1 == self.failing;
+        self.calls = self.calls.saturating_add(1);
+        if !failing && self.bytes.extend_from_slice(bytes).is_ok() {
+            return Ok(bytes.len());
+        }
+        self.faults = self.faults.saturating_add(1);
+        Err(Failed)
+    }
+}

@@ -1,0 +1,3 @@
+pub mod RecordFrame
+pub mod FrameDecision
+pub mod FrameFaults

@@ -1,0 +1,142 @@
+//! The leader of a record and its directory.
+
+ghost use Rattle.std.specs.Prelude.{◌≡◌, ◌+◌, ◌*◌, ◌^◌, ◌<◌, ◌≤◌, length, MatchOption};
+ghost use Rattle.frame_spec.specs.RecordFrame.{AreDigits, decimal_value, IsLeader, IsDirectory, entry_size_at, count_at, length_text, position_text, field_length, field_position, entry_place, bytes_at};
+ghost use Rattle.iso_frame.specs.Numbers.{AreNumbers, IsRead};
+
+/// The number that digits write, if they are digits.
+fn decimal(digits: &[u8]) -> Option<usize>
+    requires { length digits.now ≤ 9 }
+    ensures value { MatchOption result (AreDigits digits.now → ⊥)
+        (λ n. AreDigits digits.now × (n ≡ decimal_value digits.now)) }
+    ensures bound { MatchOption result (⊥ → ⊥) (λ n. n < 10 ^ 9) }
+{
+    let mut number = 0;
+    for digit in digits {
+        if !digit.is_ascii_digit() {
+            return None;
+        }
+        number = number * 10 + (*digit - b'0') as usize;
+    }
+    Some(number)
+}
+
+/// What a leader says.
+#[derive(Clone, Copy)]
+pub struct Leader {
+    pub length: usize,
+    pub base: usize,
+    pub length_size: usize,
+    pub position_size: usize,
+}
+
+/// What the leader at a place says, if it is one.
+pub fn read_leader(bytes: &[u8], at: usize, first: bool) -> Option<Leader>
+    requires { at + 24 ≤ length bytes.now }
+    ensures { MatchOption result (IsLeader bytes.now at first → ⊥)
+        (λ l. IsLeader bytes.now at first × AreNumbers bytes.now at l) }
+{
+    let length = decimal(&bytes[at..at + 5])?;
+    let kind = if first { b'L' } else { b'D' };
+    let base = decimal(&bytes[at + 12..at + 12 + 5])?;
+    let length_size = bytes[at + 20];
+    let position_size = bytes[at + 21];
+    if bytes[at + 6] != kind
+        || !(b'1'..=b'9').contains(&length_size)
+        || !(b'1'..=b'9').contains(&position_size)
+        || bytes[at + 23] != b'4'
+        || base < 25
+        || length < base
+    {
+        return None;
+    }
+    Some(Leader {
+        length,
+        base,
+        length_size: (length_size - b'0') as usize,
+        position_size: (position_size - b'0') as usize,
+    })
+}
+
+/// What an entry of the directory says.
+#[derive(Clone, Copy)]
+pub struct Entry {
+    pub place: usize,
+    pub length: usize,
+    pub position: usize,
+}
+
+/// Entry k of the directory, if its numbers are digits.
+pub fn read_entry(bytes: &[u8], at: usize, leader: Leader, k: usize) -> Option<Entry>
+    requires numbers { AreNumbers bytes.now at leader }
+    requires there { at + 24 + k * entry_size_at bytes.now at + entry_size_at bytes.now at ≤ length bytes.now }
+    ensures digits { MatchOption result
+        (AreDigits (length_text bytes.now at k) → AreDigits (position_text bytes.now at k) → ⊥)
+        (λ e. AreDigits (length_text bytes.now at k) × AreDigits (position_text bytes.now at k)) }
+    ensures value { MatchOption result (⊥ → ⊥) (λ e. (e.place ≡ at + 24 + k * entry_size_at bytes.now at)
+        × (e.length ≡ field_length bytes.now at k) × (e.position ≡ field_position bytes.now at k)) }
+    ensures bound { MatchOption result (⊥ → ⊥) (λ e. (e.length < 10 ^ 9) × (e.position < 10 ^ 9)) }
+{
+    let size = 4 + leader.length_size + leader.position_size;
+    let place = at + 24 + k * size;
+    let text = place + 4;
+    let length = decimal(&bytes[text..text + leader.length_size])?;
+    let text = text + leader.length_size;
+    let position = decimal(&bytes[text..text + leader.position_size])?;
+    Some(Entry {
+        place,
+        length,
+        position,
+    })
+}
+
+/// How many entries the directory of a record has, if it is one.
+pub fn read_directory(bytes: &[u8], at: usize, leader: Leader) -> Option<usize>
+    requires numbers { AreNumbers bytes.now at leader }
+    requires fits { at + leader.length ≤ length bytes.now }
+    ensures { MatchOption result (IsDirectory bytes.now at → ⊥)
+        (λ n. IsDirectory bytes.now at × (n ≡ count_at bytes.now at)) }
+{
+    if bytes[at + leader.base - 1] != 0x1e {
+        return None;
+    }
+    let size = 4 + leader.length_size + leader.position_size;
+    let room = leader.base - 25;
+    if room % size != 0 {
+        return None;
+    }
+    let count = room / size;
+    for k in 0..count {
+        let entry = read_entry(bytes, at, leader, k)?;
+        if entry.length == 0 || leader.base + entry.position + entry.length > leader.length {
+            return None;
+        }
+    }
+    Some(count)
+}
+
+/// Entry k of the directory of a record that was read.
+pub fn entry_of(bytes: &[u8], at: usize, leader: Leader, count: usize, k: usize) -> Entry
+    requires read { IsRead bytes.now at leader count }
+    requires below { k < count }
+    ensures place { result.place ≡ entry_place bytes.now at k }
+    ensures length { result.length ≡ field_length bytes.now at k }
+    ensures position { result.position ≡ field_position bytes.now at k }
+    ensures tag_fits { result.place + 4 ≤ length bytes.now }
+    ensures within { at + leader.base + result.position + result.length ≤ length bytes.now }
+{
+    read_entry(bytes, at, leader, k).unwrap()
+}
+
+/// The four bytes at a place.
+pub fn tag_at(bytes: &[u8], place: usize) -> [u8; 4]
+    requires { place + 4 ≤ length bytes.now }
+    ensures { result ≡ bytes_at bytes.now place 4 }
+{
+    [
+        bytes[place],
+        bytes[place + 1],
+        bytes[place + 2],
+        bytes[place + 3],
+    ]
+}

@@ -1,0 +1,165 @@
+use super::*;
+use std::alloc::Global;
+use std::test::Fail;
+
+/// A connected node: a record number, an identifier and one position.
+const NODE: [u8; 67] =
+    *b"00067 D     00046   12040001300VRID903SG2D912\x1e\x03\x00\x1e\x78\x01\x00\x00\x00\x01\x00\x01\x1e\x00\x00\x00\x00\x00\x00\x00\x00\x1e";
+
+/// The same with wide entries.
+const WIDE_NODE: [u8; 88] =
+    *b"00088 D     00067   550400010000300000VRID0000900003SG2D0000900012\x1e\x03\x00\x1e\x78\x01\x00\x00\x00\x01\x00\x01\x1e\x00\x00\x00\x00\x00\x00\x00\x00\x1e";
+
+#[test]
+fn a_node_has_three_fields(rt: HostRuntime) -> Result<(), Fail> {
+    for (bytes, length) in [(NODE.as_slice(), 67), (WIDE_NODE.as_slice(), 88)] {
+        let frame = next_record(bytes, 0, false).ok().ok_or("it is a record")?;
+        assert_eq!(rt; frame.length(), length);
+        assert_eq!(rt; frame.count(), 3);
+        for (k, tag, content) in [
+            (0, *b"0001", b"\x03\x00\x1e".as_slice()),
+            (
+                1,
+                *b"VRID",
+                b"\x78\x01\x00\x00\x00\x01\x00\x01\x1e".as_slice(),
+            ),
+            (
+                2,
+                *b"SG2D",
+                b"\x00\x00\x00\x00\x00\x00\x00\x00\x1e".as_slice(),
+            ),
+        ] {
+            let (found_tag, found) = frame.field(k);
+            assert_eq!(rt; found_tag, tag);
+            assert_eq!(rt; found, content);
+        }
+    }
+    Ok(())
+}
+
+/// Appends a digit behind zeros, so many bytes in all.
+fn push_padded(text: &mut Vec<u8>, digit: u8, width: u8) -> Result<(), Fail> {
+    for _ in 1..width {
+        text.push(b'0')?;
+    }
+    text.push(digit)?;
+    Ok(())
+}
+
+/// A record of one field of three bytes whose directory has entries of these sizes.
+fn record_with_entry_map(
+    alloc: Global,
+    length_size: u8,
+    position_size: u8,
+) -> Result<Vec<u8>, Fail> {
+    let base = 29 + u32::from(length_size) + u32::from(position_size);
+    let text = format!(in alloc;
+        "{:05} D     {base:05}   {length_size}{position_size}040001",
+        base + 3
+    )?;
+    let mut record = Vec::from_slice(alloc, text.as_bytes())?;
+    push_padded(&mut record, b'3', length_size)?;
+    push_padded(&mut record, b'0', position_size)?;
+    record.extend_from_slice(b"\x1e\x07\x00\x1e")?;
+    Ok(record)
+}
+
+#[test]
+fn entry_maps_from_one_to_nine(rt: HostRuntime) -> Result<(), Fail> {
+    for size in 1..10u8 {
+        let record = record_with_entry_map(rt.alloc(), size, 10 - size)?;
+        let frame = next_record(&record, 0, false).ok().ok_or("it is a record")?;
+        assert_eq!(rt; frame.length(), record.len());
+        assert_eq!(rt; frame.count(), 1);
+        let (tag, content) = frame.field(0);
+        assert_eq!(rt; tag, *b"0001");
+        assert_eq!(rt; content, b"\x07\x00\x1e".as_slice());
+    }
+    Ok(())
+}
+
+#[test]
+fn fields_may_overlap_and_leave_gaps(rt: HostRuntime) -> Result<(), Fail> {
+    let record = b"00045 D     00037   1104AAAA31BBBB22\x1eabcdefg\x1e";
+    let frame = next_record(record, 0, false).ok().ok_or("it is a record")?;
+    assert_eq!(rt; frame.count(), 2);
+    assert_eq!(rt; frame.field(0).1, b"bcd".as_slice());
+    assert_eq!(rt; frame.field(1).1, b"cd".as_slice());
+    Ok(())
+}
+
+/// The fault of the record at the start of these bytes.
+fn fault_of(bytes: &[u8], first: bool) -> Option<FrameFault> {
+    next_record(bytes, 0, first).err()
+}
+
+#[test]
+fn the_first_failing_test_gives_the_fault(rt: HostRuntime) {
+    let faults = [
+        (b"".as_slice(), FrameFault::Short),
+        (&NODE[..23], FrameFault::Short),
+        // The identifier of the first record.
+        (
+            b"00067 L     00046   1204".as_slice(),
+            FrameFault::BadLeader,
+        ),
+        // No digits: the length, the base address.
+        (
+            b"0006x D     00046   1204".as_slice(),
+            FrameFault::BadLeader,
+        ),
+        (
+            b"00067 D     0004x   1204".as_slice(),
+            FrameFault::BadLeader,
+        ),
+        // Sizes of an entry: 0 digits, more than 9, a tag that isn't of four bytes.
+        (
+            b"00067 D     00046   0204".as_slice(),
+            FrameFault::BadLeader,
+        ),
+        (
+            b"00067 D     00046   1:04".as_slice(),
+            FrameFault::BadLeader,
+        ),
+        (
+            b"00067 D     00046   1205".as_slice(),
+            FrameFault::BadLeader,
+        ),
+        // A base address inside the leader, and one past the record, of a record that is cut short too.
+        (
+            b"00067 D     00024   1204".as_slice(),
+            FrameFault::BadLeader,
+        ),
+        (
+            b"00045 D     00046   1204".as_slice(),
+            FrameFault::BadLeader,
+        ),
+        (&NODE[..66], FrameFault::Short),
+        // The directory: no terminator, no whole entries, no digit, no byte, past the record.
+        (
+            b"00032 D     00032   11040001107\x1f".as_slice(),
+            FrameFault::BadDirectory,
+        ),
+        (
+            b"00033 D     00033   110400011070\x1e".as_slice(),
+            FrameFault::BadDirectory,
+        ),
+        (
+            b"00033 D     00032   11040001x0\x1e\x1e\x1e".as_slice(),
+            FrameFault::BadDirectory,
+        ),
+        (
+            b"00033 D     00031   1104000100\x1e\x1e\x1e".as_slice(),
+            FrameFault::BadDirectory,
+        ),
+        (
+            b"00033 D     00031   1104000121\x1e\x1e\x1e".as_slice(),
+            FrameFault::BadDirectory,
+        ),
+    ];
+    for (bytes, fault) in faults {
+        assert_eq!(rt; fault_of(bytes, false), Some(fault));
+    }
+    assert_eq!(rt; fault_of(&NODE, false), None);
+    assert_eq!(rt; fault_of(&NODE, true), Some(FrameFault::BadLeader));
+}
