@@ -1,3 +1,4 @@
 pub mod RecordFrame
 pub mod FrameDecision
 pub mod FrameFaults
+pub mod WrittenRecord

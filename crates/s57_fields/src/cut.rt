@@ -1,0 +1,94 @@
+//! The subfield with which bytes begin.
+
+ghost use Rattle.std.specs.Prelude.{◌≡◌, ◌==◌, position};
+ghost use Rattle.std.specs.Option.{option_map};
+ghost use Rattle.s57_types.specs.Subfield.{unsigned, signed, text, fixed, unsigned_of, signed_of, text_of, fixed_of, unit_terminator};
+ghost use Rattle.field_spec.specs.Cutting.{split, front, before_terminator};
+
+use byteorder::{ByteOrder, LittleEndian};
+
+/// The unit terminator, which ends a text.
+pub const UNIT_TERMINATOR: u8 = 0x1f;
+
+/// The field terminator.
+pub const FIELD_TERMINATOR: u8 = 0x1e;
+
+/// So many bytes, and the bytes after them.
+fn take_bytes(bytes: &[u8], n: usize) -> Option<(&[u8], &[u8])>
+    ensures { option_map (λ x. (x.0.now, x.1.now)) result ≡ split n bytes.now }
+{
+    if bytes.len() < n {
+        return None;
+    }
+    Some(bytes.split_at(n))
+}
+
+/// A number of one byte, and the bytes after it.
+pub fn take_u8(bytes: &[u8]) -> Option<(u8, &[u8])>
+    ensures { option_map (λ x. (unsigned_of 1 x.0, x.1.now)) result ≡ front (unsigned 1) bytes.now }
+{
+    let (number, rest) = take_bytes(bytes, 1)?;
+    Some((number[0], rest))
+}
+
+/// A number of two bytes, and the bytes after it.
+pub fn take_u16(bytes: &[u8]) -> Option<(u16, &[u8])>
+    ensures { option_map (λ x. (unsigned_of 2 x.0, x.1.now)) result ≡ front (unsigned 2) bytes.now }
+{
+    let (number, rest) = take_bytes(bytes, 2)?;
+    Some((LittleEndian::read_u16(number), rest))
+}
+
+/// A number of four bytes, and the bytes after it.
+pub fn take_u32(bytes: &[u8]) -> Option<(u32, &[u8])>
+    ensures { option_map (λ x. (unsigned_of 4 x.0, x.1.now)) result ≡ front (unsigned 4) bytes.now }
+{
+    let (number, rest) = take_bytes(bytes, 4)?;
+    Some((LittleEndian::read_u32(number), rest))
+}
+
+/// A signed number of four bytes, and the bytes after it.
+pub fn take_i32(bytes: &[u8]) -> Option<(i32, &[u8])>
+    ensures { option_map (λ x. (signed_of x.0, x.1.now)) result ≡ front signed bytes.now }
+{
+    let (number, rest) = take_bytes(bytes, 4)?;
+    Some((LittleEndian::read_i32(number), rest))
+}
+
+/// Where the first unit terminator stands.
+fn text_end(bytes: &[u8]) -> Option<usize>
+    ensures { result ≡ position (λ byte. byte == unit_terminator) bytes.now }
+{
+    bytes.iter().position(|byte| *byte == UNIT_TERMINATOR)
+}
+
+/// A text before its terminator, and the bytes after that.
+pub fn take_text(bytes: &[u8]) -> Option<(&[u8], &[u8])>
+    ensures { option_map (λ x. (text_of x.0.now, x.1.now)) result ≡ front text bytes.now }
+{
+    let end = text_end(bytes)?;
+    let (text, _) = bytes.split_at(end);
+    let (_, rest) = bytes.split_at(end + 1);
+    Some((text, rest))
+}
+
+/// A text of `N` bytes, and the bytes after it.
+pub fn take_array<const N: usize>(bytes: &[u8]) -> Option<([u8; N], &[u8])>
+    ensures { option_map (λ x. (fixed_of x.0, x.1.now)) result ≡ front (fixed N) bytes.now }
+{
+    let (front, rest) = take_bytes(bytes, N)?;
+    let mut text = [0; N];
+    text.copy_from_slice(front);
+    Some((text, rest))
+}
+
+/// The bytes of a field before its terminator.
+pub fn field_body(bytes: &[u8]) -> Option<&[u8]>
+    ensures { option_map (λ x. x.now) result ≡ before_terminator bytes.now }
+{
+    let (last, body) = bytes.split_last()?;
+    if *last != FIELD_TERMINATOR {
+        return None;
+    }
+    Some(body)
+}

@@ -1,0 +1,4 @@
+pub mod Subfield
+pub mod FieldRows
+pub mod RecordFields
+pub mod Fitness
