@@ -119,17 +119,29 @@ attribute_content level = rows_as (λ row. record { code = number_in row 0; valu
 unfoldable pub partner_content : List ℕ → Result (List Partner) FieldFault
 partner_content = rows_as (λ row. record { to = lnam_in row; rind = number_in row 3; comt = text_in row 4 }) 0 partner_forms any_row
 
+abbrev pub place_value : List Subfield → Spot
+place_value row = record { to = name_in row; ornt = number_in row 2; usag = number_in row 3; mask = number_in row 4 }
+
 unfoldable pub place_content : List ℕ → Result (List Spot) FieldFault
-place_content = rows_as (λ row. record { to = name_in row; ornt = number_in row 2; usag = number_in row 3; mask = number_in row 4 }) 0 place_forms names_a_vector
+place_content = rows_as place_value 0 place_forms names_a_vector
 
 unfoldable pub vrid_content : List ℕ → Result Vrid FieldFault
 vrid_content = row_as (λ row. record { name = name_in row; rver = number_in row 2; ruin = number_in row 3 }) vrid_forms names_a_vector
 
+abbrev pub end_value : List Subfield → End
+end_value row = record { to = name_in row; ornt = number_in row 2; usag = number_in row 3; topi = number_in row 4; mask = number_in row 5 }
+
 unfoldable pub end_content : List ℕ → Result (List End) FieldFault
-end_content = rows_as (λ row. record { to = name_in row; ornt = number_in row 2; usag = number_in row 3; topi = number_in row 4; mask = number_in row 5 }) 0 end_forms names_a_vector
+end_content = rows_as end_value 0 end_forms names_a_vector
+
+abbrev pub plane_value : List Subfield → ℤ × ℤ
+plane_value row = (signed_in row 0, signed_in row 1)
 
 unfoldable pub plane_content : List ℕ → Result (List (ℤ × ℤ)) FieldFault
-plane_content = rows_as (λ row. (signed_in row 0, signed_in row 1)) 0 plane_forms any_row
+plane_content = rows_as plane_value 0 plane_forms any_row
+
+abbrev pub deep_value : List Subfield → ℤ × ℤ × ℤ
+deep_value row = (signed_in row 0, signed_in row 1, signed_in row 2)
 
 unfoldable pub deep_content : List ℕ → Result (List (ℤ × ℤ × ℤ)) FieldFault
-deep_content = rows_as (λ row. (signed_in row 0, signed_in row 1, signed_in row 2)) 0 deep_forms any_row
+deep_content = rows_as deep_value 0 deep_forms any_row

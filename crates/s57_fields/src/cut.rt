@@ -1,6 +1,6 @@
 //! The subfield with which bytes begin.
 
-ghost use Rattle.std.specs.Prelude.{◌≡◌, ◌==◌, position};
+ghost use Rattle.std.specs.Prelude.{◌≡◌, ◌==◌, ◌<◌, position, length, IfSome};
 ghost use Rattle.std.specs.Option.{option_map};
 ghost use Rattle.s57_types.specs.Subfield.{unsigned, signed, text, fixed, unsigned_of, signed_of, text_of, fixed_of, unit_terminator};
 ghost use Rattle.field_spec.specs.Cutting.{split, front, before_terminator};
@@ -25,7 +25,8 @@ fn take_bytes(bytes: &[u8], n: usize) -> Option<(&[u8], &[u8])>
 
 /// A number of one byte, and the bytes after it.
 pub fn take_u8(bytes: &[u8]) -> Option<(u8, &[u8])>
-    ensures { option_map (λ x. (unsigned_of 1 x.0, x.1.now)) result ≡ front (unsigned 1) bytes.now }
+    ensures cut { option_map (λ x. (unsigned_of 1 x.0, x.1.now)) result ≡ front (unsigned 1) bytes.now }
+    ensures shorter { IfSome result (λ x. length x.1.now < length bytes.now) }
 {
     let (number, rest) = take_bytes(bytes, 1)?;
     Some((number[0], rest))
@@ -33,7 +34,8 @@ pub fn take_u8(bytes: &[u8]) -> Option<(u8, &[u8])>
 
 /// A number of two bytes, and the bytes after it.
 pub fn take_u16(bytes: &[u8]) -> Option<(u16, &[u8])>
-    ensures { option_map (λ x. (unsigned_of 2 x.0, x.1.now)) result ≡ front (unsigned 2) bytes.now }
+    ensures cut { option_map (λ x. (unsigned_of 2 x.0, x.1.now)) result ≡ front (unsigned 2) bytes.now }
+    ensures shorter { IfSome result (λ x. length x.1.now < length bytes.now) }
 {
     let (number, rest) = take_bytes(bytes, 2)?;
     Some((LittleEndian::read_u16(number), rest))
@@ -41,7 +43,8 @@ pub fn take_u16(bytes: &[u8]) -> Option<(u16, &[u8])>
 
 /// A number of four bytes, and the bytes after it.
 pub fn take_u32(bytes: &[u8]) -> Option<(u32, &[u8])>
-    ensures { option_map (λ x. (unsigned_of 4 x.0, x.1.now)) result ≡ front (unsigned 4) bytes.now }
+    ensures cut { option_map (λ x. (unsigned_of 4 x.0, x.1.now)) result ≡ front (unsigned 4) bytes.now }
+    ensures shorter { IfSome result (λ x. length x.1.now < length bytes.now) }
 {
     let (number, rest) = take_bytes(bytes, 4)?;
     Some((LittleEndian::read_u32(number), rest))
@@ -49,7 +52,8 @@ pub fn take_u32(bytes: &[u8]) -> Option<(u32, &[u8])>
 
 /// A signed number of four bytes, and the bytes after it.
 pub fn take_i32(bytes: &[u8]) -> Option<(i32, &[u8])>
-    ensures { option_map (λ x. (signed_of x.0, x.1.now)) result ≡ front signed bytes.now }
+    ensures cut { option_map (λ x. (signed_of x.0, x.1.now)) result ≡ front signed bytes.now }
+    ensures shorter { IfSome result (λ x. length x.1.now < length bytes.now) }
 {
     let (number, rest) = take_bytes(bytes, 4)?;
     Some((LittleEndian::read_i32(number), rest))
@@ -64,7 +68,8 @@ fn text_end(bytes: &[u8]) -> Option<usize>
 
 /// A text before its terminator, and the bytes after that.
 pub fn take_text(bytes: &[u8]) -> Option<(&[u8], &[u8])>
-    ensures { option_map (λ x. (text_of x.0.now, x.1.now)) result ≡ front text bytes.now }
+    ensures cut { option_map (λ x. (text_of x.0.now, x.1.now)) result ≡ front text bytes.now }
+    ensures shorter { IfSome result (λ x. length x.1.now < length bytes.now) }
 {
     let end = text_end(bytes)?;
     let (text, _) = bytes.split_at(end);

@@ -4,10 +4,11 @@
 mod cut;
 mod head;
 mod refusal;
+mod rows;
 mod text;
 mod vector;
 
 pub use head::{read_dsid, read_dspm, read_dssi};
 pub use refusal::FieldRefusal;
 pub use s57_types::{Dsid, Dspm, Dssi, Frid, Vrid};
-pub use vector::read_vrid;
+pub use vector::{read_sg2d, read_vrid, read_vrpt};
