@@ -1,0 +1,3 @@
+pub mod Ascending
+pub mod Lookup
+pub mod Names
