@@ -12,7 +12,7 @@ use Rattle.cell_spec.specs.declared.key.Key.{Key}
 use Rattle.cell_spec.specs.declared.key.Key.TheVariants.{Name, Refs, Foid}
 use Rattle.cell_spec.specs.Ascending.{ascending}
 use Rattle.cell_spec.specs.Lookup.{all_records, name_of, targets_of, identities_of, lookup_record}
-use Rattle.cell_spec.specs.Names.{same_name, is_of_kind, key_parts}
+use Rattle.cell_spec.specs.Names.{same_name, is_of_kind, key_order}
 
 -- the records of one kind, in file order
 abbrev pub list_of_kind : Kind → Cell → List Rec
@@ -78,4 +78,4 @@ keys_of_edit c edit = Name (name_of_edit edit) ∷ flat_map keys_answered_by (op
 
 -- the keys whose answers edits can change, ascending, each once
 unfoldable pub touched_keys : List Edit → Cell → List Key
-touched_keys edits c = ascending key_parts (flat_map (keys_of_edit c) edits)
+touched_keys edits c = ascending key_order (flat_map (keys_of_edit c) edits)

@@ -10,7 +10,7 @@ use Rattle.s57_types.specs.declared.record.Rec.TheVariants.{V, F}
 use Rattle.s57_types.specs.declared.cell.Cell.{Cell}
 use Rattle.cell_spec.specs.declared.key.Ref.{Ref}
 use Rattle.cell_spec.specs.Ascending.{ascending}
-use Rattle.cell_spec.specs.Names.{same_name, same_identity, ref_parts, name_parts}
+use Rattle.cell_spec.specs.Names.{same_name, same_identity, ref_order, name_order}
 
 -- all records of a cell: isolated nodes, connected nodes, edges, features
 abbrev pub all_records : Cell → List Rec
@@ -47,8 +47,8 @@ pointers_in n r = map (λ (p : ℕ × RecName). record { from = name_of r; place
 
 -- the pointers to a name, ascending by the record that has them and by place
 abbrev pub lookup_pointers : Cell → RecName → List Ref
-lookup_pointers c n = ascending ref_parts (flat_map (pointers_in n) (all_records c))
+lookup_pointers c n = ascending ref_order (flat_map (pointers_in n) (all_records c))
 
 -- the features that bear an identifier, ascending
 abbrev pub lookup_identity : Cell → Lnam → List RecName
-lookup_identity c l = ascending name_parts (map name_of (filter (bears l) (all_records c)))
+lookup_identity c l = ascending name_order (map name_of (filter (bears l) (all_records c)))

@@ -1,5 +1,6 @@
 -- Names of records and of feature objects, keys and subjects, and their order.
 use Rattle.std.specs.Prelude.{ℕ, ◌==◌, ◌&&◌, Bool, List, [], ◌∷◌, ◌++◌}
+use Rattle.std.specs.declared.cmp.Ordering.{Ordering}
 use Rattle.s57_types.specs.declared.name.Kind.{Kind}
 use Rattle.s57_types.specs.declared.name.Kind.TheVariants.{Vi, Vc, Ve, Fe}
 use Rattle.s57_types.specs.declared.name.RecName.{RecName}
@@ -9,6 +10,7 @@ use Rattle.cell_spec.specs.declared.key.Key.TheVariants.{Name, Refs, Foid}
 use Rattle.cell_spec.specs.declared.key.Ref.{Ref}
 use Rattle.cell_spec.specs.declared.key.Subject.{Subject}
 use Rattle.cell_spec.specs.declared.key.Subject.TheVariants.{Rec, Side, Pair, Ident}
+use Rattle.cell_spec.specs.Ascending.{order_by}
 
 -- the place of a kind in the order of kinds
 abbrev pub kind_rank : Kind → ℕ
@@ -41,6 +43,18 @@ subject_parts (Rec n) = 0 ∷ name_parts n
 subject_parts (Side n) = 1 ∷ name_parts n
 subject_parts (Pair a b) = 2 ∷ (name_parts a ++ name_parts b)
 subject_parts (Ident l) = 3 ∷ identity_parts l
+
+abbrev pub name_order : RecName → RecName → Ordering
+name_order = order_by name_parts
+
+abbrev pub ref_order : Ref → Ref → Ordering
+ref_order = order_by ref_parts
+
+abbrev pub key_order : Key → Key → Ordering
+key_order = order_by key_parts
+
+abbrev pub subject_order : Subject → Subject → Ordering
+subject_order = order_by subject_parts
 
 -- whether two names are one
 abbrev pub same_name : RecName → RecName → Bool

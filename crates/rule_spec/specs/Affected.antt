@@ -10,19 +10,18 @@ use Rattle.cell_spec.specs.declared.key.Key.{Key}
 use Rattle.cell_spec.specs.declared.key.Key.TheVariants.{Name, Refs, Foid}
 use Rattle.cell_spec.specs.declared.key.Subject.{Subject}
 use Rattle.cell_spec.specs.declared.key.Subject.TheVariants.{Rec, Side, Pair, Ident}
-use Rattle.cell_spec.specs.Ascending.{order_by}
 use Rattle.cell_spec.specs.Edits.{apply_edits, is_applicable, touched_keys}
-use Rattle.cell_spec.specs.Names.{key_parts, subject_parts, same_name}
+use Rattle.cell_spec.specs.Names.{key_order, subject_order}
 use Rattle.rule_spec.specs.Candidates.{are_candidates, candidates_of}
 use Rattle.rule_spec.specs.Findings.{is_subject, subjects, is_below, findings_of_subject}
 use Rattle.rule_spec.specs.Reads.{read_set}
 use Rattle.rule_spec.specs.Records.{is_edge_name}
 
 abbrev pub same_key : Key → Key → Bool
-same_key a b = is_eq (order_by key_parts a b)
+same_key a b = is_eq (key_order a b)
 
 abbrev pub same_subject : Subject → Subject → Bool
-same_subject a b = is_eq (order_by subject_parts a b)
+same_subject a b = is_eq (subject_order a b)
 
 -- whether a subject's read set holds a key
 abbrev pub reads_key : Cell → Key → Subject → Bool

@@ -8,16 +8,12 @@ use Rattle.s57_types.specs.declared.record.Spot.{Spot}
 use Rattle.s57_types.specs.declared.cell.Cell.{Cell}
 use Rattle.geometry_spec.specs.Points.{Point}
 use Rattle.geometry_spec.specs.Areas.{signed_double_area}
-use Rattle.rule_spec.specs.EdgePoints.{EdgeLine, edge_line_of}
+use Rattle.rule_spec.specs.declared.line.BoundaryRow.{BoundaryRow}
+use Rattle.rule_spec.specs.declared.line.EdgeLine.{EdgeLine}
+use Rattle.rule_spec.specs.EdgePoints.{edge_line_of}
 use Rattle.rule_spec.specs.Features.{prim_refs, dangling_ref, bad_codes, target}
 use Rattle.rule_spec.specs.Loops.{Arc, loop_lengths, first_open_place, blocks_of}
 use Rattle.rule_spec.specs.Rule.{Found, found_if, found_at}
-
--- a row of the boundary: the place of the spatial pointer, its usage (USAG), and the edge's line in the pointer's direction
-pub record BoundaryRow : Type 0 where
-  pub place : ℕ
-  pub usag : ℕ
-  pub line : EdgeLine
 
 abbrev pub reversed_line : EdgeLine → EdgeLine
 reversed_line line = record { begins = line.ends; ends = line.begins; points = reverse line.points }

@@ -6,7 +6,7 @@ use Rattle.s57_types.specs.declared.name.RecName.{RecName}
 use Rattle.s57_types.specs.declared.cell.Cell.{Cell}
 use Rattle.cell_spec.specs.Ascending.{ascending}
 use Rattle.cell_spec.specs.Lookup.{all_records, name_of}
-use Rattle.cell_spec.specs.Names.{name_parts, same_name}
+use Rattle.cell_spec.specs.Names.{name_order, same_name}
 use Rattle.geometry_spec.specs.declared.tile.TileRange.{TileRange}
 use Rattle.geometry_spec.specs.Boxes.{box_of}
 use Rattle.geometry_spec.specs.Points.{Point}
@@ -41,4 +41,4 @@ are_candidates c a b = not (same_name a b) && may_touch (segments_named c a) (se
 
 -- the candidates for a name, ascending
 unfoldable pub candidates_of : Cell → RecName → List RecName
-candidates_of c n = ascending name_parts (filter (are_candidates c n) (map name_of (all_records c)))
+candidates_of c n = ascending name_order (filter (are_candidates c n) (map name_of (all_records c)))

@@ -11,7 +11,8 @@ use Rattle.geometry_spec.specs.declared.segment.MeetCase.{MeetCase}
 use Rattle.geometry_spec.specs.declared.segment.MeetCase.TheVariants.{Apart, At, Along}
 use Rattle.geometry_spec.specs.Points.{Point}
 use Rattle.geometry_spec.specs.Signs.{lies_on}
-use Rattle.rule_spec.specs.EdgePoints.{EdgeLine, Segment, same_point, segments_of, edge_line_of, node_position}
+use Rattle.rule_spec.specs.declared.line.EdgeLine.{EdgeLine}
+use Rattle.rule_spec.specs.EdgePoints.{Segment, same_point, segments_of, edge_line_of, node_position}
 use Rattle.rule_spec.specs.Records.{edge_named}
 use Rattle.rule_spec.specs.Rule.{Found, found_if, found_at}
 use Rattle.rule_spec.specs.Vectors.{Numbered, each_with_each, meeting_of_segments}

@@ -6,6 +6,7 @@ use Rattle.s57_types.specs.declared.record.End.{End}
 use Rattle.s57_types.specs.declared.record.Vector.{Vector}
 use Rattle.s57_types.specs.declared.cell.Cell.{Cell}
 use Rattle.geometry_spec.specs.Points.{Point}
+use Rattle.rule_spec.specs.declared.line.EdgeLine.{EdgeLine}
 use Rattle.rule_spec.specs.Records.{node_named, edge_named, the_only}
 
 -- from a point to a point
@@ -26,12 +27,6 @@ node_at topi e = option_map (λ (end : End). end.to) (the_only (filter (λ (end 
 -- the position of a connected node that has exactly one
 abbrev pub node_position : Cell → RecName → Option Point
 node_position c n = option_and_then (λ node. the_only node.plane) (node_named c n)
-
--- an edge as a line: its beginning node, its end node, and all points from the one to the other
-pub record EdgeLine : Type 0 where
-  pub begins : RecName
-  pub ends : RecName
-  pub points : List Point
 
 -- the line from one node to another, if each is a connected node with one position
 abbrev pub line_between : Cell → Vector → Option RecName → Option RecName → Option EdgeLine

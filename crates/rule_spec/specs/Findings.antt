@@ -7,15 +7,15 @@ use Rattle.s57_types.specs.declared.cell.Cell.{Cell}
 use Rattle.cell_spec.specs.declared.finding.Finding.{Finding}
 use Rattle.cell_spec.specs.declared.key.Subject.{Subject}
 use Rattle.cell_spec.specs.declared.key.Subject.TheVariants.{Rec, Side, Pair, Ident}
-use Rattle.cell_spec.specs.Ascending.{ascending, order_by}
+use Rattle.cell_spec.specs.Ascending.{ascending}
 use Rattle.cell_spec.specs.Lookup.{all_records, name_of, identities_of, lookup_record, lookup_identity}
-use Rattle.cell_spec.specs.Names.{name_parts, subject_parts}
+use Rattle.cell_spec.specs.Names.{name_order, subject_order}
 use Rattle.rule_spec.specs.Records.{edge_named, is_chain_part}
 use Rattle.rule_spec.specs.Rule.{Rule}
 use Rattle.rule_spec.specs.Rules.{rules}
 
 abbrev pub is_below : RecName → RecName → Bool
-is_below a b = is_lt (order_by name_parts a b)
+is_below a b = is_lt (name_order a b)
 
 -- whether a cell has a subject: each record, the side of each edge, each two connected nodes or edges with the lesser name first, and
 -- each identifier that a feature bears
@@ -33,7 +33,7 @@ record_names c = map name_of (all_records c)
 unfoldable pub subjects : Cell → List Subject
 subjects c =
     let names = record_names c in
-    ascending subject_parts (filter (is_subject c) (map Rec names ++ map Side names ++ flat_map (λ a. map (Pair a) names) names ++ map Ident (flat_map identities_of (all_records c))))
+    ascending subject_order (filter (is_subject c) (map Rec names ++ map Side names ++ flat_map (λ a. map (Pair a) names) names ++ map Ident (flat_map identities_of (all_records c))))
 
 -- a finding of a kind; numbers that it doesn't use are 0
 abbrev pub finding : ℕ → List ℕ → Finding

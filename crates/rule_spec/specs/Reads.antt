@@ -15,7 +15,7 @@ use Rattle.cell_spec.specs.declared.key.Subject.{Subject}
 use Rattle.cell_spec.specs.declared.key.Subject.TheVariants.{Rec, Side, Pair, Ident}
 use Rattle.cell_spec.specs.Ascending.{ascending}
 use Rattle.cell_spec.specs.Lookup.{lookup_pointers}
-use Rattle.cell_spec.specs.Names.{key_parts}
+use Rattle.cell_spec.specs.Names.{key_order}
 use Rattle.rule_spec.specs.Records.{edge_named, feature_named}
 
 -- the records that an edge's ends name
@@ -45,4 +45,4 @@ keys_read c (Ident l) = Foid l ∷ []
 
 -- the read set, ascending, each key once
 unfoldable pub read_set : Cell → Subject → List Key
-read_set c s = ascending key_parts (keys_read c s)
+read_set c s = ascending key_order (keys_read c s)

@@ -11,40 +11,34 @@ use Rattle.cell_spec.specs.declared.key.Ref.{Ref}
 use Rattle.cell_spec.specs.declared.key.Subject.{Subject}
 use Rattle.cell_spec.specs.declared.key.Subject.TheVariants.{Rec, Side, Pair, Ident}
 use Rattle.cell_spec.specs.Lookup.{lookup_pointers, lookup_identity}
+use Rattle.rule_spec.specs.declared.side.EdgeSideCounts.{EdgeSideCounts}
+use Rattle.rule_spec.specs.declared.side.EdgeUse.{EdgeUse}
 use Rattle.rule_spec.specs.Features.{is_group1_area, is_coverage_area}
 use Rattle.rule_spec.specs.Records.{feature_named}
 use Rattle.rule_spec.specs.Rule.{Rule, Found, found_if}
 
--- a use of an edge by a feature: the pointer, the feature, and the row of the feature's spatial pointers (FSPT)
-pub record EdgeUse : Type 0 where
-  pub pointer : Ref
-  pub feature : Feature
-  pub row : Spot
+-- the use that a row of a feature's spatial pointers (FSPT) makes of an edge
+abbrev pub use_of_row : Ref → Feature → Spot → EdgeUse
+use_of_row pointer f row = record { pointer = pointer; is_area = f.prim == 3; is_group1 = is_group1_area f; is_coverage = is_coverage_area f; ornt = row.ornt; usag = row.usag }
 
 -- the use that a pointer to an edge is, if a feature has it
 abbrev pub use_by : Cell → Ref → Option EdgeUse
-use_by c r = option_and_then (λ (f : Feature). option_map (λ row. record { pointer = r; feature = f; row = row }) (slice_get f.places (r.place - 1))) (feature_named c r.from)
+use_by c r = option_and_then (λ (f : Feature). option_map (use_of_row r f) (slice_get f.places (r.place - 1))) (feature_named c r.from)
 
 -- the uses of an edge by features, ascending by feature and place
 unfoldable pub uses_of : Cell → RecName → List EdgeUse
 uses_of c n = filter_map (use_by c) (lookup_pointers c n)
 
--- how many uses go along the edge with an orientation (ORNT: 1 forward, 2 reverse) in the boundary of such an area
-abbrev pub side_count : (Feature → Bool) → ℕ → List EdgeUse → ℕ
-side_count is_such_area ornt uses = count_by (λ (u : EdgeUse). is_such_area u.feature && (u.row.ornt == ornt)) uses
+-- how many uses of such an area go along the edge with an orientation (ORNT): 1 forward, 2 in reverse
+abbrev pub side_count : (EdgeUse → Bool) → ℕ → List EdgeUse → ℕ
+side_count is_such_area ornt uses = count_by (λ (u : EdgeUse). is_such_area u && (u.ornt == ornt)) uses
 
--- how often Group 1 areas and coverage areas use an edge, forward and in reverse: an area lies to the right of its clockwise boundary, so these
--- count the areas at the right and at the left side
-pub record EdgeSideCounts : Type 0 where
-  pub group1_forward : ℕ
-  pub group1_reverse : ℕ
-  pub coverage_forward : ℕ
-  pub coverage_reverse : ℕ
-
+-- how often Group 1 areas and coverage areas use an edge forward and in reverse. An area lies to the right of its clockwise boundary, so these
+-- count the areas at the right and at the left side.
 abbrev pub side_counts : List EdgeUse → EdgeSideCounts
 side_counts uses = record {
-  group1_forward = side_count is_group1_area 1 uses; group1_reverse = side_count is_group1_area 2 uses;
-  coverage_forward = side_count is_coverage_area 1 uses; coverage_reverse = side_count is_coverage_area 2 uses }
+  group1_forward = side_count (λ u. u.is_group1) 1 uses; group1_reverse = side_count (λ u. u.is_group1) 2 uses;
+  coverage_forward = side_count (λ u. u.is_coverage) 1 uses; coverage_reverse = side_count (λ u. u.is_coverage) 2 uses }
 
 -- the four counts as the numbers of a finding
 abbrev pub numbers_of : EdgeSideCounts → List ℕ
@@ -71,7 +65,7 @@ side_unbalanced c e = let n = side_counts (uses_of c e) in found_if (not (is_bal
 
 -- an area's boundary is said to be cut off there by the data limit (USAG 3)
 abbrev pub is_truncated : EdgeUse → Bool
-is_truncated u = (u.feature.prim == 3) && (u.row.usag == 3)
+is_truncated u = u.is_area && (u.usag == 3)
 
 -- the numbers of a use: its feature's and the place
 abbrev pub found_use : Option EdgeUse → Found

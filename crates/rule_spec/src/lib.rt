@@ -2,5 +2,9 @@
 #![tactic(auto)]
 
 mod kind;
+mod line;
+mod side;
 
 pub use kind::{kind_name, number_count};
+pub use line::{BoundaryRow, EdgeLine};
+pub use side::{EdgeSideCounts, EdgeUse};
