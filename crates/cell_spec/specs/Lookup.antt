@@ -41,9 +41,13 @@ bears l (F f) = same_identity l f.foid
 abbrev pub lookup_record : Cell → RecName → Option Rec
 lookup_record c n = find (is_named n) (all_records c)
 
+-- the places, counted from a number on, at which a record points to a name among some of its targets
+abbrev pub pointers_at : RecName → Rec → ℕ → List RecName → List Ref
+pointers_at n r first targets = map (λ (p : ℕ × RecName). record { from = name_of r; place = p.0 }) (filter (λ (p : ℕ × RecName). same_name n p.1) (enumerate_from first targets))
+
 -- the places, from 1, at which a record points to a name
 abbrev pub pointers_in : RecName → Rec → List Ref
-pointers_in n r = map (λ (p : ℕ × RecName). record { from = name_of r; place = p.0 }) (filter (λ (p : ℕ × RecName). same_name n p.1) (enumerate_from 1 (targets_of r)))
+pointers_in n r = pointers_at n r 1 (targets_of r)
 
 -- the pointers to a name, ascending by the record that has them and by place
 abbrev pub lookup_pointers : Cell → RecName → List Ref

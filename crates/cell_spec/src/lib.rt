@@ -4,7 +4,9 @@
 mod edit;
 mod finding;
 mod key;
+mod law;
 
 pub use edit::Edit;
 pub use finding::{Finding, Findings, Row, Rows};
 pub use key::{Key, Keys, Names, Ref, Refs, Subject, Subjects};
+pub use law::orders_are_by_parts;
