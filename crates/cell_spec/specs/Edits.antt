@@ -1,0 +1,81 @@
+-- Record edits: which of them a cell takes, what they make of it, and the keys whose answers they can change. This project's own rules.
+use Rattle.std.specs.Prelude.{ℕ, ◌==◌, ◌&&◌, Bool, true, not, List, [], ◌∷◌, ◌++◌, Option, None, Some, length, map, filter, find, filter_map, flat_map, option_to_list, is_some, nat_le}
+use Rattle.std.specs.List.{list_all}
+use Rattle.s57_types.specs.declared.name.Kind.{Kind}
+use Rattle.s57_types.specs.declared.name.Kind.TheVariants.{Vi, Vc, Ve, Fe}
+use Rattle.s57_types.specs.declared.name.RecName.{RecName}
+use Rattle.s57_types.specs.declared.record.Rec.{Rec}
+use Rattle.s57_types.specs.declared.cell.Cell.{Cell}
+use Rattle.cell_spec.specs.declared.edit.Edit.{Edit}
+use Rattle.cell_spec.specs.declared.edit.Edit.TheVariants.{Add, Set, Del}
+use Rattle.cell_spec.specs.declared.key.Key.{Key}
+use Rattle.cell_spec.specs.declared.key.Key.TheVariants.{Name, Refs, Foid}
+use Rattle.cell_spec.specs.Ascending.{ascending}
+use Rattle.cell_spec.specs.Lookup.{all_records, name_of, targets_of, identities_of, lookup_record}
+use Rattle.cell_spec.specs.Names.{same_name, is_of_kind, key_order}
+
+-- the records of one kind, in file order
+abbrev pub list_of_kind : Kind → Cell → List Rec
+list_of_kind Vi c = c.vi
+list_of_kind Vc c = c.vc
+list_of_kind Ve c = c.ve
+list_of_kind Fe c = c.fe
+
+-- the name that an edit is about
+abbrev pub name_of_edit : Edit → RecName
+name_of_edit (Add r) = name_of r
+name_of_edit (Set r) = name_of r
+name_of_edit (Del n) = n
+
+-- the record that an edit adds
+abbrev pub added_by : Edit → Option Rec
+added_by (Add r) = Some r
+added_by (Set r) = None
+added_by (Del n) = None
+
+-- the record that an edit leaves under its name
+abbrev pub left_by : Edit → Option Rec
+left_by (Add r) = Some r
+left_by (Set r) = Some r
+left_by (Del n) = None
+
+-- what the edit of its name, if there is one, makes of a record of the cell
+abbrev pub changed_by : Rec → Option Edit → Option Rec
+changed_by r None = Some r
+changed_by r (Some (Add s)) = Some r
+changed_by r (Some (Set s)) = Some s
+changed_by r (Some (Del n)) = None
+
+abbrev pub edited_record : List Edit → Rec → Option Rec
+edited_record edits r = changed_by r (find (λ edit. same_name (name_of_edit edit) (name_of r)) edits)
+
+-- a list of the edited cell: a replaced record keeps its place, the list closes up where a record is deleted, and the additions of its
+-- kind go last, in the order of the edits
+abbrev pub edited_list : List Edit → Kind → Cell → List Rec
+edited_list edits kind c = filter_map (edited_record edits) (list_of_kind kind c) ++ filter (λ r. is_of_kind kind (name_of r)) (filter_map added_by edits)
+
+-- a cell after edits
+unfoldable pub apply_edits : List Edit → Cell → Cell
+apply_edits edits c = record { head = c.head; vi = edited_list edits Vi c; vc = edited_list edits Vc c; ve = edited_list edits Ve c; fe = edited_list edits Fe c }
+
+-- an addition has a new name, and a replacement or a deletion the name of a record of the cell
+abbrev pub has_its_record : Cell → Edit → Bool
+has_its_record c (Add r) = not (is_some (lookup_record c (name_of r)))
+has_its_record c (Set r) = is_some (lookup_record c (name_of r))
+has_its_record c (Del n) = is_some (lookup_record c n)
+
+-- a cell takes edits that each find what they need and leave at most 262,144 records
+abbrev pub is_applicable : List Edit → Cell → Bool
+is_applicable edits c = list_all (has_its_record c) edits && nat_le (length (all_records (apply_edits edits c))) 262144
+
+-- the keys, beside its name, that a record is an answer to
+abbrev pub keys_answered_by : Rec → List Key
+keys_answered_by r = map Refs (targets_of r) ++ map Foid (identities_of r)
+
+-- the keys that an edit can change: the name, and what the record answers before and after
+abbrev pub keys_of_edit : Cell → Edit → List Key
+keys_of_edit c edit = Name (name_of_edit edit) ∷ flat_map keys_answered_by (option_to_list (lookup_record c (name_of_edit edit)) ++ option_to_list (left_by edit))
+
+-- the keys whose answers edits can change, ascending, each once
+unfoldable pub touched_keys : List Edit → Cell → List Key
+touched_keys edits c = ascending key_order (flat_map (keys_of_edit c) edits)

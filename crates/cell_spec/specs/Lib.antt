@@ -1,0 +1,4 @@
+pub mod Ascending
+pub mod Edits
+pub mod Lookup
+pub mod Names

@@ -1,0 +1,12 @@
+//! What a chart cell answers to a key and what edits make of it, with the data that rules and edits speak of.
+#![tactic(auto)]
+
+mod edit;
+mod finding;
+mod key;
+mod law;
+
+pub use edit::Edit;
+pub use finding::{Finding, Findings, Row, Rows};
+pub use key::{Key, Keys, Names, Ref, Refs, Subject, Subjects};
+pub use law::orders_are_by_parts;

@@ -1,0 +1,3 @@
+pub mod Expected
+pub mod Parts
+pub mod Samples

@@ -1,0 +1,6 @@
+//! The rules of a chart cell evaluated plainly and slowly: lists, no index, every pair. The yardstick of every faster body.
+#![tactic(auto)]
+
+mod lookup;
+mod order;
+mod record;

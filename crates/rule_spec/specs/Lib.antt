@@ -1,0 +1,16 @@
+pub mod Affected
+pub mod Boundary
+pub mod Candidates
+pub mod Contacts
+pub mod EdgeEnds
+pub mod EdgePoints
+pub mod Features
+pub mod Findings
+pub mod Kinds
+pub mod Loops
+pub mod Reads
+pub mod Records
+pub mod Rule
+pub mod Rules
+pub mod Sides
+pub mod Vectors
