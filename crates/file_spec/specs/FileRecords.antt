@@ -1,0 +1,25 @@
+-- The records of a file, one after the other (ISO/IEC 8211: a data descriptive record, then data records).
+use Rattle.std.specs.Prelude.{ℕ, zero, suc, ◌+◌, Bool, true, false, List, [], ◌∷◌, length, nat_le, Result, Ok, Err, if◌then◌else◌}
+use Rattle.frame_spec.specs.RecordFrame.{FrameView}
+use Rattle.frame_spec.specs.FrameDecision.{frame_at}
+use Rattle.frame_spec.specs.declared.fault.FrameFault.{FrameFault}
+
+-- where a record begins, and its frame or the frame's fault
+pub record FileRecord : Type 0 where
+  pub offset : ℕ
+  pub found : Result FrameView FrameFault
+
+-- behind a record come the others, behind a fault none
+abbrev pub record_then : (FrameView → List FileRecord) → ℕ → Result FrameView FrameFault → List FileRecord
+record_then others offset (Ok frame) = record { offset = offset; found = Ok frame } ∷ others frame
+record_then others offset (Err fault) = record { offset = offset; found = Err fault } ∷ []
+
+-- the records from a place on, of which the first may be the data descriptive record, and at most so many
+unfoldable pub records_from : ℕ → List ℕ → ℕ → Bool → List FileRecord
+records_from zero b place first = []
+records_from (suc n) b place first =
+    if nat_le (length b) place then [] else record_then (λ frame. records_from n b (place + frame.length) false) place (frame_at b place first)
+
+-- the records of a file up to its end or to the first place where none stands; each has at least one byte
+abbrev pub file_records : List ℕ → List FileRecord
+file_records b = records_from (length b) b 0 true

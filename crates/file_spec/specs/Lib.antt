@@ -1,0 +1,2 @@
+pub mod FileRecords
+pub mod MinimalFile

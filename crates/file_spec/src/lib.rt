@@ -1,0 +1,2 @@
+//! What the bytes of a cell file stand for.
+#![tactic(auto)]
