@@ -1,5 +1,5 @@
 -- The records of a file, one after the other (ISO/IEC 8211: a data descriptive record, then data records).
-use Rattle.std.specs.Prelude.{ℕ, zero, suc, ◌+◌, Bool, true, false, List, [], ◌∷◌, length, nat_le, Result, Ok, Err, if◌then◌else◌}
+use Rattle.std.specs.Prelude.{ℕ, zero, suc, ◌+◌, ◌-◌, Bool, true, false, List, [], ◌∷◌, length, nat_le, Option, Some, None, Result, Ok, Err, if◌then◌else◌}
 use Rattle.frame_spec.specs.RecordFrame.{FrameView}
 use Rattle.frame_spec.specs.FrameDecision.{frame_at}
 use Rattle.frame_spec.specs.declared.fault.FrameFault.{FrameFault}
@@ -20,6 +20,19 @@ records_from zero b place first = []
 records_from (suc n) b place first =
     if nat_le (length b) place then [] else record_then (λ frame. records_from n b (place + frame.length) false) place (frame_at b place first)
 
--- the records of a file up to its end or to the first place where none stands; each has at least one byte
+-- the same up to the end of the file; each record has at least one byte
+unfoldable pub records_after : List ℕ → ℕ → Bool → List FileRecord
+records_after b place first = records_from (length b - place) b place first
+
+-- the records of a file up to its end or to the first place where none stands
 abbrev pub file_records : List ℕ → List FileRecord
-file_records b = records_from (length b) b 0 true
+file_records b = records_after b 0 true
+
+-- the first of some records, if it is one, and the others
+abbrev pub first_frame : List FileRecord → Option (FrameView × List FileRecord)
+first_frame [] = None
+first_frame (r ∷ records) = frame_and r.found records
+  where
+    frame_and : Result FrameView FrameFault → List FileRecord → Option (FrameView × List FileRecord)
+    frame_and (Ok frame) records = Some (frame, records)
+    frame_and (Err fault) records = None

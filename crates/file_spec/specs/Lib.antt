@@ -1,2 +1,3 @@
 pub mod FileRecords
+pub mod CellRecords
 pub mod MinimalFile

@@ -13,7 +13,8 @@ use Rattle.field_spec.specs.Contents.{dsid_content, dssi_content, dspm_content, 
 use Rattle.field_spec.specs.declared.fault.FieldFault.{FieldFault}
 use Rattle.cell_spec.specs.Names.{same_name}
 use Rattle.cell_spec.specs.Lookup.{all_records, is_named}
-use Rattle.file_spec.specs.FileRecords.{FileRecord, file_records}
+use Rattle.file_spec.specs.CellRecords.{with_record, empty_cell, record_limit}
+use Rattle.file_spec.specs.FileRecords.{FileRecord, file_records, first_frame}
 use Rattle.s57_types.specs.declared.name.Kind.{Kind}
 use Rattle.s57_types.specs.declared.name.Kind.TheVariants.{Vi, Vc, Ve, Fe}
 use Rattle.s57_types.specs.declared.record.End.{End}
@@ -26,10 +27,6 @@ use Rattle.s57_types.specs.declared.field.Dsid.{Dsid}
 use Rattle.s57_types.specs.declared.field.Dssi.{Dssi}
 use Rattle.s57_types.specs.declared.field.Dspm.{Dspm}
 use Rattle.s57_types.specs.declared.field.Vrid.{Vrid}
-
--- how many records a cell may have
-abbrev pub record_limit : ℕ
-record_limit = 262144
 
 abbrev pub has_tag : List ℕ → Field → Bool
 has_tag tag field = pointwise nat_eq field.tag tag
@@ -82,42 +79,25 @@ vector_of (number ∷ vrid ∷ fields) =
     then option_and_then (λ d. if is_minimal_identifier d then vector_with d fields else None) (result_ok (vrid_content vrid.bytes)) else None
 vector_of other = None
 
--- a record goes last in the list of its kind
-abbrev pub with_vector : Vector → Cell → Cell
-with_vector v c = of_kind v.name.kind
-  where
-    of_kind : Kind → Cell
-    of_kind Vi = record c { vi = c.vi ++ (V v ∷ []) }
-    of_kind Vc = record c { vc = c.vc ++ (V v ∷ []) }
-    of_kind Ve = record c { ve = c.ve ++ (V v ∷ []) }
-    of_kind Fe = c
-
 -- no earlier record has the name, and there is room for one more
 abbrev pub may_follow : Cell → Vector → Bool
 may_follow c v = not (list_any (is_named v.name) (all_records c)) && nat_lt (length (all_records c)) record_limit
 
 -- a cell with the records that follow, if each is a minimal vector record that may follow
-abbrev pub with_found : (FrameView → Option Cell) → Result FrameView FrameFault → Option Cell
-with_found next (Ok frame) = next frame
-with_found next (Err fault) = None
-
 unfoldable pub with_records : Cell → List FileRecord → Option Cell
 with_records c [] = Some c
-with_records c (r ∷ records) = with_found (λ frame. option_and_then (λ v. if may_follow c v then with_records (with_vector v c) records else None) (vector_of frame.fields)) r.found
-
-abbrev pub empty_cell : Head → Cell
-empty_cell head = record { head = head; vi = []; vc = []; ve = []; fe = [] }
-
-abbrev pub found_frame : FileRecord → Option FrameView
-found_frame r = result_ok r.found
+with_records c (r ∷ records) = with_found (λ frame. option_and_then (λ v. if may_follow c v then with_records (with_record (V v) c) records else None) (vector_of frame.fields)) r.found
+  where
+    with_found : (FrameView → Option Cell) → Result FrameView FrameFault → Option Cell
+    with_found next (Ok frame) = next frame
+    with_found next (Err fault) = None
 
 -- the cell of a minimal file: the data descriptive record, whose fields aren't looked at, the head records and the others
 unfoldable pub minimal_cell_of : List FileRecord → Option Cell
-minimal_cell_of (ddr ∷ first ∷ second ∷ records) =
-    option_and_then (λ d. option_and_then (λ f. option_and_then (λ s.
-    option_and_then (λ i. option_and_then (λ p. option_and_then (λ head. with_records (empty_cell head) records) (head_of i p)) (parameters_of s.fields)) (identification_of f.fields))
-    (found_frame second)) (found_frame first)) (found_frame ddr)
-minimal_cell_of other = None
+minimal_cell_of file =
+    option_and_then (λ (d : FrameView × List FileRecord). option_and_then (λ (f : FrameView × List FileRecord). option_and_then (λ (s : FrameView × List FileRecord).
+    option_and_then (λ i. option_and_then (λ p. option_and_then (λ head. with_records (empty_cell head) s.1) (head_of i p)) (parameters_of s.0.fields)) (identification_of f.0.fields))
+    (first_frame f.1)) (first_frame d.1)) (first_frame file)
 
 abbrev pub minimal_cell : List ℕ → Option Cell
 minimal_cell b = minimal_cell_of (file_records b)

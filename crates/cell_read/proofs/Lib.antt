@@ -1,0 +1,3 @@
+pub mod FieldLists
+pub mod NameOrder
+pub mod Grown
