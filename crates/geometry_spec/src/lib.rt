@@ -1,0 +1,10 @@
+//! What points, segments, boxes, tiles and areas are: types and definitions that the contracts of other crates cite.
+#![tactic(auto)]
+
+mod law;
+mod segment;
+mod tile;
+
+pub use law::tiles_are_floors;
+pub use segment::{MeetCase, Point};
+pub use tile::{Box4, TileRange};
