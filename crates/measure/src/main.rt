@@ -6,6 +6,7 @@
 
 mod baseline;
 mod case;
+mod segments;
 
 use case::Case;
 use std::alloc::{AllocError, Global};
@@ -18,6 +19,7 @@ use std::{env, io};
 fn outcome(alloc: Global, case: Case, size: u32) -> Result<u64, AllocError> {
     match case {
         Case::Baseline => baseline::byte_sum(alloc, size),
+        Case::Segments => segments::meetings(alloc, size),
     }
 }
 
