@@ -36,7 +36,7 @@ stands : (kind : Kind) (r : Rec) (c : Cell) → Stands r c (all_records (with_re
 stands Vi r c = record { before = c.vi; behind = c.vc ++ c.ve ++ c.fe; without = simp append_assoc; with = simp append_assoc }
 stands Vc r c = record { before = c.vi ++ c.vc; behind = c.ve ++ c.fe; without = simp append_assoc; with = simp append_assoc }
 stands Ve r c = record { before = c.vi ++ c.vc ++ c.ve; behind = c.fe; without = simp append_assoc; with = simp append_assoc }
-stands Fe r c = record { before = c.vi ++ c.vc ++ c.ve ++ c.fe; behind = []; without = simp (append_assoc, append-nil {X = Rec}); with = simp append_assoc }
+stands Fe r c = record { before = c.vi ++ c.vc ++ c.ve ++ c.fe; behind = []; without = simp (append_assoc, append-nil); with = simp append_assoc }
 
 names_grown : (kind : Kind) (r : Rec) (c : Cell) (n : RecName) → list_any (is_named n) (all_records (with_record_of_kind kind r c)) ≡ (is_named n r || list_any (is_named n) (all_records c))
 names_grown kind r c n = let s = stands kind r c in

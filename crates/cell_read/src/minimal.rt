@@ -1,18 +1,20 @@
 //! Minimal cell files.
 
-ghost use Rattle.std.specs.Prelude.{◌≡◌, ◌+◌, ◌<◌, ◌≤◌, false, length, IfSome};
+ghost use Rattle.std.specs.Prelude.{◌≡◌, ◌+◌, ◌<◌, ◌≤◌, None, false, length, IfSome, IfOk, IfErr, OnOk};
 ghost use Rattle.std.specs.Option.{option_map};
 ghost use Rattle.file_spec.specs.CellRecords.{empty_cell};
 ghost use Rattle.file_spec.specs.FileRecords.{first_frame, records_after};
 ghost use Rattle.file_spec.specs.MinimalFile.{minimal_cell, with_records};
 ghost use Rattle.cell_read.specs.GivesMinimal.{GivesMinimal};
+ghost use Rattle.cell_read.specs.NamesSeen.{IsKnown};
+ghost use Rattle.cell_read.specs.declared.refusal.MinimalRefusal.TheVariants.{NotMinimal};
 
 use crate::heads::{make_head, read_identification, read_parameters};
-use crate::reading::{add_vector, empty_reading};
+use crate::reading::{Reading, add_vector, empty_reading};
 use crate::refusal::MinimalRefusal;
 use crate::vectors::read_vector;
 use iso_frame::{Frame, next_record};
-use s57_types::{Cell, Head};
+use s57_types::{Cell, Head, RecName};
 use std::alloc::Global;
 
 /// The record at a place, if one stands there.
@@ -25,6 +27,33 @@ fn frame_from(bytes: &[u8], at: usize, first: bool) -> Option<Frame<'_>>
         return None;
     }
     next_record(bytes, at, first).ok()
+}
+
+/// Adds the vector record at a place, and answers its length.
+fn read_next(
+    alloc: Global,
+    bytes: &[u8],
+    at: usize,
+    reading: &mut Reading,
+) -> Result<usize, MinimalRefusal>
+    requires before_end { at < length bytes.now }
+    requires known { IsKnown ⟦<RecName as Ord>⟧.cmp reading.old }
+    ensures known { OnOk result (IsKnown ⟦<RecName as Ord>⟧.cmp reading.new) }
+    ensures within { IfOk result (λ n. (0 < n) × (at + n ≤ length bytes.now)) }
+    ensures step { IfOk result (λ n. with_records reading.old.cell (records_after bytes.now at false) ≡ with_records reading.new.cell (records_after bytes.now (at + n) false)) }
+    ensures stop { IfErr result (λ e. e ≡ NotMinimal → with_records reading.old.cell (records_after bytes.now at false) ≡ None) }
+{
+    let Some(frame) = frame_from(bytes, at, false) else {
+        return Err(MinimalRefusal::NotMinimal);
+    };
+    let vector = match read_vector(alloc, &frame) {
+        Ok(vector) => vector,
+        Err(refusal) => return Err(refusal),
+    };
+    match add_vector(reading, vector) {
+        Ok(()) => Ok(frame.length()),
+        Err(refusal) => Err(refusal),
+    }
 }
 
 /// The vector records from a place on, as a cell with a head.
@@ -40,17 +69,17 @@ fn read_vectors(
     let mut reading = empty_reading(alloc, head);
     let mut at = start;
     while at < bytes.len() {
-        let Some(frame) = frame_from(bytes, at, false) else {
-            return Err(MinimalRefusal::NotMinimal);
-        };
-        add_vector(&mut reading, read_vector(alloc, &frame)?)?;
-        at += frame.length();
+        match read_next(alloc, bytes, at, &mut reading) {
+            Ok(length) => at += length,
+            Err(refusal) => return Err(refusal),
+        }
     }
     Ok(reading.cell)
 }
 
 /// The cell of a minimal file: a data descriptive record, the two head records, and then connected nodes and edges
 /// of at most one field of pointers and one of 2-D coordinates.
+#[tactic(auto, unfolding(file_spec::specs::MinimalFile::minimal_cell_of))]
 pub fn read_minimal_cell(alloc: Global, bytes: &[u8]) -> Result<Cell, MinimalRefusal>
     ensures { GivesMinimal result (minimal_cell bytes.now) }
 {

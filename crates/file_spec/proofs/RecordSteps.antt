@@ -1,5 +1,7 @@
 -- One record of a file and the records after it.
 use Rattle.std.proofs.Common.{◌≡◌, ◌≤◌, ◌<◌, ℕ, zero, suc, ◌+◌, ◌-◌, Bool, true, false, cond, nat_le, List, [], ◌∷◌, length, Result, Ok, Err, Option, Some, None, refl, sym, ap, subst, ◌∙◌, inl, inr, MatchResult, arith}
+use Rattle.std.specs.Option.{option_map}
+use Rattle.std.specs.Result.{result_ok}
 use Rattle.std.proofs.lemmas.Bool.{le-leb, lt-leb, cases_lt}
 use Rattle.frame_spec.specs.RecordFrame.{FrameView, RecordFrame}
 use Rattle.frame_spec.specs.FrameFaults.{HasFrameFault}
@@ -75,3 +77,17 @@ first_frame-fault b p fault first before is =
 
 pub first_frame-end : (b : List ℕ) (p : ℕ) (first : Bool) → length b ≤ p → first_frame (records_after b p first) ≡ None
 first_frame-end b p first past = ap first_frame (records_after-end b p first past)
+
+-- what was found at a place is the first record from there on
+pub first_frame-is : (b : List ℕ) (p : ℕ) (first : Bool) (found : Result FrameView FrameFault) → p < length b → found ≡ frame_at b p first
+    → option_map (λ frame. (frame, records_after b (p + frame.length) false)) (result_ok found) ≡ first_frame (records_after b p first)
+first_frame-is b p first (Ok frame) before is = sym (first_frame-found b p frame first before (sym is))
+first_frame-is b p first (Err fault) before is = sym (first_frame-fault b p fault first before (sym is))
+
+-- before the end of a file there is one
+pub records_after-some : (b : List ℕ) (p : ℕ) (first : Bool) → p < length b → 0 < length (records_after b p first)
+records_after-some b p first before = rw (records_after-next b p first before) (not_empty (λ frame. records_after b (p + frame.length) false) p (frame_at b p first))
+  where
+    not_empty : (others : FrameView → List FileRecord) (p : ℕ) (found : Result FrameView FrameFault) → 0 < length (record_then others p found)
+    not_empty others p (Ok frame) = omega arith
+    not_empty others p (Err fault) = omega arith

@@ -1,5 +1,7 @@
 -- The records of a file, one after the other (ISO/IEC 8211: a data descriptive record, then data records).
 use Rattle.std.specs.Prelude.{ℕ, zero, suc, ◌+◌, ◌-◌, Bool, true, false, List, [], ◌∷◌, length, nat_le, Option, Some, None, Result, Ok, Err, if◌then◌else◌}
+use Rattle.std.specs.Option.{option_map}
+use Rattle.std.specs.Result.{result_ok}
 use Rattle.frame_spec.specs.RecordFrame.{FrameView}
 use Rattle.frame_spec.specs.FrameDecision.{frame_at}
 use Rattle.frame_spec.specs.declared.fault.FrameFault.{FrameFault}
@@ -31,8 +33,4 @@ file_records b = records_after b 0 true
 -- the first of some records, if it is one, and the others
 abbrev pub first_frame : List FileRecord → Option (FrameView × List FileRecord)
 first_frame [] = None
-first_frame (r ∷ records) = frame_and r.found records
-  where
-    frame_and : Result FrameView FrameFault → List FileRecord → Option (FrameView × List FileRecord)
-    frame_and (Ok frame) records = Some (frame, records)
-    frame_and (Err fault) records = None
+first_frame (r ∷ records) = option_map (λ frame. (frame, records)) (result_ok r.found)

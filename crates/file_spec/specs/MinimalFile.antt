@@ -86,11 +86,8 @@ may_follow c v = not (list_any (is_named v.name) (all_records c)) && nat_lt (len
 -- a cell with the records that follow, if each is a minimal vector record that may follow
 unfoldable pub with_records : Cell → List FileRecord → Option Cell
 with_records c [] = Some c
-with_records c (r ∷ records) = with_found (λ frame. option_and_then (λ v. if may_follow c v then with_records (with_record (V v) c) records else None) (vector_of frame.fields)) r.found
-  where
-    with_found : (FrameView → Option Cell) → Result FrameView FrameFault → Option Cell
-    with_found next (Ok frame) = next frame
-    with_found next (Err fault) = None
+with_records c (r ∷ records) = option_and_then (λ v. if may_follow c v then with_records (with_record (V v) c) records else None)
+    (option_and_then (λ frame. vector_of frame.fields) (result_ok r.found))
 
 -- the cell of a minimal file: the data descriptive record, whose fields aren't looked at, the head records and the others
 unfoldable pub minimal_cell_of : List FileRecord → Option Cell

@@ -3,10 +3,12 @@ use Rattle.file_spec.specs.CellRecords.{empty_cell}
 use Rattle.file_spec.specs.FileRecords.{records_after}
 use Rattle.file_spec.specs.MinimalFile.{with_records}
 use Rattle.cell_read.specs.NamesSeen.{IsKnown}
+use Rattle.s57_types.specs.contracts.name.RecNameOrd.TheImpl.{ghosts}
 use Rattle.cell_read.proofs.minimal.read_vectors.Given as goal
 
 abbrev pub invariant-loop-at : goal.invariant-loop-at
 invariant-loop-at l = record {
+  known : IsKnown ghosts.cmp l.reading;
   within : l.at ≤ length l.bytes;
   walk : with_records l.reading.cell (records_after l.bytes l.at false) ≡ with_records (empty_cell l.fn.head) (records_after l.bytes l.start false);
 }
