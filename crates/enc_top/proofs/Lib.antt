@@ -1,1 +1,5 @@
 pub mod RowTexts
+pub mod Puts
+pub mod Edges
+pub mod Ranges
+pub mod WordLists

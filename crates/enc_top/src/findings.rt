@@ -1,10 +1,156 @@
-//! The findings of a cell.
+//! The findings of a cell: edges whose ends are wrong in number, and ends that lead to no connected node.
+
+ghost use Rattle.std.specs.Prelude.{◌≡◌, ◌<◌, ◌≤◌, ◌^◌, ◌++◌, ◌∷◌, [], All, IfOk, OnOk, length, map, IsPermutation};
+ghost use Rattle.std.specs.List.Sorted.{IsNonDecreasingBy};
+ghost use Rattle.enc_top.specs.Ends.{vectors_of};
+ghost use Rattle.enc_top.specs.Rows.{HasKnownKind};
 
 use cell_spec::{Finding, Subject};
+use s57_types::{Cell, End, Kind, Rec, RecName, Vector};
+use std::alloc::{AllocError, Global};
+use std::collections::BTreeSet;
+
+/// The number of the kind of an edge without exactly one beginning node and one end node.
+const END_COUNT: u8 = 2;
+
+/// The number of the kind of an end that names no connected node.
+const DANGLING_END: u8 = 3;
 
 /// A finding and what it is about.
 #[derive(Clone, Copy, Debug, PartialEq, Eq)]
 pub struct SubjectFinding {
     pub subject: Subject,
     pub finding: Finding,
+}
+
+/// The identification numbers of a cell's connected nodes.
+fn node_numbers(alloc: Global, cell: &Cell) -> Result<BTreeSet<u32>, AllocError> {
+    let mut numbers = BTreeSet::new(alloc);
+    for rec in cell.vc.as_slice() {
+        if let Rec::V(node) = rec {
+            numbers.insert(node.name.id)?;
+        }
+    }
+    Ok(numbers)
+}
+
+/// Appends a vector record.
+fn push_vector<'a>(vectors: &mut Vec<&'a Vector>, rec: &'a Rec) -> Result<(), AllocError>
+    ensures { OnOk result (map (λ v. v.now) vectors.new.items ≡ map (λ v. v.now) vectors.old.items ++ vectors_of (rec.now ∷ [])) }
+{
+    match rec {
+        Rec::V(vector) => {
+            vectors.push(vector)?;
+            Ok(())
+        }
+        Rec::F(_) => Ok(()),
+    }
+}
+
+/// The edges of a cell, in file order.
+#[tactic(auto, using(crate::proofs::Edges::vectors_of_more))]
+fn edges_of(alloc: Global, cell: &Cell) -> Result<Vec<&Vector>, AllocError>
+    ensures { IfOk result (λ edges. map (λ edge. edge.now) edges.items ≡ vectors_of cell.now.ve) }
+{
+    let mut edges = Vec::new(alloc);
+    for rec in cell.ve.as_slice() {
+        push_vector(&mut edges, rec)?;
+    }
+    Ok(edges)
+}
+
+/// The edges of a cell, ascending by identification number.
+fn edges_in_order(alloc: Global, cell: &Cell) -> Result<Vec<&Vector>, AllocError>
+    ensures permutation { IfOk result (λ edges. IsPermutation (vectors_of cell.now.ve) (map (λ edge. edge.now) edges.items)) }
+    ensures sorted { IfOk result (λ edges. IsNonDecreasingBy (λ edge. edge.now.name.id) edges.items) }
+{
+    let mut edges = edges_of(alloc, cell)?;
+    edges.sort_by_key(|edge| edge.name.id)?;
+    Ok(edges)
+}
+
+/// How many ends have a topology indicator.
+fn count_topi(ends: &[End], topi: u8) -> usize
+    ensures within { result ≤ length ends.now }
+{
+    ends.iter().filter(|end| end.topi == topi).count()
+}
+
+/// Whether a name is that of a connected node.
+fn is_node(nodes: &BTreeSet<u32>, name: RecName) -> bool {
+    name.kind == Kind::Vc && nodes.contains(&name.id)
+}
+
+/// A finding about an edge.
+fn edge_finding(edge: RecName, kind: u8, nums: [u32; 4]) -> SubjectFinding
+    ensures { result.finding.kind ≡ kind }
+{
+    SubjectFinding {
+        subject: Subject::Rec(edge),
+        finding: Finding { kind, nums },
+    }
+}
+
+/// Appends the finding of an edge whose ends aren't one beginning node and one end node.
+fn push_end_count(findings: &mut Vec<SubjectFinding>, edge: &Vector) -> Result<(), AllocError>
+    requires few { length edge.now.ends < 2 ^ 32 }
+    requires known { All HasKnownKind findings.old.items }
+    ensures { All HasKnownKind findings.new.items }
+{
+    let ends = edge.ends.as_slice();
+    let begins = count_topi(ends, 1) as u32;
+    let closes = count_topi(ends, 2) as u32;
+    let all = ends.len() as u32;
+    if begins != 1 || closes != 1 || all != 2 {
+        findings.push(edge_finding(edge.name, END_COUNT, [begins, closes, all, 0]))?;
+    }
+    Ok(())
+}
+
+/// Appends a finding for each end of an edge that names no connected node.
+fn push_dangling_ends(
+    findings: &mut Vec<SubjectFinding>,
+    nodes: &BTreeSet<u32>,
+    edge: &Vector,
+) -> Result<(), AllocError>
+    requires few { length edge.now.ends < 2 ^ 32 }
+    requires known { All HasKnownKind findings.old.items }
+    ensures { All HasKnownKind findings.new.items }
+{
+    for (k, end) in edge.ends.as_slice().iter().enumerate() {
+        if !is_node(nodes, end.to) {
+            findings.push(edge_finding(edge.name, DANGLING_END, [k as u32 + 1, 0, 0, 0]))?;
+        }
+    }
+    Ok(())
+}
+
+/// Appends the findings of an edge.
+fn push_edge(
+    findings: &mut Vec<SubjectFinding>,
+    nodes: &BTreeSet<u32>,
+    edge: &Vector,
+) -> Result<(), AllocError>
+    requires known { All HasKnownKind findings.old.items }
+    ensures { All HasKnownKind findings.new.items }
+{
+    // No file within its limit has so many ends.
+    if edge.ends.len() > u32::MAX as usize {
+        return Err(AllocError);
+    }
+    push_end_count(findings, edge)?;
+    push_dangling_ends(findings, nodes, edge)
+}
+
+/// The findings of a cell, ascending by edge, kind and numbers.
+pub fn find_all(alloc: Global, cell: &Cell) -> Result<Vec<SubjectFinding>, AllocError>
+    ensures known { IfOk result (λ findings. All HasKnownKind findings.items) }
+{
+    let nodes = node_numbers(alloc, cell)?;
+    let edges = edges_in_order(alloc, cell)?;
+    let mut findings = Vec::new(alloc);
+    for edge in &edges {
+        push_edge(&mut findings, &nodes, edge)?;
+    }
+    Ok(findings)
 }

@@ -2,4 +2,12 @@
 #![tactic(auto)]
 
 mod findings;
+mod input;
+mod output;
+mod status;
 mod text;
+mod top;
+mod words;
+
+pub use status::{Status, print_status};
+pub use top::{run, run_plain};

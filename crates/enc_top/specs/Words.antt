@@ -1,0 +1,36 @@
+-- The forms of words of a call.
+use Rattle.std.specs.Prelude.{◌≡◌, ℕ, ◌+◌, ◌&&◌, ◌||◌, Bool, true, false, nat_le, List, [], ◌∷◌, length, codes, nat_eq}
+use Rattle.std.specs.List.{list_any, range_with_len}
+use Rattle.std.specs.Cmp.Lexicographic.{pointwise}
+use Rattle.std.specs.Fmt.{decimal}
+
+abbrev pub is_word : List ℕ → List ℕ → Bool
+is_word word text = pointwise nat_eq text word
+
+-- the text is that of a number
+abbrev pub is_written_as : List ℕ → ℕ → Bool
+is_written_as text n = pointwise nat_eq (decimal n) text
+
+-- a number from 1 to a limit, decimal without leading zeros
+abbrev pub is_number_up_to : ℕ → List ℕ → Bool
+is_number_up_to limit text = list_any (is_written_as text) (range_with_len 1 limit)
+
+abbrev pub is_between : ℕ → ℕ → ℕ → Bool
+is_between low high n = nat_le low n && nat_le n high
+
+-- the words behind `make`: N OUT, and behind `drill`: N K
+abbrev pub is_make : List (List ℕ) → Bool
+is_make (n ∷ out ∷ []) = is_number_up_to 100 n
+is_make other = false
+
+abbrev pub is_drill : List (List ℕ) → Bool
+is_drill (n ∷ k ∷ []) = is_number_up_to 100 n && is_number_up_to 16 k
+is_drill other = false
+
+-- the forms that aren't built yet: replay CELL OUT ORDER S1 .. Sk, room CELL OUT S1 .. Sk with k from 1 to 16, make N OUT,
+-- drill N K
+abbrev pub is_later_form : List (List ℕ) → Bool
+is_later_form [] = false
+is_later_form (first ∷ others) =
+    (is_word (codes "replay") first && is_between 4 19 (length others)) || (is_word (codes "room") first && is_between 3 18 (length others))
+    || (is_word (codes "make") first && is_make others) || (is_word (codes "drill") first && is_drill others)
