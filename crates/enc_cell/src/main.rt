@@ -1,1 +1,58 @@
-fn main() {}
+//! `enc_cell`: a workroom for one electronic navigational chart base cell.
+#![tactic(auto)]
+
+mod disk;
+mod output;
+
+use disk::DiskShelf;
+use enc_outside::NoMeet;
+use enc_top::{Status, print_status, run};
+use output::StdSink;
+use std::alloc::Global;
+use std::env;
+use std::fs::File;
+use std::io::Write;
+use std::process::ExitCode;
+use std::rt::{Env, Files};
+use std::thread::Threads;
+
+/// The words after the program's name. A word that isn't UTF-8 is in no form.
+fn read_words(rt: &(impl Env + AllocGlobal)) -> Result<Vec<String>, Status> {
+    let mut words = Vec::new(rt.alloc());
+    let Ok(args) = env::args(rt) else {
+        return Err(Status::Usage);
+    };
+    for word in args.skip(1) {
+        if words.push(word).is_err() {
+            return Err(Status::NoMemory);
+        }
+    }
+    Ok(words)
+}
+
+/// Does what the words say on the real file store and standard output.
+fn run_words<R: Threads + Sync + Files<File = File> + Print + AllocGlobal>(
+    rt: &R,
+    words: &[String],
+) -> Status {
+    let mut shelf = DiskShelf::new(rt);
+    let mut out = StdSink::new(rt);
+    run(rt, rt.alloc(), words, &mut shelf, &mut out, &NoMeet)
+}
+
+/// The line of a status, or nothing where memory ran out.
+fn status_line(alloc: Global, status: &Status) -> Vec<u8> {
+    let mut line = Vec::new(alloc);
+    let _ = print_status(alloc, status, &mut line);
+    line
+}
+
+fn main(rt: HostRuntime) -> ExitCode {
+    let status = match read_words(&rt) {
+        Ok(words) => run_words(&rt, &words),
+        Err(status) => status,
+    };
+    let line = status_line(rt.alloc(), &status);
+    let _ = rt.stderr().write_all(&line);
+    ExitCode::from(status.number())
+}
