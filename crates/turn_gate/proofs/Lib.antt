@@ -4,3 +4,4 @@ pub mod Views
 pub mod TurnKept
 pub mod HandlesKept
 pub mod Turned
+pub mod Additions

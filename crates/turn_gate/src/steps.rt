@@ -30,7 +30,12 @@ fn take_ticket<V: Chronicle + Drop>(lock: &LockWords<V>, place: &mut Place<V>) -
 }
 
 // It sleeps while other turns last, so that those who wait leave the processors to the one who works.
-fn await_turn<V: Chronicle + Drop, R: Wait>(rt: &R, lock: &LockWords<V>, place: &mut Place<V>, ticket: u64)
+fn await_turn<V: Chronicle + Drop, R: Wait>(
+    rt: &R,
+    lock: &LockWords<V>,
+    place: &mut Place<V>,
+    ticket: u64,
+)
     requires lock { IsPlaceOf lock.now.table_id place.old }
     requires ticket { (t : ℕ) × (ticket ≡ t % 2 ^ 64) × (place.old.me.0.ticket ≡ Some t) }
     requires idle { (place.old.me.1 ≡ []) × (place.old.me.0.marked ≡ false) }

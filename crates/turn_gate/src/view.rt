@@ -55,5 +55,4 @@ pub type LockWords<V> = Shared<
 >;
 
 /// A handle's place at the lock, with its view.
-pub type Place<V> =
-    Seat<Option<V>, HandleView<<V as Chronicle>::Entry, <V as Chronicle>::Origin>>;
+pub type Place<V> = Seat<Option<V>, HandleView<<V as Chronicle>::Entry, <V as Chronicle>::Origin>>;
