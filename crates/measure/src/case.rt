@@ -7,6 +7,8 @@ use std::fmt;
 pub enum Case {
     /// A sum of bytes in memory: the speed of the machine.
     Baseline,
+    /// Turns under the ticket lock: the size is the number of threads.
+    Turns,
 }
 
 impl Case {
@@ -14,6 +16,7 @@ impl Case {
     pub fn of(name: &str) -> Option<Case> {
         match name {
             "baseline" => Some(Case::Baseline),
+            "turns" => Some(Case::Turns),
             _ => None,
         }
     }
@@ -23,6 +26,7 @@ impl fmt::Display for Case {
     fn fmt<W: fmt::Write>(&self, f: &mut fmt::Formatter<W>) -> fmt::Result {
         f.write_str(match self {
             Case::Baseline => "baseline",
+            Case::Turns => "turns",
         })
     }
 }

@@ -5,11 +5,11 @@ use mathlib.Core.Option.{some, none, some-injective}
 use native.Mathlib.Decide.{ℕ_discrete}
 use lib.ListN.{get_elem?}
 use lib.Seq.{set-get_or}
-use Rattle.std.proofs.Common.{◌≡◌, ◌≢◌, ◌⊎◌, ℕ, ◌+◌, ◌%◌, ◌^◌, ◌<◌, ◌≤◌, ◌||◌, if◌then◌else◌, Bool, true, false, List, [], ◌∷◌, ◌++◌, length, get_or, set, All, Contains, Option, Some, None, sym, refl, ap, ◌∙◌, subst, inl, inr, ⊎_elim, arith, length-set, length-append, get_or-set_other, get_or-set_same}
+use Rattle.std.proofs.Common.{◌≡◌, ◌≢◌, ◌⊎◌, ℕ, ◌+◌, ◌%◌, ◌^◌, ◌<◌, ◌≤◌, ◌||◌, if◌then◌else◌, Bool, true, false, List, [], ◌∷◌, ◌++◌, length, replicate, get_or, set, All, Contains, Option, Some, None, sym, refl, ap, ◌∙◌, subst, inl, inr, ⊎_elim, arith, length-set, length-append, get_or-set_other, get_or-set_same}
 use Rattle.std.proofs.lemmas.Bool.{cases_Bool}
 use Rattle.std.proofs.lemmas.List.Elements.{Contains-append_left, Contains-append_right, All-weaker, All-nil, All-cons, All-append, All-same}
 use Rattle.atomic_table.specs.Table.{State, Me, step, Allows, Splits, Joins, Final, Seen, opening, keeps}
-use Rattle.atomic_table.proofs.Lists.{set_else, set_again, at_longer, at_last}
+use Rattle.atomic_table.proofs.Lists.{set_else, at_longer, at_last}
 use Rattle.turn_gate.specs.declared.view.HandleView.{HandleView}
 use Rattle.turn_gate.specs.declared.view.OwnList.{OwnList}
 use Rattle.turn_gate.specs.Histories.{longer, numbers_of, entries_by, IsExact}
@@ -30,7 +30,7 @@ module _ {V E O : Type 0} (origin : V → O) (entries : V → List E) (number : 
   abbrev Mine : Type 0
   Mine = Me (Option V) (HandleView E O)
 
-  pub starts : (x : V) → origin x ≡ start → entries x ≡ [] → Rule (opening (1 ∷ 0 ∷ 0 ∷ []) (Some x ∷ []) (opening_view start))
+  pub starts : (x : V) → origin x ≡ start → entries x ≡ [] → Rule (opening (1 ∷ replicate 18 0) (Some x ∷ []) (opening_view start))
   starts x from empty = let c : LockState E = record { published = []; given = 1; issued = 0; served = 0; keeper = λ _. 0; holder = λ _. 0; drawer = 0 } in record {
     lock = c;
     wide = refl;

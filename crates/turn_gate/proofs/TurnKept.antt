@@ -11,10 +11,9 @@ use Rattle.std.proofs.lemmas.List.Elements.{All-weaker, All-push, All-map, All-s
 use Rattle.atomic_table.specs.Table.{State, Me, step, Allows, keeps, takes, gives, stepped, rest}
 use Rattle.atomic_table.proofs.Lists.{set_again, set_here, one_turn}
 use Rattle.turn_gate.specs.declared.view.HandleView.{HandleView}
-use Rattle.turn_gate.specs.declared.view.OwnList.{OwnList}
-use Rattle.turn_gate.specs.Histories.{numbers_of, entries_by, IsExact, exact_list, IsAtMostOne, Appends}
+use Rattle.turn_gate.specs.Histories.{numbers_of, entries_by, IsExact, exact_list, Appends}
 use Rattle.turn_gate.specs.TicketLockRule.{LockState, Keeps, IsSound, IsAt, TicketLockRule, waiting, count_some}
-use Rattle.turn_gate.specs.Outcomes.{TakesTicket, LooksForTurn, PassesTurn, view_after_turn}
+use Rattle.turn_gate.specs.Outcomes.{TakesTicket, LooksForTurn, CallsSleepers, PassesTurn, view_after_turn}
 use Rattle.turn_gate.proofs.Prefixes.{prefix_refl}
 use Rattle.turn_gate.proofs.Entries.{entries_by-stay, appends_prefix, numbers_of-exact, at_number}
 use Rattle.turn_gate.proofs.Views.{put, put_here, put_else, set_at, each_stays, at_stays, none_marked, waiting_set, waiting_fits}
@@ -144,6 +143,29 @@ module _ {V E O : Type 0} (origin : V → O) (entries : V → List E) (number : 
         subst (λ (z : List ℕ × List (HandleView E O)). Rule record { words = z.0; homes = s.homes; views = z.1 }) (λ i. (sym (set-get_or s.words 2 0) i, sym (set_again s.views id v at) i)) h,
         (λ t' is'. let same : t' ≡ t = ap (the_ticket t) (sym is' ∙ is) in ((λ e. absurd (miss (e ∙ ap (λ (z : ℕ). z % 2 ^ 64) same))), λ _. refl)),
       ))
+
+  pub calls_sleepers : (slots id : ℕ) (me : Mine) (word : ℕ) → 3 ≤ word → Allows Rule slots id me word (λ n. (n + 1) % 2 ^ 64) (CallsSleepers (step slots word 1 0 none) me)
+  calls_sleepers slots id me word high s h deep at small =
+      let n : ℕ = (get_or s.words word 0 + 1) % 2 ^ 64 in let stays : (i : ℕ) → i < 3 → get_or (set s.words word n) i 0 ≡ get_or s.words i 0 = (λ i low. get_or-set_other s.words word i n 0 (omega arith)) in (
+        me.0,
+        keeps,
+        tt,
+        subst (λ (vs : List (HandleView E O)). Rule record { words = set s.words word n; homes = s.homes; views = vs }) (sym (set_again s.views id me.0 at)) record {
+          lock = h.lock;
+          wide = length-set s.words word n ∙ h.wide;
+          deep = h.deep;
+          tickets = stays 1 (omega arith) ∙ h.tickets;
+          turns = stays 2 (omega arith) ∙ h.turns;
+          queue = h.queue;
+          queued = h.queued;
+          room = h.room;
+          numbered = h.numbered;
+          keepers = h.keepers;
+          each = λ j u e. subst (λ (drawn : ℕ). IsSound {V = V} {E = E} {O = O} number start h.lock drawn s.homes j u) (sym (stays 0 (omega arith))) (h.each j u e);
+          home = h.home;
+        },
+        refl,
+      )
 
   pub passes_turn : (slots id : ℕ) (me : Mine) (x : V) (m : ℕ) → me.1 ≡ (0, Some x) ∷ [] → me.0.marked ≡ true → me.0.origin ≡ Some (origin x) → Contains (numbers_of me.0.own) m → Appends number m me.0.observed (entries x)
       → Allows Rule slots id me 2 (λ n. (n + 1) % 2 ^ 64) (PassesTurn entries number (step slots 2 1 0 none) me)

@@ -1,6 +1,6 @@
 -- What a handle knows after a turn and after a join.
 use mathlib.Core.List.{IsPrefix, map-append}
-use Rattle.std.proofs.Common.{◌≡◌, ℕ, ◌+◌, ◌<◌, ◌||◌, if◌then◌else◌, Bool, true, false, List, [], ◌∷◌, ◌++◌, map, All, Contains, sym, refl, ap, ◌∙◌, subst, arith}
+use Rattle.std.proofs.Common.{◌≡◌, ℕ, ◌||◌, if◌then◌else◌, Bool, List, [], map, All, Contains, sym, refl, ap, ◌∙◌, subst}
 use Rattle.std.proofs.lemmas.List.Elements.{All-map, All-weaker, Contains-append_left}
 use Rattle.turn_gate.specs.declared.view.HandleView.{HandleView}
 use Rattle.turn_gate.specs.declared.view.OwnList.{OwnList}

@@ -7,6 +7,7 @@ use Rattle.atomic_table.specs.declared.shared.Seat.{Seat}
 use Rattle.turn_gate.specs.declared.view.HandleView.{HandleView}
 use Rattle.turn_gate.specs.declared.view.OwnList.{OwnList}
 use Rattle.turn_gate.specs.Histories.{numbers_of, extended, IsAtMostOne}
+use Rattle.turn_gate.specs.TicketLockRule.{IsFree}
 
 -- which lock it is
 abbrev pub GateId : Type 0
@@ -55,12 +56,12 @@ told_origin (Some o) is = o
 told_origin None is = absurd (false≢true is)
 
 module _ {V E O : Type 0} where
-  -- between two calls a place has no slot, no mark, no ticket and nothing to compare
+  -- between two calls a place is free, has nothing to compare, and knows the initial state
   abbrev pub IsIdle : Seat (Option V) (HandleView E O) → Type 0
-  IsIdle place = (place.me.1 ≡ []) × (place.me.0.marked ≡ false) × (place.me.0.ticket ≡ None) × (place.me.0.joined ≡ []) × IsSome place.me.0.origin
+  IsIdle place = IsFree place × (place.me.0.joined ≡ []) × IsSome place.me.0.origin
 
   abbrev pub state_of : (place : Seat (Option V) (HandleView E O)) → ℕ → ℕ → IsIdle place → HandleState E O
-  state_of place number given idle = record { gate = place.table_id; number = number; given = given; origin = told_origin place.me.0.origin idle.4; observed = place.me.0.observed; own = place.me.0.own }
+  state_of place number given idle = record { gate = place.table_id; number = number; given = given; origin = told_origin place.me.0.origin idle.2; observed = place.me.0.observed; own = place.me.0.own }
 
 module _ {E O : Type 0} where
   abbrev pub KeepsNumber : HandleView E O → ℕ → Type 0

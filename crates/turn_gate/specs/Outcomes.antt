@@ -3,7 +3,6 @@ use mathlib.Core.List.{IsPrefix}
 use Rattle.std.specs.Prelude.{◌≡◌, ◌≢◌, ℕ, ◌+◌, ◌%◌, ◌^◌, true, false, List, [], ◌∷◌, ◌++◌, ◌||◌, if◌then◌else◌, map, All, Option, Some, None}
 use Rattle.atomic_table.specs.Table.{Me, Step}
 use Rattle.turn_gate.specs.declared.view.HandleView.{HandleView}
-use Rattle.turn_gate.specs.declared.view.OwnList.{OwnList}
 use Rattle.turn_gate.specs.Histories.{longer, exact_list, IsExact}
 
 -- a view after its turn, where the value's history is now es
@@ -51,6 +50,10 @@ module _ {V E O : Type 0} where
   -- the handle has observed the history of the value that it gave back
   abbrev pub PassesTurn : (V → List E) → (E → ℕ) → Step (Option V) → Me (Option V) (HandleView E O) → ℕ → Me (Option V) (HandleView E O) → Type 0
   PassesTurn entries number s before found after = (x : V) → before.1 ≡ (0, Some x) ∷ [] → after ≡ (view_after_turn number (entries x) before.0, [])
+
+  -- nothing that the rule speaks of changes
+  abbrev pub CallsSleepers : Step (Option V) → Me (Option V) (HandleView E O) → ℕ → Me (Option V) (HandleView E O) → Type 0
+  CallsSleepers s before found after = after ≡ before
 
   abbrev pub DrawsNumber : Step (Option V) → Me (Option V) (HandleView E O) → ℕ → Me (Option V) (HandleView E O) → Type 0
   DrawsNumber s before found after = after ≡ (record before.0 { drawn = true }, before.1)

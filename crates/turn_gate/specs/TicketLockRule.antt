@@ -1,5 +1,5 @@
 -- The rule of the ticket lock: what is true of its words, its slot and the views of its handles between any two steps. This project's own rule.
--- Word 0 counts the numbers drawn, word 1 the tickets taken and word 2 the turns that are over, each modulo 2 ^ 64. The slot holds the value, or is out with the handle whose turn it is.
+-- Word 0 counts the numbers drawn, word 1 the tickets taken and word 2 the turns that are over, each modulo 2 ^ 64. Of the other words, on which those who wait sleep, the rule says nothing. The slot holds the value, or is out with the handle whose turn it is.
 use mathlib.Core.List.{IsPrefix}
 use mathlib.Core.Option.{some, none}
 use mathlib.Core.Option as maybe
@@ -10,7 +10,7 @@ use Rattle.atomic_table.specs.Seated.{TableId}
 use Rattle.atomic_table.specs.declared.shared.Seat.{Seat}
 use Rattle.turn_gate.specs.declared.view.HandleView.{HandleView}
 use Rattle.turn_gate.specs.declared.view.OwnList.{OwnList}
-use Rattle.turn_gate.specs.Histories.{numbers_of, IsExact}
+use Rattle.turn_gate.specs.Histories.{numbers_of, Appends, IsExact}
 
 -- What no word says.
 pub record LockState (E : Type 0) : Type 0 where
@@ -28,9 +28,9 @@ pub record LockState (E : Type 0) : Type 0 where
   -- the view that may draw
   pub drawer : ℕ
 
--- three words and a slot
+-- three words that count, sixteen to sleep on, and a slot
 abbrev pub IsSized : TableId → Type 0
-IsSized id = (id.words ≡ 3) × (id.slots ≡ 1)
+IsSized id = (id.words ≡ 19) × (id.slots ≡ 1)
 
 -- at this place stands something of which P is true
 abbrev pub IsAt : {A : Type 0} → List A → ℕ → (A → Type 0) → Type 0
@@ -77,7 +77,7 @@ pub record IsSound {V E O : Type 0} (number : E → ℕ) (start : O) (lock : Loc
 module _ {V E O : Type 0} (origin : V → O) (entries : V → List E) (number : E → ℕ) (start : O) where
   pub record TicketLockRule (s : State (Option V) (HandleView E O)) : Type 0 where
     pub lock : LockState E
-    pub wide : length s.words ≡ 3
+    pub wide : length s.words ≡ 19
     pub deep : length s.homes ≡ 1
     pub tickets : slice_index s.words 1 ≡ lock.issued % 2 ^ 64
     pub turns : slice_index s.words 2 ≡ lock.served % 2 ^ 64
@@ -93,9 +93,18 @@ module _ {V E O : Type 0} (origin : V → O) (entries : V → List E) (number : 
     -- while no view is marked the slot is at home, with the whole history
     pub home : ((id : ℕ) (v : HandleView E O) → get_elem? s.views id ≡ some v → v.marked ≡ false) → (x : V) × (get_elem? s.homes 0 ≡ some (some (Some x))) × (entries x ≡ lock.published) × (origin x ≡ start)
 
--- a place at a lock of three words and a slot
+-- a place at a lock that is so sized
 abbrev pub IsPlaceOf : {S V : Type 0} → TableId → Seat S V → Type 0
 IsPlaceOf lock place = (place.table_id ≡ lock) × IsSized lock
+
+module _ {S E O : Type 0} where
+  -- a place with no slot, no mark and no ticket
+  abbrev pub IsFree : Seat S (HandleView E O) → Type 0
+  IsFree place = (place.me.1 ≡ []) × (place.me.0.marked ≡ false) × (place.me.0.ticket ≡ None)
+
+-- the history is the one that the view observed, or has one entry more, of a number that the view keeps
+abbrev pub GoesOn : {E O : Type 0} → (E → ℕ) → HandleView E O → List E → Type 0
+GoesOn number v history = (n : ℕ) × Contains (numbers_of v.own) n × Appends number n v.observed history
 
 abbrev pub IsSamePlace : {S V : Type 0} → Seat S V → Seat S V → Type 0
 IsSamePlace old new = (new.table_id ≡ old.table_id) × (new.id ≡ old.id)

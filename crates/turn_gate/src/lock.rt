@@ -8,7 +8,9 @@ use crate::chronicle::Chronicle;
 use crate::handle::GateSeat;
 use crate::operation::Deed;
 use crate::outcomes::HandleSplit;
-use crate::steps::{acquire, compare_histories, draw_number, join_handles, release};
+use crate::steps::{
+    NUMBERS, WORDS, acquire, compare_histories, draw_number, join_handles, release,
+};
 use crate::view::{HandleView, LockRule};
 use atomic_table::{Refused, Table};
 use std::alloc::{AllocError, Global};
@@ -49,12 +51,14 @@ impl<V: Chronicle + Send + Drop> Gate<V> {
         ensures err { IfErr result (λ refusal. refusal.value ≡ value) }
     {
         let about = Snapshot::of(&value);
+        let mut words = [0; WORDS];
+        words[NUMBERS] = 1;
         let mut slots = Vec::new(alloc);
         if let Err(failed) = slots.push(Some(value)) {
             let value = failed.value.unwrap();
             return Err(MakeRefusal { value });
         }
-        match Table::new(alloc, &[1, 0, 0], slots, &about) {
+        match Table::new(alloc, &words, slots, &about) {
             Ok((table, place)) => Ok((
                 Gate { table },
                 GateSeat {

@@ -30,6 +30,15 @@ impl<V: Chronicle> Play<Option<V>, HandleView<V::Entry, V::Origin>> for TurnPass
     ghost then = { PassesTurn V.entries V.number };
 }
 
+/// Those who sleep were called.
+pub(crate) struct SleepersCalled;
+
+impl<V: Chronicle> Play<Option<V>, HandleView<V::Entry, V::Origin>> for SleepersCalled {
+    ghost use Rattle.turn_gate.specs.Outcomes.{CallsSleepers};
+
+    ghost then = { CallsSleepers };
+}
+
 /// A number was drawn.
 pub(crate) struct NumberDrawn;
 

@@ -1,12 +1,12 @@
 //! The steps of the rule, and what a handle knows after each.
-ghost use Rattle.std.specs.Prelude.{◌≡◌, ℕ, ◌%◌, ◌^◌, All, Contains, true, false, [], ◌∷◌, Some, None};
-ghost use Rattle.turn_gate.specs.Histories.{numbers_of, Appends, IsExact};
-ghost use Rattle.turn_gate.specs.TicketLockRule.{IsPlaceOf, IsSamePlace};
+ghost use Rattle.std.specs.Prelude.{◌≡◌, ℕ, ◌%◌, ◌^◌, ◌<◌, ◌≤◌, true, false, [], ◌∷◌, Some, None};
+ghost use Rattle.turn_gate.specs.TicketLockRule.{IsSized, IsPlaceOf, IsSamePlace, IsFree, GoesOn};
 ghost use Rattle.turn_gate.specs.Outcomes.{HasTurn, view_after_turn, joined_view, AreCompared};
 
 use crate::chronicle::Chronicle;
 use crate::outcomes::{
-    HandlesJoined, HistoriesCompared, NumberDrawn, TicketTaken, TurnLookedUp, TurnPassed,
+    HandlesJoined, HistoriesCompared, NumberDrawn, SleepersCalled, TicketTaken, TurnLookedUp,
+    TurnPassed,
 };
 use crate::view::{LockWords, Place};
 use std::sync::Wait;
@@ -17,19 +17,45 @@ pub(crate) const NUMBERS: usize = 0;
 const TICKETS: usize = 1;
 /// The word that counts the turns that are over.
 const SERVED: usize = 2;
+/// The first of the words that those who wait sleep on, each on the one of its ticket.
+const FIRST_SLEEP_WORD: usize = 3;
+/// How many words there are to sleep on.
+const SLEEP_WORDS: u64 = 16;
+/// How many words there are.
+pub(crate) const WORDS: usize = 19;
 /// The slot of the value.
 const VALUE: usize = 0;
+/// How often the next in line looks again before it sleeps, since a short turn costs less than a sleep.
+const LOOKS: u32 = 1_000;
 
 fn take_ticket<V: Chronicle + Drop>(lock: &LockWords<V>, place: &mut Place<V>) -> u64
     requires lock { IsPlaceOf lock.now.table_id place.old }
-    requires idle { (place.old.me.1 ≡ []) × (place.old.me.0.marked ≡ false) × (place.old.me.0.ticket ≡ None) }
+    requires free { IsFree place.old }
     ensures same { IsSamePlace place.old place.new }
     ensures ticket { (t : ℕ) × (result ≡ t % 2 ^ 64) × (place.new.me ≡ (record place.old.me.0 { ticket = Some t }, [])) }
 {
     lock.fetch_add::<TicketTaken>(place, TICKETS, 1)
 }
 
-// It sleeps while other turns last, so that those who wait leave the processors to the one who works.
+fn sleep_word(ticket: u64) -> usize
+    ensures { (FIRST_SLEEP_WORD ≤ result) × (result < WORDS) }
+{
+    FIRST_SLEEP_WORD + (ticket % SLEEP_WORDS) as usize
+}
+
+fn comes_soon<V: Chronicle + Drop>(lock: &LockWords<V>, ticket: u64) -> bool
+    requires words { IsSized lock.now.table_id }
+{
+    for _ in 0..LOOKS {
+        if lock.peek(SERVED) == ticket {
+            return true;
+        }
+    }
+    false
+}
+
+// It sleeps while other turns last, and so leaves the processors to the one who works. The word that it sleeps on is
+// read before it looks: where a turn is passed on between the look and the sleep, that word has changed.
 fn await_turn<V: Chronicle + Drop, R: Wait>(
     rt: &R,
     lock: &LockWords<V>,
@@ -42,12 +68,17 @@ fn await_turn<V: Chronicle + Drop, R: Wait>(
     ensures same { IsSamePlace place.old place.new }
     ensures turn { (x : V) × (place.new.me.1 ≡ (0, Some x) ∷ []) × HasTurn V.origin V.entries V.number place.old.me.0 place.new.me.0 x }
 {
+    let word = sleep_word(ticket);
     for _ in rt.forever() {
+        let calls = lock.peek(word);
         let served = lock.load::<TurnLookedUp>(place, SERVED);
         if served == ticket {
             return;
         }
-        lock.park(rt, SERVED, (served & 0xffff_ffff) as u32);
+        let is_next = served.wrapping_add(1) == ticket;
+        if !(is_next && comes_soon(lock, ticket)) {
+            lock.park(rt, word, (calls & 0xffff_ffff) as u32);
+        }
     }
     unreachable!()
 }
@@ -75,12 +106,26 @@ fn return_value<V: Chronicle + Drop>(lock: &LockWords<V>, place: &mut Place<V>, 
 fn pass_turn<V: Chronicle + Drop>(lock: &LockWords<V>, place: &mut Place<V>)
     requires lock { IsPlaceOf lock.now.table_id place.old }
     requires turn { place.old.me.0.marked ≡ true }
-    requires value { (x : V) × (place.old.me.1 ≡ (0, Some x) ∷ []) × (place.old.me.0.origin ≡ Some (V.origin x)) × ((n : ℕ) × Contains (numbers_of place.old.me.0.own) n × Appends V.number n place.old.me.0.observed (V.entries x)) }
+    requires value { (x : V) × (place.old.me.1 ≡ (0, Some x) ∷ []) × (place.old.me.0.origin ≡ Some (V.origin x)) × GoesOn V.number place.old.me.0 (V.entries x) }
     ensures same { IsSamePlace place.old place.new }
     ensures passed { (x : V) → place.old.me.1 ≡ (0, Some x) ∷ [] → place.new.me ≡ (view_after_turn V.number (V.entries x) place.old.me.0, []) }
 {
-    lock.fetch_add::<TurnPassed>(place, SERVED, 1);
-    lock.wake_all(SERVED);
+    let served = lock.fetch_add::<TurnPassed>(place, SERVED, 1);
+    let next = served.wrapping_add(1);
+    if lock.peek(TICKETS) != next {
+        wake_sleepers(lock, place, next);
+    }
+}
+
+// Wakes the one that has the ticket, if it sleeps.
+fn wake_sleepers<V: Chronicle + Drop>(lock: &LockWords<V>, place: &mut Place<V>, ticket: u64)
+    requires lock { IsPlaceOf lock.now.table_id place.old }
+    ensures same { IsSamePlace place.old place.new }
+    ensures view { place.new.me ≡ place.old.me }
+{
+    let word = sleep_word(ticket);
+    lock.fetch_add::<SleepersCalled>(place, word, 1);
+    lock.wake_all(word);
 }
 
 /// Waits for the turn of the place, and takes the value out.
@@ -90,7 +135,7 @@ pub(crate) fn acquire<V: Chronicle + Drop, R: Wait>(
     place: &mut Place<V>,
 ) -> V
     requires lock { IsPlaceOf lock.now.table_id place.old }
-    requires idle { (place.old.me.1 ≡ []) × (place.old.me.0.marked ≡ false) × (place.old.me.0.ticket ≡ None) }
+    requires free { IsFree place.old }
     ensures same { IsSamePlace place.old place.new }
     ensures empty { place.new.me.1 ≡ (0, None) ∷ [] }
     ensures turn { HasTurn V.origin V.entries V.number place.old.me.0 place.new.me.0 result }
@@ -105,7 +150,7 @@ pub(crate) fn release<V: Chronicle + Drop>(lock: &LockWords<V>, place: &mut Plac
     requires lock { IsPlaceOf lock.now.table_id place.old }
     requires turn { (place.old.me.1 ≡ (0, None) ∷ []) × (place.old.me.0.marked ≡ true) }
     requires origin { place.old.me.0.origin ≡ Some (V.origin value) }
-    requires history { (n : ℕ) × Contains (numbers_of place.old.me.0.own) n × Appends V.number n place.old.me.0.observed (V.entries value) }
+    requires history { GoesOn V.number place.old.me.0 (V.entries value) }
     ensures same { IsSamePlace place.old place.new }
     ensures passed { place.new.me ≡ (view_after_turn V.number (V.entries value) place.old.me.0, []) }
 {
@@ -116,7 +161,7 @@ pub(crate) fn release<V: Chronicle + Drop>(lock: &LockWords<V>, place: &mut Plac
 /// Draws the next number.
 pub(crate) fn draw_number<V: Chronicle + Drop>(lock: &LockWords<V>, place: &mut Place<V>)
     requires lock { IsPlaceOf lock.now.table_id place.old }
-    requires idle { (place.old.me.1 ≡ []) × (place.old.me.0.marked ≡ false) }
+    requires free { IsFree place.old }
     requires draws { (place.old.me.0.draws ≡ true) × (place.old.me.0.drawn ≡ false) }
     ensures same { IsSamePlace place.old place.new }
     ensures drawn { place.new.me ≡ (record place.old.me.0 { drawn = true }, []) }
@@ -131,8 +176,8 @@ pub(crate) fn join_handles<V: Chronicle + Drop>(
     other: Place<V>,
 )
     requires lock { IsPlaceOf lock.now.table_id place.old × IsPlaceOf lock.now.table_id other }
-    requires idle { (place.old.me.1 ≡ []) × (place.old.me.0.marked ≡ false) × (place.old.me.0.ticket ≡ None) }
-    requires other_idle { (other.me.1 ≡ []) × (other.me.0.marked ≡ false) × (other.me.0.ticket ≡ None) }
+    requires free { IsFree place.old }
+    requires other_free { IsFree other }
     ensures same { IsSamePlace place.old place.new }
     ensures joined { place.new.me ≡ (joined_view place.old.me.0 other.me.0, []) }
 {

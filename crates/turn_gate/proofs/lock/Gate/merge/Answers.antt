@@ -1,4 +1,4 @@
-use Rattle.std.proofs.Common.{ap, ◌∙◌, ◌≡◌}
+use Rattle.std.proofs.Common.{ap}
 use Rattle.turn_gate.proofs.Turned.{join_kept}
 use Rattle.turn_gate.proofs.lock.Gate.merge.Goals as goal
 
