@@ -39,7 +39,7 @@ module _ {V E O : Type 0} (origin : V → O) (entries : V → List E) (number : 
     turns = refl;
     queue = refl;
     queued = λ t low high. absurd (omega arith);
-    room = (omega arith, omega arith);
+    bounded = (omega arith, omega arith);
     numbered = All-nil (λ (e : E). number e < 1);
     keepers = λ n l. (opening_view start, refl, (let zero' : 0 ≡ n = omega arith in subst (λ (z : ℕ). Contains (0 ∷ []) z) zero' (0, omega arith, refl)));
     each = only (IsSound {V = V} {E = E} {O = O} number start c 1 (some (Some x) ∷ [])) (opening_view start) record {
@@ -57,7 +57,7 @@ module _ {V E O : Type 0} (origin : V → O) (entries : V → List E) (number : 
   pub draws_number : (slots id : ℕ) (me : Mine) → me.0.draws ≡ true → me.0.drawn ≡ false → me.0.marked ≡ false → Allows Rule slots id me 0 (λ n. (n + 1) % 2 ^ 64) (DrawsNumber (step slots 0 1 0 none) me)
   draws_number slots id me root nothing unmarked s h deep at small =
       let c : LockState E = h.lock in let v : HandleView E O = me.0 in let n : ℕ = (get_or s.words 0 0 + 1) % 2 ^ 64 in let w : HandleView E O = record v { drawn = true } in
-      let k = h.each id v at in let wide = h.wide in let r = k.draws root in let r₂ = r.2 in let none' : count_if v.drawn ≡ 0 = ap count_if nothing in let room₁ = h.room.1 in
+      let k = h.each id v at in let wide = h.wide in let r = k.draws root in let r₂ = r.2 in let none' : count_if v.drawn ≡ 0 = ap count_if nothing in let bounded₁ = h.bounded.1 in
       let next : get_or (set s.words 0 n) 0 0 ≡ c.given + 1 = get_or-set_same s.words 0 n 0 (omega arith) ∙ (let g : n ≡ c.given + 1 = omega arith in g) in
       let K : ℕ → HandleView E O → Type 0 = IsSound {V = V} {E = E} {O = O} number start c (get_or (set s.words 0 n) 0 0) s.homes in (
         w,
@@ -71,7 +71,7 @@ module _ {V E O : Type 0} (origin : V → O) (entries : V → List E) (number : 
           turns = get_or-set_other s.words 0 2 n 0 (omega arith) ∙ h.turns;
           queue = let more = waiting_set s.views id v w at in let queue = h.queue in omega arith;
           queued = λ t low high. at_stays (λ u. u.ticket ≡ Some t) s.views id v w (c.holder t) at (λ _ e. e) (h.queued t low high);
-          room = (rw (length-set s.views id w) h.room.0, h.room.1);
+          bounded = (rw (length-set s.views id w) h.bounded.0, h.bounded.1);
           numbered = h.numbered;
           keepers = λ m l. at_stays (λ u. Contains (numbers_of u.own) m) s.views id v w (c.keeper m) at (λ _ p. p) (h.keepers m l);
           each = each_stays K s.views id w record {
@@ -111,7 +111,7 @@ module _ {V E O : Type 0} (origin : V → O) (entries : V → List E) (number : 
           turns = h.turns;
           queue = let more = waiting_set s.views id v w at in let queue = h.queue in omega arith;
           queued = λ t low high. at_stays (λ u. u.ticket ≡ Some t) s.views id v w (c.holder t) at (λ _ e. e) (h.queued t low high);
-          room = (rw (length-set s.views id w) h.room.0, h.room.1);
+          bounded = (rw (length-set s.views id w) h.bounded.0, h.bounded.1);
           numbered = h.numbered;
           keepers = λ m l. at_stays (λ u. Contains (numbers_of u.own) m) s.views id v w (c.keeper m) at (λ _ p. p) (h.keepers m l);
           each = each_stays K s.views id w record {
@@ -135,7 +135,7 @@ module _ {V E O : Type 0} (origin : V → O) (entries : V → List E) (number : 
   pub splits_handle : (id : ℕ) (v : HandleView E O) → v.draws ≡ true → v.drawn ≡ true → v.given < 2 ^ 32 → v.ticket ≡ None → v.marked ≡ false → Splits Rule id v (giving_view v) (new_view v)
   splits_handle id v root drawn low free unmarked s h at =
       let c : LockState E = h.lock in let w : HandleView E O = giving_view v in let o : HandleView E O = new_view v in let k = h.each id v at in let r = k.draws root in let r₁ = r.1 in let r₂ = r.2 in
-      let one : count_if v.drawn ≡ 1 = ap count_if drawn in let room₀ = h.room.0 in
+      let one : count_if v.drawn ≡ 1 = ap count_if drawn in let bounded₀ = h.bounded.0 in
       let n : ℕ = length s.views in let vs : List (HandleView E O) = set s.views id w in let long : length vs ≡ n = length-set s.views id w in
       let c' : LockState E = record c { given = c.given + 1; keeper = put c.keeper c.given n } in
       let K : ℕ → HandleView E O → Type 0 = IsSound {V = V} {E = E} {O = O} number start c' (get_or s.words 0 0) s.homes in
@@ -185,7 +185,7 @@ module _ {V E O : Type 0} (origin : V → O) (entries : V → List E) (number : 
         turns = h.turns;
         queue = let more = waiting_set s.views id v w at in let last = waiting_more vs o in let queue = h.queue in omega arith;
         queued = λ t low' high. at_stays_longer (λ u. u.ticket ≡ Some t) vs o (c.holder t) (at_stays (λ u. u.ticket ≡ Some t) s.views id v w (c.holder t) at (λ _ e. e) (h.queued t low' high));
-        room = (let more = length-append vs (o ∷ []) in (let g : length (vs ++ o ∷ []) ≤ c.given + 1 = omega arith in g), (let g : c.given + 1 ≤ 2 ^ 32 = omega arith in g));
+        bounded = (let more = length-append vs (o ∷ []) in (let g : length (vs ++ o ∷ []) ≤ c.given + 1 = omega arith in g), (let g : c.given + 1 ≤ 2 ^ 32 = omega arith in g));
         numbered = All-weaker (λ (e : E). number e < c.given) (λ (e : E). number e < c.given + 1) (λ e l. omega arith) c.published h.numbered;
         keepers = λ m l. dite (ℕ_discrete m c.given)
             (λ last. (o, ap (get_elem? (vs ++ o ∷ [])) (ap (put c.keeper c.given n) last ∙ put_here c.keeper c.given n) ∙ at_last vs o n long, (let same : v.given ≡ m = r.1 ∙ sym last in subst (λ (z : ℕ). Contains (v.given ∷ []) z) same (0, omega arith, refl))))
@@ -256,7 +256,7 @@ module _ {V E O : Type 0} (origin : V → O) (entries : V → List E) (number : 
         turns = h.turns;
         queue = let one = waiting_set s.views id v b at in let two = waiting_set vs other w o there in let queue = h.queue in let z : count_some w.ticket ≡ 0 = ap count_some free' in omega arith;
         queued = λ t low high. at_stays (λ u. u.ticket ≡ Some t) vs other w o (c.holder t) there (λ _ e. let no : None ≡ Some t = sym free' ∙ e in absurd (cc)) (at_stays (λ u. u.ticket ≡ Some t) s.views id v b (c.holder t) at (λ _ e. e) (h.queued t low high));
-        room = (rw (length-set vs other o, length-set s.views id b) h.room.0, h.room.1);
+        bounded = (rw (length-set vs other o, length-set s.views id b) h.bounded.0, h.bounded.1);
         numbered = h.numbered;
         keepers = λ m l. keeps_on m (h.keepers m l);
         each = each_stays K vs other o gone (λ j u far e. rest j u e far);

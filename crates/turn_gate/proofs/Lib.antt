@@ -3,5 +3,5 @@ pub mod Entries
 pub mod Views
 pub mod TurnKept
 pub mod HandlesKept
-pub mod Turned
+pub mod AfterCalls
 pub mod Additions

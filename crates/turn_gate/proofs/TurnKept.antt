@@ -54,7 +54,7 @@ module _ {V E O : Type 0} (origin : V → O) (entries : V → List E) (number : 
               (λ new. (w, ap (get_elem? (set s.views id w)) (ap (put c.holder t id) new ∙ put_here c.holder t id) ∙ set_at s.views id v w at, ap Some (sym new)))
               (λ old. subst (λ (z : ℕ). IsAt (set s.views id w) z (λ u. u.ticket ≡ Some r)) (sym (put_else c.holder t id r old))
               (at_stays (λ u. u.ticket ≡ Some r) s.views id v w (c.holder r) at (λ _ e. absurd (none' r e)) (h.queued r low (omega arith))));
-          room = (rw (length-set s.views id w) h.room.0, h.room.1);
+          bounded = (rw (length-set s.views id w) h.bounded.0, h.bounded.1);
           numbered = h.numbered;
           keepers = λ m l. at_stays (λ u. Contains (numbers_of u.own) m) s.views id v w (c.keeper m) at (λ _ p. p) (h.keepers m l);
           each = each_stays K s.views id w record {
@@ -82,7 +82,7 @@ module _ {V E O : Type 0} (origin : V → O) (entries : V → List E) (number : 
   pub looks_for_turn : (slots id : ℕ) (me : Mine) (t : ℕ) → me.1 ≡ [] → me.0.marked ≡ false → me.0.ticket ≡ Some t → Allows Rule slots id me 2 (λ n. n) (LooksForTurn origin entries number (step slots 2 0 0 none) me)
   looks_for_turn slots id me t bare unmarked is s h deep at small =
       let c : LockState E = h.lock in let v : HandleView E O = me.0 in let n : ℕ = get_or s.words 2 0 in let k = h.each id v at in let here = h.deep in dite (ℕ_discrete n (t % 2 ^ 64))
-      (λ hit. let q = k.ticket t is in let q₀ = q.0 in let q₁ = q.1 in let fits = waiting_fits s.views in let queue = h.queue in let room₀ = h.room.0 in let room₁ = h.room.1 in
+      (λ hit. let q = k.ticket t is in let q₀ = q.0 in let q₁ = q.1 in let fits = waiting_fits s.views in let queue = h.queue in let bounded₀ = h.bounded.0 in let bounded₁ = h.bounded.1 in
       let my_turn : c.served ≡ t = one_turn c.served t (2 ^ 64) (omega arith) (omega arith) (sym h.turns ∙ hit) in
       let none' : (j : ℕ) (u : HandleView E O) → get_elem? s.views j ≡ some u → u.marked ≡ false = (λ j u a. ⊎_elim (λ (m : u.marked ≡ true). let g = h.each j u a in let mk = (g.mark m).0 in let tk = g.ticket c.served mk in
       let same : j ≡ id = sym tk.2 ∙ (ap c.holder my_turn ∙ q.2) in
@@ -100,7 +100,7 @@ module _ {V E O : Type 0} (origin : V → O) (entries : V → List E) (number : 
           turns = h.turns;
           queue = let more = waiting_set s.views id v w at in omega arith;
           queued = λ r low high. at_stays (λ u. u.ticket ≡ Some r) s.views id v w (c.holder r) at (λ _ e. e) (h.queued r low high);
-          room = (rw (length-set s.views id w) h.room.0, h.room.1);
+          bounded = (rw (length-set s.views id w) h.bounded.0, h.bounded.1);
           numbered = h.numbered;
           keepers = λ m l. at_stays (λ u. Contains (numbers_of u.own) m) s.views id v w (c.keeper m) at (λ _ p. p) (h.keepers m l);
           each = each_stays K s.views id w record {
@@ -158,7 +158,7 @@ module _ {V E O : Type 0} (origin : V → O) (entries : V → List E) (number : 
           turns = stays 2 (omega arith) ∙ h.turns;
           queue = h.queue;
           queued = h.queued;
-          room = h.room;
+          bounded = h.bounded;
           numbered = h.numbered;
           keepers = h.keepers;
           each = λ j u e. subst (λ (drawn : ℕ). IsSound {V = V} {E = E} {O = O} number start h.lock drawn s.homes j u) (sym (stays 0 (omega arith))) (h.each j u e);
@@ -188,7 +188,7 @@ module _ {V E O : Type 0} (origin : V → O) (entries : V → List E) (number : 
           queue = let more = waiting_set s.views id v w at in let one : count_some v.ticket ≡ 1 = ap count_some mk.0 in let g : c.served + 1 + waiting (set s.views id w) ≡ c.issued = omega arith in g;
           queued = λ r low' high. at_stays (λ u. u.ticket ≡ Some r) s.views id v w (c.holder r) at
               (λ _ e. let same : c.served ≡ r = ap (the_ticket r) (sym mk.0 ∙ e) in absurd (omega arith)) (h.queued r (omega arith) high);
-          room = (rw (length-set s.views id w) h.room.0, h.room.1);
+          bounded = (rw (length-set s.views id w) h.bounded.0, h.bounded.1);
           numbered = All-same (λ a. number a < c.given) (entries x) (c.published ++ grown.0) grown.2 (⊎_elim
               (λ (e : grown.0 ≡ []). All-same (λ a. number a < c.given) (c.published ++ grown.0) c.published (ap (λ (l : List E). c.published ++ l) e ∙ append-nil c.published) h.numbered)
               (λ (e : (a : E) × (number a ≡ m) × (grown.0 ≡ a ∷ [])). All-same (λ a. number a < c.given) (c.published ++ grown.0) (c.published ++ e.0 ∷ []) (ap (λ (l : List E). c.published ++ l) e.2)

@@ -85,7 +85,7 @@ module _ {V E O : Type 0} (origin : V → O) (entries : V → List E) (number : 
     pub queue : lock.served + waiting s.views ≡ lock.issued
     pub queued : (t : ℕ) → lock.served ≤ t → t < lock.issued → IsAt s.views (lock.holder t) (λ v. v.ticket ≡ Some t)
     -- so no two tickets of the queue are equal modulo 2 ^ 64
-    pub room : (length s.views ≤ lock.given) × (lock.given ≤ 2 ^ 32)
+    pub bounded : (length s.views ≤ lock.given) × (lock.given ≤ 2 ^ 32)
     pub numbered : All (λ e. number e < lock.given) lock.published
     -- each number that was given is kept by a view
     pub keepers : (n : ℕ) → n < lock.given → IsAt s.views (lock.keeper n) (λ v. Contains (numbers_of v.own) n)

@@ -7,9 +7,8 @@ ghost use Rattle.turn_gate.specs.Handles.{first_handle, new_handle, TakesTurn};
 use crate::chronicle::Chronicle;
 use crate::handle::GateSeat;
 use crate::operation::Deed;
-use crate::outcomes::HandleSplit;
 use crate::steps::{
-    NUMBERS, WORDS, acquire, compare_histories, draw_number, join_handles, release,
+    NUMBERS, WORDS, acquire, compare_histories, draw_number, join_handles, release, split_handle,
 };
 use crate::view::{HandleView, LockRule};
 use atomic_table::{Refused, Table};
@@ -89,7 +88,7 @@ impl<V: Chronicle + Send + Drop> Gate<V> {
         let _ = alloc;
         let lock = &self.table.shared;
         draw_number(lock, &mut root.place);
-        let mut place = lock.split_seat::<HandleSplit>(&mut root.place);
+        let mut place = split_handle(lock, &mut root.place);
         compare_histories(lock, &mut place);
         root.given += 1;
         Ok(GateSeat {

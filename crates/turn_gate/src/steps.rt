@@ -1,12 +1,12 @@
 //! The steps of the rule, and what a handle knows after each.
 ghost use Rattle.std.specs.Prelude.{◌≡◌, ℕ, ◌%◌, ◌^◌, ◌<◌, ◌≤◌, true, false, [], ◌∷◌, Some, None};
 ghost use Rattle.turn_gate.specs.TicketLockRule.{IsSized, IsPlaceOf, IsSamePlace, IsFree, GoesOn};
-ghost use Rattle.turn_gate.specs.Outcomes.{HasTurn, view_after_turn, joined_view, AreCompared};
+ghost use Rattle.turn_gate.specs.Outcomes.{HasTurn, view_after_turn, giving_view, new_view, joined_view, AreCompared};
 
 use crate::chronicle::Chronicle;
 use crate::outcomes::{
-    HandlesJoined, HistoriesCompared, NumberDrawn, SleepersCalled, TicketTaken, TurnLookedUp,
-    TurnPassed,
+    HandleSplit, HandlesJoined, HistoriesCompared, NumberDrawn, SleepersCalled, TicketTaken,
+    TurnLookedUp, TurnPassed,
 };
 use crate::view::{LockWords, Place};
 use std::sync::Wait;
@@ -167,6 +167,22 @@ pub(crate) fn draw_number<V: Chronicle + Drop>(lock: &LockWords<V>, place: &mut 
     ensures drawn { place.new.me ≡ (record place.old.me.0 { drawn = true }, []) }
 {
     lock.fetch_add::<NumberDrawn>(place, NUMBERS, 1);
+}
+
+/// Cuts off a place for a new handle, with the number that was drawn.
+pub(crate) fn split_handle<V: Chronicle + Drop>(
+    lock: &LockWords<V>,
+    place: &mut Place<V>,
+) -> Place<V>
+    requires lock { IsPlaceOf lock.now.table_id place.old }
+    requires free { IsFree place.old }
+    requires draws { (place.old.me.0.draws ≡ true) × (place.old.me.0.drawn ≡ true) }
+    requires given { place.old.me.0.given < 2 ^ 32 }
+    ensures same { IsSamePlace place.old place.new × (result.table_id ≡ place.old.table_id) }
+    ensures left { place.new.me ≡ (giving_view place.old.me.0, []) }
+    ensures new { result.me ≡ (new_view place.old.me.0, []) }
+{
+    lock.split_seat::<HandleSplit>(place)
 }
 
 /// Makes two places one.

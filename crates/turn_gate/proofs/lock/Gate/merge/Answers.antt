@@ -1,5 +1,5 @@
 use Rattle.std.proofs.Common.{ap}
-use Rattle.turn_gate.proofs.Turned.{join_kept}
+use Rattle.turn_gate.proofs.AfterCalls.{join_kept}
 use Rattle.turn_gate.proofs.lock.Gate.merge.Goals as goal
 
 pub invariant_of-into : goal.invariant_of-into

@@ -1,5 +1,5 @@
 use Rattle.std.proofs.Common.{rules, refl, ap, ◌≡◌}
-use Rattle.turn_gate.proofs.Turned.{turn_taken, turn_kept}
+use Rattle.turn_gate.proofs.AfterCalls.{turn_taken, turn_kept}
 use Rattle.turn_gate.proofs.lock.Gate.turn.Goals as goal
 
 pub invariant_of-seat : goal.invariant_of-seat
