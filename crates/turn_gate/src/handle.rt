@@ -1,6 +1,6 @@
 //! The handles of a lock.
-ghost use Rattle.std.specs.Prelude.{◌≡◌, ◌≢◌, ℕ, ◌<◌, All, Contains, IsSome, [], false, None};
-ghost use Rattle.turn_gate.specs.Handles.{IsIdle, HandleState, state_of, KeepsNumber, IsDrawer};
+ghost use Rattle.std.specs.Prelude.{◌≡◌, ◌<◌, All, Contains};
+ghost use Rattle.turn_gate.specs.Handles.{IsIdle};
 ghost use Rattle.turn_gate.specs.Histories.{IsExact, numbers_of};
 
 use crate::chronicle::Chronicle;
@@ -9,7 +9,8 @@ use std::marker::Model;
 
 /// A lock handle: the right to ask for turns.
 ///
-/// Contracts see it as a `HandleState`. Between two calls it holds no ticket and no turn.
+/// Contracts see it as a `HandleState`. Between two calls it holds no ticket and no turn. Where a handle is dropped its
+/// entries stay in the history, and no other handle gets its number.
 #[derive(Drop)]
 pub struct GateSeat<V: Chronicle> {
     pub(crate) place: Place<V>,
@@ -27,7 +28,10 @@ impl<V: Chronicle> Model for GateSeat<V> {
 
     ghost view = { λ s. state_of s.place s.number s.given s.idle };
 
-    ghost invariant = { λ s. KeepsNumber s.place.me.0 s.number × IsDrawer s.place.me.0 s.number s.given × All (IsExact V.number s.place.me.0.observed) s.place.me.0.own };
+    ghost invariant = { λ s.
+        KeepsNumber s.place.me.0 s.number
+        × IsDrawer s.place.me.0 s.number s.given
+        × All (IsExact V.number s.place.me.0.observed) s.place.me.0.own };
 }
 
 impl<V: Chronicle> GateSeat<V> {

@@ -50,6 +50,7 @@ impl<V: Chronicle + Send + Drop> Gate<V> {
         ensures err { IfErr result (λ refusal. refusal.value ≡ value) }
     {
         let about = Snapshot::of(&value);
+        // The number 0 is given to the first handle.
         let mut words = [0; WORDS];
         words[NUMBERS] = 1;
         let mut slots = Vec::new(alloc);
@@ -83,7 +84,7 @@ impl<V: Chronicle + Send + Drop> Gate<V> {
         ensures exact { IfOk result (λ seat. All (IsExact V.number seat.observed) seat.own) }
         ensures given { OnOk result (root.new ≡ record root.old { given = root.old.given + 1 }) }
         ensures err { OnErr result (root.new ≡ root.old) }
-        ensures always { IsOk result }
+        ensures never_refused { IsOk result }
     {
         let _ = alloc;
         let lock = &self.table.shared;
@@ -103,7 +104,8 @@ impl<V: Chronicle + Send + Drop> Gate<V> {
         requires gate { seat.old.gate ≡ self.now }
         requires origin { D.origin deed ≡ seat.old.origin }
         requires known { IsPrefix (D.known deed) seat.old.observed }
-        ensures turn { TakesTurn V.number (λ before after. D.relates deed before result after) seat.old seat.new }
+        ensures turn { TakesTurn V.number (λ before after. D.relates deed before result after)
+            seat.old seat.new }
         ensures exact { All (IsExact V.number seat.new.observed) seat.new.own }
         ensures same { seat.new ≡ record seat.old { observed = seat.new.observed; own = seat.new.own } }
     {
@@ -120,7 +122,8 @@ impl<V: Chronicle + Send + Drop> Gate<V> {
     pub fn merge(&self, into: &mut GateSeat<V>, from: GateSeat<V>)
         requires gate { (into.old.gate ≡ self.now) × (from.gate ≡ self.now) }
         ensures observed { into.new.observed ≡ longer into.old.observed from.observed }
-        ensures begins { IsPrefix into.old.observed into.new.observed × IsPrefix from.observed into.new.observed }
+        ensures begins { IsPrefix into.old.observed into.new.observed }
+        ensures from_begins { IsPrefix from.observed into.new.observed }
         ensures own { into.new.own ≡ into.old.own ++ from.own }
         ensures exact { All (IsExact V.number into.new.observed) into.new.own }
         ensures same { into.new ≡ record into.old { observed = into.new.observed; own = into.new.own } }

@@ -32,7 +32,8 @@ fn take_ticket<V: Chronicle + Drop>(lock: &LockWords<V>, place: &mut Place<V>) -
     requires lock { IsPlaceOf lock.now.table_id place.old }
     requires free { IsFree place.old }
     ensures same { IsSamePlace place.old place.new }
-    ensures ticket { (t : ℕ) × (result ≡ t % 2 ^ 64) × (place.new.me ≡ (record place.old.me.0 { ticket = Some t }, [])) }
+    ensures ticket { (t : ℕ) × (result ≡ t % 2 ^ 64)
+        × (place.new.me ≡ (record place.old.me.0 { ticket = Some t }, [])) }
 {
     lock.fetch_add::<TicketTaken>(place, TICKETS, 1)
 }
@@ -66,7 +67,8 @@ fn await_turn<V: Chronicle + Drop, R: Wait>(
     requires ticket { (t : ℕ) × (ticket ≡ t % 2 ^ 64) × (place.old.me.0.ticket ≡ Some t) }
     requires idle { (place.old.me.1 ≡ []) × (place.old.me.0.marked ≡ false) }
     ensures same { IsSamePlace place.old place.new }
-    ensures turn { (x : V) × (place.new.me.1 ≡ (0, Some x) ∷ []) × HasTurn V.origin V.entries V.number place.old.me.0 place.new.me.0 x }
+    ensures turn { (x : V) × (place.new.me.1 ≡ (0, Some x) ∷ [])
+        × HasTurn V.origin V.entries V.number place.old.me.0 place.new.me.0 x }
 {
     let word = sleep_word(ticket);
     for _ in rt.forever() {
@@ -106,9 +108,11 @@ fn return_value<V: Chronicle + Drop>(lock: &LockWords<V>, place: &mut Place<V>, 
 fn pass_turn<V: Chronicle + Drop>(lock: &LockWords<V>, place: &mut Place<V>)
     requires lock { IsPlaceOf lock.now.table_id place.old }
     requires turn { place.old.me.0.marked ≡ true }
-    requires value { (x : V) × (place.old.me.1 ≡ (0, Some x) ∷ []) × (place.old.me.0.origin ≡ Some (V.origin x)) × GoesOn V.number place.old.me.0 (V.entries x) }
+    requires value { (x : V) × (place.old.me.1 ≡ (0, Some x) ∷ []) × (place.old.me.0.origin ≡ Some (V.origin x))
+        × GoesOn V.number place.old.me.0 (V.entries x) }
     ensures same { IsSamePlace place.old place.new }
-    ensures passed { (x : V) → place.old.me.1 ≡ (0, Some x) ∷ [] → place.new.me ≡ (view_after_turn V.number (V.entries x) place.old.me.0, []) }
+    ensures passed { (x : V) → place.old.me.1 ≡ (0, Some x) ∷ []
+        → place.new.me ≡ (view_after_turn V.number (V.entries x) place.old.me.0, []) }
 {
     let served = lock.fetch_add::<TurnPassed>(place, SERVED, 1);
     let next = served.wrapping_add(1);
