@@ -9,6 +9,8 @@ pub enum Case {
     Baseline,
     /// What two segments have in common; the size is how often a million pairs are gone over.
     Segments,
+    /// Turns under the ticket lock: the size is the number of threads.
+    Turns,
 }
 
 impl Case {
@@ -17,6 +19,7 @@ impl Case {
         match name {
             "baseline" => Some(Case::Baseline),
             "segments" => Some(Case::Segments),
+            "turns" => Some(Case::Turns),
             _ => None,
         }
     }
@@ -27,6 +30,7 @@ impl fmt::Display for Case {
         f.write_str(match self {
             Case::Baseline => "baseline",
             Case::Segments => "segments",
+            Case::Turns => "turns",
         })
     }
 }

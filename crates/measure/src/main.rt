@@ -7,31 +7,40 @@
 mod baseline;
 mod case;
 mod segments;
+mod turns;
 
 use case::Case;
 use std::alloc::{AllocError, Global};
 use std::process::ExitCode;
 use std::rt::{Clock, Env};
+use std::sync::Wait;
+use std::thread::Threads;
 use std::time::Instant;
 use std::{env, io};
 
 /// The number that the case computed from `size` items.
-fn outcome(alloc: Global, case: Case, size: u32) -> Result<u64, AllocError> {
+fn outcome<R: Threads + Wait + Sync>(
+    rt: &R,
+    alloc: Global,
+    case: Case,
+    size: u32,
+) -> Result<u64, AllocError> {
     match case {
         Case::Baseline => baseline::byte_sum(alloc, size),
         Case::Segments => segments::meetings(alloc, size),
+        Case::Turns => turns::sum_of_numbers(rt, alloc, size),
     }
 }
 
 /// Times one case and prints what it computed.
-fn measure(
-    rt: &(impl Print + Eprint + Clock),
+fn measure<R: Print + Eprint + Clock + Threads + Wait + Sync>(
+    rt: &R,
     alloc: Global,
     case: Case,
     size: u32,
 ) -> io::Result<()> {
     let start = Instant::now(rt)?;
-    let outcome = outcome(alloc, case, size)?;
+    let outcome = outcome(rt, alloc, case, size)?;
     let nanoseconds = start.elapsed(rt)?.as_nanos();
     println!(rt; "{case} {size} {outcome}")?;
     eprintln!(rt; "{nanoseconds} ns")

@@ -1,0 +1,4 @@
+pub mod Histories
+pub mod TicketLockRule
+pub mod Outcomes
+pub mod Handles
