@@ -3,3 +3,4 @@ pub mod Puts
 pub mod Edges
 pub mod Ranges
 pub mod WordLists
+pub mod Outcomes

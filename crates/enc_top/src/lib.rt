@@ -11,3 +11,6 @@ mod words;
 
 pub use status::{Status, print_status};
 pub use top::{run, run_plain};
+
+#[cfg(test)]
+mod tests;

@@ -1,0 +1,219 @@
+mod minimal;
+mod stored;
+
+use super::*;
+use enc_outside::{MemShelf, MemSink, NoMeet};
+use minimal::{head_file, minimal_file};
+use s57_types::{CellFault, Text};
+use std::alloc::Global;
+use std::test::Fail;
+
+/// What `check` prints of the minimal cell.
+const REPORT: &[u8] =
+    b"cell vi 0 vc 2 ve 2 fe 0\nfindings 2\nrec ve 2 EndCount 1 0 1\nrec ve 2 DanglingEnd 1\nend\n";
+
+/// Words from a text with spaces between them.
+fn words(alloc: Global, text: &str) -> Result<Vec<String>, Fail> {
+    let mut words = Vec::new(alloc);
+    for word in text.split_whitespace() {
+        words.push(String::from_str(alloc, word)?)?;
+    }
+    Ok(words)
+}
+
+/// A file store with one file.
+fn shelf_of(alloc: Global, bytes: &[u8]) -> Result<MemShelf, Fail> {
+    let mut shelf = MemShelf::make(alloc);
+    shelf.place("CELL", bytes)?;
+    Ok(shelf)
+}
+
+#[test]
+fn the_stored_file_is_built_from_the_descriptions(rt: HostRuntime) -> Result<(), Fail> {
+    let file = minimal_file(rt.alloc())?;
+    assert_eq!(rt; file.len(), 2070);
+    let mut stored = Vec::new(rt.alloc());
+    for row in stored::ROWS {
+        stored.extend_from_slice(row)?;
+    }
+    assert_eq!(rt; file.as_slice(), stored.as_slice());
+    Ok(())
+}
+
+#[test]
+fn a_minimal_cell_is_checked(rt: HostRuntime) -> Result<(), Fail> {
+    let cases = [
+        (minimal_file(rt.alloc())?, REPORT),
+        (
+            head_file(rt.alloc())?,
+            b"cell vi 0 vc 0 ve 0 fe 0\nfindings 0\nend\n".as_slice(),
+        ),
+    ];
+    for (file, report) in &cases {
+        let mut shelf = shelf_of(rt.alloc(), file)?;
+        let mut out = MemSink::make(rt.alloc());
+        let status = run(
+            &rt,
+            rt.alloc(),
+            &words(rt.alloc(), "check CELL")?,
+            &mut shelf,
+            &mut out,
+            &NoMeet,
+        );
+        assert_eq!(rt; status.number(), 0);
+        assert_eq!(rt; out.bytes(), *report);
+        assert_eq!(rt; shelf.file("CELL").ok_or("it stays")?, file.as_slice());
+    }
+    Ok(())
+}
+
+#[test]
+fn words_are_of_five_forms(rt: HostRuntime) -> Result<(), Fail> {
+    let cases = [
+        ("", 2),
+        ("check", 2),
+        ("check A B", 2),
+        ("room A O", 2),
+        ("make 0 X", 2),
+        ("make 101 X", 2),
+        ("make 01 X", 2),
+        ("make 1", 2),
+        ("drill 1 17", 2),
+        ("drill 0 1", 2),
+        ("replay A O R", 2),
+        ("replay A O R 1 2 3 4 5 6 7 8 9 10 11 12 13 14 15 16 17", 2),
+        ("--help", 2),
+        ("CHECK A", 2),
+        ("drill 100 16", 13),
+        ("make 100 X", 13),
+        ("make 1 X", 13),
+        ("room A O S", 13),
+        ("replay A O R S", 13),
+        ("check NONE", 3),
+    ];
+    for (text, number) in cases {
+        let mut shelf = MemShelf::make(rt.alloc());
+        let mut out = MemSink::make(rt.alloc());
+        let status = run_plain(
+            &rt,
+            rt.alloc(),
+            &words(rt.alloc(), text)?,
+            &mut shelf,
+            &mut out,
+        );
+        assert_eq!(rt; status.number(), number, "{text}");
+        assert!(rt; out.bytes().is_empty());
+    }
+    Ok(())
+}
+
+#[test]
+fn other_files_are_not_minimal(rt: HostRuntime) -> Result<(), Fail> {
+    let whole = minimal_file(rt.alloc())?;
+    let mut with_feature = minimal_file(rt.alloc())?;
+    with_feature.extend_from_slice(
+        b"00055 D     00039   12040001300FRID133\x1e\x07\x00\x1e\x64\x01\x00\x00\x00\x01\x01\x2a\x00\x01\x00\x01\x1e",
+    )?;
+    let mut twice = minimal_file(rt.alloc())?;
+    twice.extend_from_slice(whole.get(1785..1852).ok_or("it is long")?)?;
+    let cases = [
+        (whole.get(..2069).ok_or("it is long")?, 13),
+        (b"".as_slice(), 13),
+        (with_feature.as_slice(), 13),
+        (twice.as_slice(), 13),
+    ];
+    for (bytes, number) in cases {
+        let mut shelf = shelf_of(rt.alloc(), bytes)?;
+        let mut out = MemSink::make(rt.alloc());
+        let status = run_plain(
+            &rt,
+            rt.alloc(),
+            &words(rt.alloc(), "check CELL")?,
+            &mut shelf,
+            &mut out,
+        );
+        assert_eq!(rt; status.number(), number);
+        assert!(rt; out.bytes().is_empty());
+    }
+    Ok(())
+}
+
+#[test]
+fn a_file_over_its_limit_is_too_large(rt: HostRuntime) -> Result<(), Fail> {
+    let zeros = vec![in rt.alloc(); 0u8; 16_777_217]?;
+    let mut shelf = shelf_of(rt.alloc(), &zeros)?;
+    let mut out = MemSink::make(rt.alloc());
+    let status = run_plain(
+        &rt,
+        rt.alloc(),
+        &words(rt.alloc(), "check CELL")?,
+        &mut shelf,
+        &mut out,
+    );
+    assert_eq!(rt; status.number(), 8);
+    Ok(())
+}
+
+#[test]
+fn each_failing_call_has_its_status(rt: HostRuntime) -> Result<(), Fail> {
+    let file = minimal_file(rt.alloc())?;
+    let check = words(rt.alloc(), "check CELL")?;
+    for call in 1..4u64 {
+        let mut shelf = shelf_of(rt.alloc(), &file)?;
+        shelf.fail_at(call);
+        let mut out = MemSink::make(rt.alloc());
+        let status = run_plain(&rt, rt.alloc(), &check, &mut shelf, &mut out);
+        assert_eq!(rt; status.number(), if call < 3 { 6 } else { 0 });
+        assert_eq!(rt; out.bytes().is_empty(), call < 3);
+        assert_eq!(rt; shelf.file("CELL").ok_or("it stays")?, file.as_slice());
+        let mut out = MemSink::make(rt.alloc());
+        out.fail_at(call);
+        let status = run_plain(
+            &rt,
+            rt.alloc(),
+            &check,
+            &mut shelf_of(rt.alloc(), &file)?,
+            &mut out,
+        );
+        assert_eq!(rt; status.number(), if call == 1 { 7 } else { 0 });
+        assert_eq!(rt; out.bytes().is_empty(), call == 1);
+    }
+    Ok(())
+}
+
+#[test]
+fn each_status_has_its_line(rt: HostRuntime) -> Result<(), Fail> {
+    let name = || -> Result<Text, Fail> { Ok(Text::of_vec(Vec::from_slice(rt.alloc(), b"CELL")?)) };
+    let fault = CellFault {
+        number: 13,
+        offset: 2488,
+        code: 1,
+    };
+    let cases = [
+        (Status::Done, ""),
+        (Status::Usage, "enc_cell: usage\n"),
+        (Status::Absent(name()?), "enc_cell: absent CELL\n"),
+        (
+            Status::BadCell(fault),
+            "enc_cell: bad cell record 13 offset 2488 code 1\n",
+        ),
+        (
+            Status::BadScript(1, 2, 3),
+            "enc_cell: bad script session 1 line 2 code 3\n",
+        ),
+        (Status::ReadFault(name()?), "enc_cell: read fault CELL\n"),
+        (Status::WriteFault, "enc_cell: write fault\n"),
+        (Status::TooLarge(name()?), "enc_cell: too large CELL\n"),
+        (Status::NoMemory, "enc_cell: no memory\n"),
+        (Status::BadOrder(6), "enc_cell: bad order place 6\n"),
+        (Status::Stuck(1, 2), "enc_cell: stuck desk 1 serial 2\n"),
+        (Status::TooManyFindings, "enc_cell: too many findings\n"),
+        (Status::NotYet, "enc_cell: not yet\n"),
+    ];
+    for (status, line) in &cases {
+        let mut out = Vec::new(rt.alloc());
+        print_status(rt.alloc(), status, &mut out)?;
+        assert_eq!(rt; out.as_slice(), line.as_bytes());
+    }
+    Ok(())
+}
