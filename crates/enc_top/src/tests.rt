@@ -1,10 +1,12 @@
 mod minimal;
+mod slow;
 mod stored;
 
 use super::*;
 use enc_outside::{MemShelf, MemSink, NoMeet};
 use minimal::{head_file, minimal_file};
 use s57_types::{CellFault, Text};
+use slow::{SlowShelf, SlowSink};
 use std::alloc::Global;
 use std::test::Fail;
 
@@ -215,5 +217,26 @@ fn each_status_has_its_line(rt: HostRuntime) -> Result<(), Fail> {
         print_status(rt.alloc(), status, &mut out)?;
         assert_eq!(rt; out.as_slice(), line.as_bytes());
     }
+    Ok(())
+}
+
+#[test]
+fn one_byte_at_a_time_gives_the_same(rt: HostRuntime) -> Result<(), Fail> {
+    let alloc = rt.alloc();
+    let mut shelf = SlowShelf {
+        inner: shelf_of(alloc, &minimal_file(alloc)?)?,
+    };
+    let mut out = SlowSink {
+        inner: MemSink::make(alloc),
+    };
+    let status = run_plain(
+        &rt,
+        alloc,
+        &words(alloc, "check CELL")?,
+        &mut shelf,
+        &mut out,
+    );
+    assert_eq!(rt; status.number(), 0);
+    assert_eq!(rt; out.inner.bytes(), REPORT);
     Ok(())
 }
