@@ -12,3 +12,6 @@ pub use head::{read_dsid, read_dspm, read_dssi};
 pub use refusal::FieldRefusal;
 pub use s57_types::{Dsid, Dspm, Dssi, Frid, Vrid};
 pub use vector::{read_sg2d, read_vrid, read_vrpt};
+
+#[cfg(test)]
+mod tests;
