@@ -33,6 +33,7 @@ cut_row-cons f fs b = taken (front f b)
     mapped : (x : Subfield) (cut : Option (List Subfield × List ℕ)) → option_map (λ y. (x ∷ y.0, y.1)) cut ≡ with_row (x ∷ []) cut
     mapped x None = refl
     mapped x (Some y) = refl
+
     taken : (t : Option (Subfield × List ℕ)) → option_and_then (λ x. option_map (λ y. (x.0 ∷ y.0, y.1)) (cut_row fs x.1)) t ≡ then_row fs t
     taken None = refl
     taken (Some x) = mapped x.0 (cut_row fs x.1)

@@ -83,8 +83,20 @@ lnam_in row = record { agen = number_in row 0; fidn = number_in row 1; fids = nu
 
 abbrev pub dsid_value : List Subfield → Dsid
 dsid_value row = record {
-  rcid = number_in row 1; expp = number_in row 2; intu = number_in row 3; dsnm = text_in row 4; edtn = text_in row 5; updn = text_in row 6; uadt = text_in row 7;
-  isdt = text_in row 8; sted = text_in row 9; prsp = number_in row 10; psdn = text_in row 11; pred = text_in row 12; prof = number_in row 13; agen = number_in row 14;
+  rcid = number_in row 1;
+  expp = number_in row 2;
+  intu = number_in row 3;
+  dsnm = text_in row 4;
+  edtn = text_in row 5;
+  updn = text_in row 6;
+  uadt = text_in row 7;
+  isdt = text_in row 8;
+  sted = text_in row 9;
+  prsp = number_in row 10;
+  psdn = text_in row 11;
+  pred = text_in row 12;
+  prof = number_in row 13;
+  agen = number_in row 14;
   comt = text_in row 15;
 }
 
@@ -94,20 +106,37 @@ dsid_content = row_as dsid_value dsid_forms (λ row. number_in row 0 == 10)
 -- the lexical levels are AALL, 0 or 1, and NALL, from 0 to 2 (S-57 Part 3, 2.4)
 unfoldable pub dssi_content : List ℕ → Result Dssi FieldFault
 dssi_content = row_as (λ row. record {
-    dstr = number_in row 0; aall = number_in row 1; nall = number_in row 2;
-    counts = number_in row 3 ∷ number_in row 4 ∷ number_in row 5 ∷ number_in row 6 ∷ number_in row 7 ∷ number_in row 8 ∷ number_in row 9 ∷ number_in row 10 ∷ [];
-  }) dssi_forms (λ row. nat_le (number_in row 1) 1 && nat_le (number_in row 2) 2)
+  dstr = number_in row 0;
+  aall = number_in row 1;
+  nall = number_in row 2;
+  counts = number_in row 3 ∷ number_in row 4 ∷ number_in row 5 ∷ number_in row 6 ∷ number_in row 7 ∷ number_in row 8 ∷ number_in row 9 ∷ number_in row 10 ∷ [];
+}) dssi_forms (λ row. nat_le (number_in row 1) 1 && nat_le (number_in row 2) 2)
 
 unfoldable pub dspm_content : List ℕ → Result Dspm FieldFault
 dspm_content = row_as (λ row. record {
-    rcid = number_in row 1; hdat = number_in row 2; vdat = number_in row 3; sdat = number_in row 4; cscl = number_in row 5; duni = number_in row 6;
-    huni = number_in row 7; puni = number_in row 8; coun = number_in row 9; comf = number_in row 10; somf = number_in row 11; comt = text_in row 12;
-  }) dspm_forms (λ row. number_in row 0 == 20)
+  rcid = number_in row 1;
+  hdat = number_in row 2;
+  vdat = number_in row 3;
+  sdat = number_in row 4;
+  cscl = number_in row 5;
+  duni = number_in row 6;
+  huni = number_in row 7;
+  puni = number_in row 8;
+  coun = number_in row 9;
+  comf = number_in row 10;
+  somf = number_in row 11;
+  comt = text_in row 12;
+}) dspm_forms (λ row. number_in row 0 == 20)
 
 unfoldable pub frid_content : List ℕ → Result Frid FieldFault
 frid_content = row_as (λ row. record {
-    rcid = number_in row 1; prim = number_in row 2; grup = number_in row 3; objl = number_in row 4; rver = number_in row 5; ruin = number_in row 6;
-  }) frid_forms (λ row. number_in row 0 == 100)
+  rcid = number_in row 1;
+  prim = number_in row 2;
+  grup = number_in row 3;
+  objl = number_in row 4;
+  rver = number_in row 5;
+  ruin = number_in row 6;
+}) frid_forms (λ row. number_in row 0 == 100)
 
 unfoldable pub foid_content : List ℕ → Result Lnam FieldFault
 foid_content = row_as lnam_in foid_forms any_row

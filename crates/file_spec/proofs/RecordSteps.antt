@@ -43,10 +43,10 @@ enough_steps b (suc n) zero p first n_enough m_enough = records_from-end (suc n)
 enough_steps b (suc n) (suc m) p first n_enough m_enough =
     elim (cases_lt p (length b)) [
       | inl before ↦
-        records_from-suc n b p first before
-        ∙ same_then (λ frame. records_from n b (p + frame.length) false) (λ frame. records_from m b (p + frame.length) false) p (frame_at b p first)
+          records_from-suc n b p first before
+          ∙ same_then (λ frame. records_from n b (p + frame.length) false) (λ frame. records_from m b (p + frame.length) false) p (frame_at b p first)
           (λ frame is. let long = frame_has_length b p first frame is in enough_steps b n m (p + frame.length) false (omega (arith, long)) (omega (arith, long)))
-        ∙ sym (records_from-suc m b p first before)
+          ∙ sym (records_from-suc m b p first before)
       | inr past ↦ records_from-end (suc n) b p first past ∙ sym (records_from-end (suc m) b p first past)
     ]
 
@@ -63,7 +63,7 @@ records_after-next b p first before =
     ap (λ n. records_from n b p first) one_more
     ∙ records_from-suc (length b - (p + 1)) b p first before
     ∙ same_then (λ frame. records_from (length b - (p + 1)) b (p + frame.length) false) (λ frame. records_from (length b - (p + frame.length)) b (p + frame.length) false) p (frame_at b p first)
-      (λ frame is. let long = frame_has_length b p first frame is in enough_steps b (length b - (p + 1)) (length b - (p + frame.length)) (p + frame.length) false (omega (arith, long)) (omega arith))
+    (λ frame is. let long = frame_has_length b p first frame is in enough_steps b (length b - (p + 1)) (length b - (p + frame.length)) (p + frame.length) false (omega (arith, long)) (omega arith))
 
 -- the first record from a place on
 pub first_frame-found : (b : List ℕ) (p : ℕ) (frame : FrameView) (first : Bool) → p < length b → frame_at b p first ≡ Ok frame

@@ -46,10 +46,35 @@ parameters_of other = None
 -- the head of a new data set with chain-node topology (S-57 Part 3, 7.3.1; Appendix B.1)
 abbrev pub head_of : Dsid × Dssi → Dspm → Option Head
 head_of (d, s) p = if (d.expp == 1) && (s.dstr == 2) then Some (record {
-    dsid_rcid = d.rcid; intu = d.intu; dsnm = d.dsnm; edtn = d.edtn; updn = d.updn; uadt = d.uadt; isdt = d.isdt; sted = d.sted; prsp = d.prsp; psdn = d.psdn;
-    pred = d.pred; prof = d.prof; agen = d.agen; dsid_comt = d.comt; aall = s.aall; nall = s.nall; dspm_rcid = p.rcid; hdat = p.hdat; vdat = p.vdat; sdat = p.sdat;
-    cscl = p.cscl; duni = p.duni; huni = p.huni; puni = p.puni; coun = p.coun; comf = p.comf; somf = p.somf; dspm_comt = p.comt;
-  }) else None
+  dsid_rcid = d.rcid;
+  intu = d.intu;
+  dsnm = d.dsnm;
+  edtn = d.edtn;
+  updn = d.updn;
+  uadt = d.uadt;
+  isdt = d.isdt;
+  sted = d.sted;
+  prsp = d.prsp;
+  psdn = d.psdn;
+  pred = d.pred;
+  prof = d.prof;
+  agen = d.agen;
+  dsid_comt = d.comt;
+  aall = s.aall;
+  nall = s.nall;
+  dspm_rcid = p.rcid;
+  hdat = p.hdat;
+  vdat = p.vdat;
+  sdat = p.sdat;
+  cscl = p.cscl;
+  duni = p.duni;
+  huni = p.huni;
+  puni = p.puni;
+  coun = p.coun;
+  comf = p.comf;
+  somf = p.somf;
+  dspm_comt = p.comt;
+}) else None
 
 -- the rows of the field with which fields begin, where it has the tag, and the fields after it
 abbrev pub rows_of_tag : {X : Type 0} → List ℕ → (List ℕ → Result (List X) FieldFault) → List Field → Option (List X × List Field)

@@ -35,8 +35,21 @@ rows_field level tag row (x ∷ xs) = record { tag = tag; bytes = flat_map (λ y
 -- what the head says in each of its fields; a base cell is new, and has chain-node topology (S-57 Appendix B.1)
 abbrev pub dsid_of_head : Head → Dsid
 dsid_of_head h = record {
-  rcid = h.dsid_rcid; expp = 1; intu = h.intu; dsnm = h.dsnm; edtn = h.edtn; updn = h.updn; uadt = h.uadt; isdt = h.isdt; sted = h.sted; prsp = h.prsp;
-  psdn = h.psdn; pred = h.pred; prof = h.prof; agen = h.agen; comt = h.dsid_comt;
+  rcid = h.dsid_rcid;
+  expp = 1;
+  intu = h.intu;
+  dsnm = h.dsnm;
+  edtn = h.edtn;
+  updn = h.updn;
+  uadt = h.uadt;
+  isdt = h.isdt;
+  sted = h.sted;
+  prsp = h.prsp;
+  psdn = h.psdn;
+  pred = h.pred;
+  prof = h.prof;
+  agen = h.agen;
+  comt = h.dsid_comt;
 }
 
 abbrev pub dssi_of_head : Head → List ℕ → Dssi
@@ -44,8 +57,18 @@ dssi_of_head h counts = record { dstr = 2; aall = h.aall; nall = h.nall; counts 
 
 abbrev pub dspm_of_head : Head → Dspm
 dspm_of_head h = record {
-  rcid = h.dspm_rcid; hdat = h.hdat; vdat = h.vdat; sdat = h.sdat; cscl = h.cscl; duni = h.duni; huni = h.huni; puni = h.puni; coun = h.coun; comf = h.comf;
-  somf = h.somf; comt = h.dspm_comt;
+  rcid = h.dspm_rcid;
+  hdat = h.hdat;
+  vdat = h.vdat;
+  sdat = h.sdat;
+  cscl = h.cscl;
+  duni = h.duni;
+  huni = h.huni;
+  puni = h.puni;
+  coun = h.coun;
+  comf = h.comf;
+  somf = h.somf;
+  comt = h.dspm_comt;
 }
 
 abbrev pub number_field : ℕ → Field
