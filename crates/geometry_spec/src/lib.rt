@@ -5,6 +5,9 @@ mod law;
 mod segment;
 mod tile;
 
-pub use law::tiles_are_floors;
+pub use law::{
+    clockwise_is_negative, disjoint_boxes_are_apart, signs_decide_lying_on, signs_decide_meeting,
+    tiles_are_floors,
+};
 pub use segment::{MeetCase, Point};
 pub use tile::{Box4, TileRange};

@@ -1,6 +1,12 @@
 //! The rules of a chart cell evaluated plainly and slowly: lists, no index, every pair. The yardstick of every faster body.
 #![tactic(auto)]
 
+mod contact;
+mod feature;
+mod found;
+mod line;
 mod lookup;
 mod order;
 mod record;
+mod side;
+mod vector;

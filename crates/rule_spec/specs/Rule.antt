@@ -2,6 +2,7 @@
 use Rattle.std.specs.Prelude.{ℕ, Bool, List, [], ◌∷◌, Option, None, Some, map, filter, if◌then◌else◌}
 use Rattle.std.specs.List.{enumerate_from}
 use Rattle.std.specs.Option.{option_map_or}
+use Rattle.s57_types.specs.declared.name.Lnam.{Lnam}
 use Rattle.s57_types.specs.declared.name.RecName.{RecName}
 use Rattle.s57_types.specs.declared.record.Vector.{Vector}
 use Rattle.s57_types.specs.declared.record.Feature.{Feature}
@@ -26,9 +27,13 @@ abbrev pub found_at : Option ℕ → Found
 found_at None = []
 found_at (Some k) = (k ∷ []) ∷ []
 
--- the places, from 1, of the items that pass a test
+-- the places, counted from a number on, of the items that pass a test
+abbrev pub places_from : {X : Type 0} → (X → Bool) → ℕ → List X → Found
+places_from {X} test first xs = map (λ (item : ℕ × X). item.0 ∷ []) (filter (λ (item : ℕ × X). test item.1) (enumerate_from first xs))
+
+-- the places, from 1
 abbrev pub places_where : {X : Type 0} → (X → Bool) → List X → Found
-places_where {X} test xs = map (λ (item : ℕ × X). item.0 ∷ []) (filter (λ (item : ℕ × X). test item.1) (enumerate_from 1 xs))
+places_where test xs = places_from test 1 xs
 
 -- a rule on the records of a cell
 abbrev pub on_record : (Cell → RecName → Found) → Rule
@@ -58,3 +63,10 @@ on_pair rule c (Rec n) = []
 on_pair rule c (Side n) = []
 on_pair rule c (Pair a b) = rule c a b
 on_pair rule c (Ident l) = []
+
+-- a rule on an identifier
+abbrev pub on_identity : (Cell → Lnam → Found) → Rule
+on_identity rule c (Rec n) = []
+on_identity rule c (Side n) = []
+on_identity rule c (Pair a b) = []
+on_identity rule c (Ident l) = rule c l

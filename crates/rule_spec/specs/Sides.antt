@@ -8,14 +8,12 @@ use Rattle.s57_types.specs.declared.record.Feature.{Feature}
 use Rattle.s57_types.specs.declared.record.Spot.{Spot}
 use Rattle.s57_types.specs.declared.cell.Cell.{Cell}
 use Rattle.cell_spec.specs.declared.key.Ref.{Ref}
-use Rattle.cell_spec.specs.declared.key.Subject.{Subject}
-use Rattle.cell_spec.specs.declared.key.Subject.TheVariants.{Rec, Side, Pair, Ident}
 use Rattle.cell_spec.specs.Lookup.{lookup_pointers, lookup_identity}
 use Rattle.rule_spec.specs.declared.side.EdgeSideCounts.{EdgeSideCounts}
 use Rattle.rule_spec.specs.declared.side.EdgeUse.{EdgeUse}
 use Rattle.rule_spec.specs.Features.{is_group1_area, is_coverage_area}
 use Rattle.rule_spec.specs.Records.{feature_named}
-use Rattle.rule_spec.specs.Rule.{Rule, Found, found_if}
+use Rattle.rule_spec.specs.Rule.{Found, found_if}
 
 -- the use that a row of a feature's spatial pointers (FSPT) makes of an edge
 abbrev pub use_of_row : Ref → Feature → Spot → EdgeUse
@@ -78,8 +76,5 @@ false_truncation c e =
     if n.coverage_forward == n.coverage_reverse then found_use (find is_truncated (uses_of c e)) else []
 
 -- TwiceFoid: more than one feature bears the identifier; their number
-abbrev pub twice_foid : Rule
-twice_foid c (Rec n) = []
-twice_foid c (Side n) = []
-twice_foid c (Pair a b) = []
-twice_foid c (Ident l) = let bearers = length (lookup_identity c l) in found_if (nat_lt 1 bearers) (bearers ∷ [])
+abbrev pub twice_foid : Cell → Lnam → Found
+twice_foid c l = let bearers = length (lookup_identity c l) in found_if (nat_lt 1 bearers) (bearers ∷ [])

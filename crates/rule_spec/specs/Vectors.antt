@@ -1,5 +1,5 @@
 -- Rules on single nodes and edges, beside those on the ends of an edge.
-use Rattle.std.specs.Prelude.{ℕ, ◌+◌, ◌==◌, ◌&&◌, ◌||◌, Bool, true, false, not, List, [], ◌∷◌, Option, None, Some, length, map, flat_map, find, nat_lt, is_some, slice_get, if◌then◌else◌, MatchOption}
+use Rattle.std.specs.Prelude.{ℕ, ◌+◌, ◌==◌, ◌&&◌, ◌||◌, Bool, true, false, not, List, [], ◌∷◌, Option, None, Some, length, map, flat_map, find, nat_lt, is_some, slice_index_or, if◌then◌else◌, MatchOption}
 use Rattle.std.specs.List.{enumerate_from, position_from}
 use Rattle.std.specs.Option.{option_map_or}
 use Rattle.s57_types.specs.declared.name.Kind.TheVariants.{Vi, Vc}
@@ -60,26 +60,28 @@ is_bad_meeting neighbours closing Along = true
 -- whether a line ends where it begins
 abbrev pub is_closed_line : List Point → Bool
 is_closed_line [] = false
-is_closed_line (p ∷ rest) = option_map_or (λ q. same_point p q) (slice_get (p ∷ rest) (length rest)) false
+is_closed_line (p ∷ rest) = same_point p (slice_index_or (p ∷ rest) (length rest) p)
 
--- whether the first of two segments stands before the second and meets it as it may not
-abbrev pub meets_wrongly : List Point → Numbered × Numbered → Bool
-meets_wrongly points pair =
+-- whether the first of two numbered segments stands before the second and meets it as it may not; on a closed line the last of so many segments
+-- may end where the first begins
+abbrev pub meets_wrongly : Bool → ℕ → Numbered × Numbered → Bool
+meets_wrongly closed count pair =
     let i = pair.0.0 in
     let j = pair.1.0 in
-    let closing = (i == 1) && (j == length (segments_of points)) && is_closed_line points in
-    nat_lt i j && is_bad_meeting (j == i + 1) closing (meeting_of_segments pair.0.1 pair.1.1)
+    nat_lt i j && is_bad_meeting (j == i + 1) ((closed && (i == 1)) && (j == count)) (meeting_of_segments pair.0.1 pair.1.1)
 
 -- the numbers of two segments
 abbrev pub found_pair : Option (Numbered × Numbered) → Found
 found_pair None = []
 found_pair (Some pair) = (pair.0.0 ∷ pair.1.0 ∷ []) ∷ []
 
--- SelfMeet: an edge with points, none of them stacked, meets itself; the least two segments
+-- the least two segments of a line that meet as they may not, by the number of the first, then of the second
+abbrev pub first_wrong_meeting : Bool → List Numbered → Option (Numbered × Numbered)
+first_wrong_meeting closed segments = find (meets_wrongly closed (length segments)) (each_with_each segments segments)
+
+-- SelfMeet: an edge with points, none of them stacked, meets itself; the numbers of the least two segments
 abbrev pub self_meet_of : List Point → Found
-self_meet_of points =
-    let segments = enumerate_from 1 (segments_of points) in
-    if is_some (stacked_segment points) then [] else found_pair (find (meets_wrongly points) (each_with_each segments segments))
+self_meet_of points = if is_some (stacked_segment points) then [] else found_pair (first_wrong_meeting (is_closed_line points) (enumerate_from 1 (segments_of points)))
 
 abbrev pub self_meet : Cell → Vector → Found
 self_meet c e = option_map_or (λ line. self_meet_of line.points) (line_of c e) []

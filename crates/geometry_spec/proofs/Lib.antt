@@ -1,0 +1,10 @@
+pub mod Weights
+pub mod LineOrder
+pub mod Shift
+pub mod ShiftedPoints
+pub mod Sides
+pub mod OneLine
+pub mod MeetingCases
+pub mod LyingOn
+pub mod DisjointBoxes
+pub mod AreaSums
