@@ -1,6 +1,7 @@
 //! The rules of a chart cell evaluated plainly and slowly: lists, no index, every pair. The yardstick of every faster body.
 #![tactic(auto)]
 
+mod boundary;
 mod contact;
 mod feature;
 mod found;
@@ -8,5 +9,6 @@ mod line;
 mod lookup;
 mod order;
 mod record;
+mod ring;
 mod side;
 mod vector;

@@ -29,10 +29,18 @@ boundary_row c pointer = option_map (λ line. record { place = pointer.0; usag =
 unfoldable pub boundary_of : Cell → Feature → List BoundaryRow
 boundary_of c f = filter_map (boundary_row c) (enumerate_from 1 f.places)
 
+-- nothing was found
+abbrev pub is_clean : Found → Bool
+is_clean found = length found == 0
+
+-- a spatial pointer names an edge with points
+abbrev pub has_points : Cell → Spot → Bool
+has_points c s = is_some (edge_line_of c (target s))
+
 -- the boundary rules judge an area whose pointers fit its primitive, name records of the cell and have their codes, and name edges with points
 unfoldable pub has_usable_boundary : Cell → Feature → Bool
 has_usable_boundary c f =
-    (f.prim == 3) && (length (prim_refs c f ++ dangling_ref c f ++ bad_codes c f) == 0) && list_all (λ s. is_some (edge_line_of c (target s))) f.places
+    (f.prim == 3) && (is_clean (prim_refs c f) && is_clean (dangling_ref c f) && is_clean (bad_codes c f)) && list_all (has_points c) f.places
 
 abbrev pub arc_of : BoundaryRow → Arc
 arc_of row = (row.line.begins, row.line.ends)
@@ -80,10 +88,6 @@ outer_count_of rows = let outer = length (filter is_exterior (loops_of rows)) in
 
 abbrev pub wrong_turn_of : List BoundaryRow → Found
 wrong_turn_of rows = map first_place (filter turns_wrongly (loops_of rows))
-
--- nothing was found
-abbrev pub is_clean : Found → Bool
-is_clean found = length found == 0
 
 -- OpenRing: the boundary isn't closed loops one after the other; the first place that is in no loop
 abbrev pub open_ring : Cell → Feature → Found
