@@ -11,4 +11,5 @@ mod order;
 mod record;
 mod ring;
 mod side;
+mod turn;
 mod vector;

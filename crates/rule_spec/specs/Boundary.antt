@@ -89,18 +89,22 @@ outer_count_of rows = let outer = length (filter is_exterior (loops_of rows)) in
 abbrev pub wrong_turn_of : List BoundaryRow → Found
 wrong_turn_of rows = map first_place (filter turns_wrongly (loops_of rows))
 
+-- the boundary is closed loops, and none of them is mixed
+abbrev pub has_whole_loops : List BoundaryRow → Bool
+has_whole_loops rows = is_clean (open_ring_of rows) && is_clean (mixed_ring_of rows)
+
 -- OpenRing: the boundary isn't closed loops one after the other; the first place that is in no loop
 abbrev pub open_ring : Cell → Feature → Found
 open_ring c f = if has_usable_boundary c f then open_ring_of (boundary_of c f) else []
 
 -- MixedRing: a loop has interior and other usage; its first place
 abbrev pub mixed_ring : Cell → Feature → Found
-mixed_ring c f = let rows = boundary_of c f in if has_usable_boundary c f && is_clean (open_ring_of rows) then mixed_ring_of rows else []
+mixed_ring c f = if has_usable_boundary c f && is_clean (open_ring_of (boundary_of c f)) then mixed_ring_of (boundary_of c f) else []
 
 -- OuterCount: the number of exterior loops isn't 1; that number
 abbrev pub outer_count : Cell → Feature → Found
-outer_count c f = let rows = boundary_of c f in if has_usable_boundary c f && is_clean (open_ring_of rows ++ mixed_ring_of rows) then outer_count_of rows else []
+outer_count c f = if has_usable_boundary c f && has_whole_loops (boundary_of c f) then outer_count_of (boundary_of c f) else []
 
 -- WrongTurn: an exterior loop isn't clockwise, or an interior loop isn't counterclockwise; its first place
 abbrev pub wrong_turn : Cell → Feature → Found
-wrong_turn c f = let rows = boundary_of c f in if has_usable_boundary c f && is_clean (open_ring_of rows ++ mixed_ring_of rows) then wrong_turn_of rows else []
+wrong_turn c f = if has_usable_boundary c f && has_whole_loops (boundary_of c f) then wrong_turn_of (boundary_of c f) else []
