@@ -7,12 +7,10 @@ ghost use Rattle.rule_spec.specs.Loops.{blocks_of, loop_lengths as spec_loop_len
 ghost use Rattle.rule_spec.specs.Boundary.{reversed_line as spec_reversed, line_along as spec_along, boundary_row as spec_row, boundary_of as spec_boundary, has_points, has_usable_boundary as spec_usable, arc_of, is_interior as spec_interior, is_exterior as spec_exterior, is_mixed as spec_mixed, turns_wrongly as spec_turns_wrongly, first_place as spec_first_place, open_ring_of as spec_open_of, mixed_ring_of as spec_mixed_of, outer_count_of as spec_outer_of, wrong_turn_of as spec_wrong_of, has_whole_loops as spec_whole, open_ring as spec_open_ring, mixed_ring as spec_mixed_ring, outer_count as spec_outer_count, wrong_turn as spec_wrong_turn};
 
 use crate::feature::{bad_codes, dangling_ref, prim_refs};
-use crate::found::{Found, found_at, found_if, nums};
-use crate::line::line_named;
-use crate::lookup::number;
 use crate::ring::{Arc, first_open_place, loop_lengths};
 use crate::turn::double_area;
 use geometry_spec::Point;
+use plain_lookups::{Found, found_at, found_if, line_named, number, nums};
 use rule_spec::{BoundaryRow, EdgeLine};
 use s57_types::{Cell, Feature, Items, Spot};
 use std::alloc::{AllocError, Global};

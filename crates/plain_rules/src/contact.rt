@@ -8,12 +8,10 @@ ghost use Rattle.rule_spec.specs.EdgePoints.{Segment as SpecSegment, edge_line_o
 ghost use Rattle.rule_spec.specs.Vectors.{each_with_each};
 ghost use Rattle.rule_spec.specs.Contacts.{is_on as spec_is_on, shared_nodes as spec_shared, meet_at_one_of as spec_meet_at, is_illegal as spec_illegal, have_illegal_contact as spec_have_illegal, first_illegal_contact as spec_first_illegal, touch_at_an_end as spec_touch, kind_of_contact as spec_kind, found_contact as spec_found_contact, contact_of_lines as spec_contact, are_same_place as spec_same, same_place as spec_same_place, names_node as spec_names_node, segment_under as spec_under, node_on_edge as spec_node_on_edge};
 
-use crate::found::{Found, found_at, found_if};
-use crate::line::{Numbered, Segment, line_named, node_position, numbered, same_point, segments_of};
-use crate::record::edge_named;
 use crate::vector::{found_pair, meeting_of_segments};
 use geo_exact::on_segment;
 use geometry_spec::{MeetCase, Point};
+use plain_lookups::{Found, Numbered, Segment, edge_named, found_at, found_if, line_named, node_position, numbered, same_point, segments_of};
 use rule_spec::EdgeLine;
 use s57_types::{Cell, RecName, Vector};
 use std::alloc::{AllocError, Global};

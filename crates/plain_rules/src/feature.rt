@@ -5,9 +5,7 @@ ghost use Rattle.std.specs.List.{list_any};
 ghost use Rattle.rule_spec.specs.Records.{is_node_name as spec_is_node, is_edge_name as spec_is_edge};
 ghost use Rattle.rule_spec.specs.Features.{target as spec_target, is_one_of as spec_is_one_of, fits_primitive as spec_fits, prim_refs as spec_prim_refs, dangling_ref as spec_dangling_ref, has_its_codes as spec_has_codes, bad_codes as spec_bad_codes, dangling_feature as spec_dangling_feature, is_group1_area as spec_group1, says_covered as spec_covered, is_coverage_area as spec_coverage, wrong_group as spec_wrong_group};
 
-use crate::found::{Found, add_place, found_if};
-use crate::lookup::{bearers, number, record_named};
-use crate::record::{is_edge_name, is_node_name};
+use plain_lookups::{Found, add_place, bearers, found_if, is_edge_name, is_node_name, number, record_named};
 use s57_types::{Attr, Cell, Feature, Spot};
 use std::alloc::{AllocError, Global};
 

@@ -4,11 +4,6 @@
 mod boundary;
 mod contact;
 mod feature;
-mod found;
-mod line;
-mod lookup;
-mod order;
-mod record;
 mod ring;
 mod side;
 mod turn;

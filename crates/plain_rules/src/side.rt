@@ -5,10 +5,8 @@ ghost use Rattle.rule_spec.specs.Sides.{use_of_row as spec_use_of_row, use_by as
 ghost use Rattle.rule_spec.specs.Rule.{found_if as spec_found_if};
 
 use crate::feature::{is_coverage_area, is_group1_area};
-use crate::found::{Found, found_if, nums};
-use crate::lookup::{bearers, number, pointers_to};
-use crate::record::feature_named;
 use cell_spec::Ref;
+use plain_lookups::{Found, bearers, feature_named, found_if, number, nums, pointers_to};
 use rule_spec::{EdgeSideCounts, EdgeUse};
 use s57_types::{Cell, Feature, Lnam, RecName, Spot};
 use std::alloc::{AllocError, Global};

@@ -6,12 +6,9 @@ ghost use Rattle.rule_spec.specs.EdgeEnds.{topi_count as spec_topi_count, end_co
 ghost use Rattle.rule_spec.specs.EdgePoints.{Segment as SpecSegment, same_point, segments_of as spec_segments};
 ghost use Rattle.rule_spec.specs.Vectors.{has_its_shape as spec_shape, bad_shape as spec_bad_shape, node_pointer as spec_node_pointer, stacked as spec_stacked, stacked_segment as spec_stacked_segment, is_bad_meeting as spec_bad_meeting, is_closed_line as spec_closed, meets_wrongly as spec_meets_wrongly, each_with_each, first_wrong_meeting as spec_first_wrong, found_pair as spec_found_pair, self_meet_of as spec_self_meet_of, self_meet as spec_self_meet, meeting_of_segments as spec_meeting};
 
-use crate::found::{Found, add_place, found_at, found_if, nums};
-use crate::line::{Numbered, Segment, line_of, numbered, same_point as are_one_point, segments_of};
-use crate::lookup::number;
-use crate::record::node_named;
 use geo_exact::meeting;
 use geometry_spec::{MeetCase, Point};
+use plain_lookups::{Found, Numbered, Segment, add_place, found_at, found_if, line_of, node_named, number, numbered, nums, same_point as are_one_point, segments_of};
 use s57_types::{Cell, End, Kind, Vector};
 use std::alloc::{AllocError, Global};
 

@@ -1,6 +1,6 @@
 use Rattle.std.proofs.Common.{sym, ◌∙◌}
 use Rattle.rule_spec.specs.Contacts.{have_illegal_contact}
-use Rattle.plain_rules.proofs.Appends.{row_hit, row_missed}
+use Rattle.plain_lookups.proofs.Appends.{row_hit, row_missed}
 use Rattle.plain_rules.proofs.contact.first_illegal_pair.Goals as goal
 
 pub returns-in-Some : goal.returns-in-Some

@@ -1,6 +1,6 @@
 use Rattle.std.proofs.Common.{sym, ◌∙◌, length}
 use Rattle.rule_spec.specs.Vectors.{meets_wrongly}
-use Rattle.plain_rules.proofs.Appends.{row_hit, row_missed}
+use Rattle.plain_lookups.proofs.Appends.{row_hit, row_missed}
 use Rattle.plain_rules.proofs.vector.first_wrong_meeting.Goals as goal
 
 pub returns-in-Some : goal.returns-in-Some

@@ -3,8 +3,8 @@ use Rattle.s57_types.specs.declared.name.RecName.{RecName}
 use Rattle.cell_spec.specs.Ascending.{ascending}
 use Rattle.cell_spec.specs.Lookup.{name_of, bears}
 use Rattle.cell_spec.specs.Names.{name_order}
-use Rattle.plain_rules.proofs.Appends.{four_lists, bearers-append}
-use Rattle.plain_rules.proofs.lookup.bearers.Goals as goal
+use Rattle.plain_lookups.proofs.Appends.{four_lists, bearers-append}
+use Rattle.plain_lookups.proofs.lookup.bearers.Goals as goal
 
 pub returns : goal.returns
 returns c =

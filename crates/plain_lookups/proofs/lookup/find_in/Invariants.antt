@@ -1,6 +1,6 @@
 use Rattle.std.proofs.Common.{◌≡◌, drop, find}
 use Rattle.cell_spec.specs.Lookup.{is_named}
-use Rattle.plain_rules.proofs.lookup.find_in.Given as goal
+use Rattle.plain_lookups.proofs.lookup.find_in.Given as goal
 
 -- what is left gives the answer for all
 abbrev pub invariant-loop-rec : goal.invariant-loop-rec
