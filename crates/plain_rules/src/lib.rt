@@ -4,7 +4,10 @@
 mod boundary;
 mod contact;
 mod feature;
+mod finding;
 mod ring;
 mod side;
 mod turn;
 mod vector;
+
+pub use finding::{Judged, all_findings, findings_of_subject, subjects};
