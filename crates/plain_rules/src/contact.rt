@@ -169,7 +169,7 @@ fn contact_of_lines(alloc: Global, kind: u8, cell: &Cell, a: Option<&EdgeLine>, 
 }
 
 /// Cross, Touch or Coincide, by the number of the kind.
-pub fn contact(alloc: Global, kind: u8, cell: &Cell, a: RecName, b: RecName) -> Result<Found, AllocError>
+pub fn contact_of_kind(alloc: Global, kind: u8, cell: &Cell, a: RecName, b: RecName) -> Result<Found, AllocError>
     ensures { IfOk result (λ found. found ≡ spec_contact kind cell.now (edge_line_of cell.now a) (edge_line_of cell.now b)) }
 {
     let first = line_named(alloc, cell, a)?;
