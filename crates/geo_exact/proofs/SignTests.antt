@@ -41,11 +41,13 @@ passed_sign : (x i : ℤ) → i ≡ int_signum x → passed i ≡ int_signum x
 passed_sign x i e = ap passed e ∙ passed_sign_of x
 
 -- ---- the test of the signs i and j of x and y answered `found`
-pub one_sign_found : (x y i j : ℤ) (test found : Bool) → i ≡ int_signum x → j ≡ int_signum y → test ≡ have_one_sign (passed i) (passed j) → test ≡ found → have_one_sign x y ≡ found
+pub one_sign_found : (x y i j : ℤ) (test found : Bool) → i ≡ int_signum x → j ≡ int_signum y → test ≡ have_one_sign (passed i) (passed j)
+    → test ≡ found → have_one_sign x y ≡ found
 one_sign_found x y i j test found e f g h =
     sym (one_sign_by_signs x y) ∙ (ap (λ z. have_one_sign z (int_signum y)) (sym (passed_sign x i e)) ∙ (ap (λ z. have_one_sign (passed i) z) (sym (passed_sign y j f)) ∙ (sym g ∙ h)))
 
-pub zeros_found : (x y i j : ℤ) (test found : Bool) → i ≡ int_signum x → j ≡ int_signum y → test ≡ are_zero (passed i) (passed j) → test ≡ found → are_zero x y ≡ found
+pub zeros_found : (x y i j : ℤ) (test found : Bool) → i ≡ int_signum x → j ≡ int_signum y → test ≡ are_zero (passed i) (passed j) → test ≡ found
+    → are_zero x y ≡ found
 zeros_found x y i j test found e f g h =
     sym (zeros_by_signs x y) ∙ (ap (λ z. are_zero z (int_signum y)) (sym (passed_sign x i e)) ∙ (ap (λ z. are_zero (passed i) z) (sym (passed_sign y j f)) ∙ (sym g ∙ h)))
 

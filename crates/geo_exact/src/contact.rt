@@ -11,7 +11,7 @@ use crate::tiling::{are_disjoint, box_of};
 use geometry_spec::{MeetCase, Point};
 use std::cmp::Ordering;
 
-/// Whether two sides are one, and not that of the line itself.
+/// Whether points on these sides lie strictly on one side of the line.
 fn are_one_side(a: i8, b: i8) -> bool
     ensures { result ≡ have_one_sign a b }
 {
@@ -62,7 +62,7 @@ fn meeting_along_line(p: Point, q: Point, r: Point, s: Point) -> MeetCase
     }
 }
 
-/// What two segments have in common, by the sides on which the ends of each lie of the other.
+/// What two segments have in common, by the sides of each one's line on which the ends of the other lie.
 fn meeting_by_sides(p: Point, q: Point, r: Point, s: Point) -> MeetCase
     ensures { result ≡ meeting_of p q r s }
 {

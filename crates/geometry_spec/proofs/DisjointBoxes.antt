@@ -24,9 +24,11 @@ no_mean_across a m b n p q r s some even gap same =
     let as_even : (a + m) * min r s ≡ (b + n) * min r s = ap (λ t. t * min r s) even in
     omega arith
 
-gap_shifted : (shift : ℕ) (p q r s : ℤ) → down p ≤ shift → down q ≤ shift → down r ≤ shift → down s ≤ shift → int_lt (int_max p q) (int_min r s) ≡ true
+gap_shifted : (shift : ℕ) (p q r s : ℤ) → down p ≤ shift → down q ≤ shift → down r ≤ shift → down s ≤ shift
+    → int_lt (int_max p q) (int_min r s) ≡ true
     → max (shifted shift p) (shifted shift q) < min (shifted shift r) (shifted shift s)
-gap_shifted shift p q r s fp fq fr fs e = omega (arith, ints, clamps, shifted_is shift p fp, shifted_is shift q fq, shifted_is shift r fr, shifted_is shift s fs)
+gap_shifted shift p q r s fp fq fr fs e =
+    omega (arith, ints, clamps, shifted_is shift p fp, shifted_is shift q fq, shifted_is shift r fr, shifted_is shift s fs)
 
 -- ---- four ways for boxes to be disjoint
 one_of_four : (a b c d : Bool) → (a || b) || (c || d) ≡ true → ((a ≡ true) ⊎ (b ≡ true)) ⊎ ((c ≡ true) ⊎ (d ≡ true))
@@ -36,7 +38,8 @@ one_of_four false false true d e = inr (inl refl)
 one_of_four false false false true e = inr (inr refl)
 one_of_four false false false false e = absurd (cc)
 
-none_by_boxes : (shift width : ℕ) (p q r s : Point) → AreCovered shift width p q r s → IsTrue (are_disjoint (box_of p q) (box_of r s)) → WeightsOf shift p q r s → ⊥
+none_by_boxes : (shift width : ℕ) (p q r s : Point) → AreCovered shift width p q r s → IsTrue (are_disjoint (box_of p q) (box_of r s))
+    → WeightsOf shift p q r s → ⊥
 none_by_boxes shift width p q r s f e w = ⊎_elim
     (λ rows. ⊎_elim
     (λ h. no_mean_across w.a w.m w.b w.n _ _ _ _ w.some w.even (gap_shifted shift p.0 q.0 r.0 s.0 f.at_p.y f.at_q.y f.at_r.y f.at_s.y h) w.same_y)

@@ -28,7 +28,8 @@ pub record OnByWeights (p q e : GridPoint) : Type 0 where
   pub x : a * p.x + m * q.x ≡ (a + m) * e.x
 
 -- ---- what is on the line of p and q, and in rank between them, lies on the segment
-between_by : (width : ℕ) (p q e : GridPoint) (a m : ℕ) → 0 < a + m → a + rank width e ≡ rank width q → m + rank width p ≡ rank width e → right_sum p q e ≡ left_sum p q e → OnByWeights p q e
+between_by : (width : ℕ) (p q e : GridPoint) (a m : ℕ) → 0 < a + m → a + rank width e ≡ rank width q → m + rank width p ≡ rank width e
+    → right_sum p q e ≡ left_sum p q e → OnByWeights p q e
 between_by width p q e a m some ea em line = record {
   a = a;
   m = m;
@@ -41,16 +42,19 @@ on_reversed : (p q e : GridPoint) → OnByWeights q p e → OnByWeights p q e
 on_reversed p q e o = record { a = o.m; m = o.a; some = omega arith; y = omega (arith, o.y); x = omega (arith, o.x) }
 
 on_first : (width : ℕ) (p q e : GridPoint) → IsInGrid width p → IsInGrid width e → rank width p ≡ rank width e → OnByWeights p q e
-on_first width p q e gp ge same = record { a = 1; m = 0; some = omega arith; y = omega (arith, same_rank_y width p e gp ge same); x = omega (arith, same_rank_x width p e gp ge same) }
+on_first width p q e gp ge same =
+    record { a = 1; m = 0; some = omega arith; y = omega (arith, same_rank_y width p e gp ge same); x = omega (arith, same_rank_x width p e gp ge same) }
 
-between_upwards : (width : ℕ) (p q e : GridPoint) → IsInGrid width p → IsInGrid width e → rank width p ≤ rank width e → rank width e ≤ rank width q → right_sum p q e ≡ left_sum p q e → OnByWeights p q e
+between_upwards : (width : ℕ) (p q e : GridPoint) → IsInGrid width p → IsInGrid width e → rank width p ≤ rank width e → rank width e ≤ rank width q
+    → right_sum p q e ≡ left_sum p q e → OnByWeights p q e
 between_upwards width p q e gp ge low high line = ⊎_elim
     (λ l. between_by width p q e (rank width q - rank width e) (rank width e - rank width p) (omega arith) (omega arith) (omega arith) line)
     (λ g. on_first width p q e gp ge (omega arith))
     (cases_lt (rank width p) (rank width q))
 
 pub between : (width : ℕ) (p q e : GridPoint) → IsInGrid width p → IsInGrid width q → IsInGrid width e
-    → min (rank width p) (rank width q) ≤ rank width e → rank width e ≤ max (rank width p) (rank width q) → right_sum p q e ≡ left_sum p q e → OnByWeights p q e
+    → min (rank width p) (rank width q) ≤ rank width e → rank width e ≤ max (rank width p) (rank width q) → right_sum p q e ≡ left_sum p q e
+    → OnByWeights p q e
 between width p q e gp gq ge low high line = ⊎_elim
     (λ l. between_upwards width p q e gp ge (omega arith) (omega arith) line)
     (λ g. on_reversed p q e (between_upwards width q p e gq ge (omega arith) (omega arith) (omega arith)))
@@ -58,7 +62,14 @@ between width p q e gp gq ge low high line = ⊎_elim
 
 -- ---- and back: what lies on the segment is on its line and in rank between its ends
 pub on_line : (p q e : GridPoint) → OnByWeights p q e → right_sum p q e ≡ left_sum p q e
-on_line p q e o = cancel (right_sum p q e) (left_sum p q e) (o.a + o.m) 0 o.some (omega (arith, ap (λ t. t * q.x) o.y, ap (λ t. t * p.x) o.y, ap (λ t. t * q.y) o.x, ap (λ t. t * p.y) o.x))
+on_line p q e o =
+    cancel (right_sum p q e) (left_sum p q e) (o.a + o.m) 0 o.some (omega (
+      arith,
+      ap (λ t. t * q.x) o.y,
+      ap (λ t. t * p.x) o.y,
+      ap (λ t. t * q.y) o.x,
+      ap (λ t. t * p.y) o.x,
+    ))
 
 not_below : (a m p q e low : ℕ) → 0 < a + m → low ≤ p → low ≤ q → a * p + m * q ≡ (a + m) * e → low ≤ e
 not_below a m p q e low some g h s = ⊎_elim
@@ -73,7 +84,8 @@ not_above a m p q e high some g h s = ⊎_elim
 on_rank : (width : ℕ) (p q e : GridPoint) (o : OnByWeights p q e) → o.a * rank width p + o.m * rank width q ≡ (o.a + o.m) * rank width e
 on_rank width p q e o = omega (arith, ap (λ t. t * width) o.y, o.x)
 
-pub on_between : (width : ℕ) (p q e : GridPoint) (o : OnByWeights p q e) → (min (rank width p) (rank width q) ≤ rank width e) × (rank width e ≤ max (rank width p) (rank width q))
+pub on_between : (width : ℕ) (p q e : GridPoint) (o : OnByWeights p q e)
+    → (min (rank width p) (rank width q) ≤ rank width e) × (rank width e ≤ max (rank width p) (rank width q))
 on_between width p q e o = (
   not_below o.a o.m (rank width p) (rank width q) (rank width e) (min (rank width p) (rank width q)) o.some (omega arith) (omega arith) (on_rank width p q e o),
   not_above o.a o.m (rank width p) (rank width q) (rank width e) (max (rank width p) (rank width q)) o.some (omega arith) (omega arith) (on_rank width p q e o),
@@ -93,7 +105,8 @@ common_at p q r s e o u = record {
 }
 
 -- ---- a common point's rank lies between the greater of the lesser ranks and the lesser of the greater ones
-even_rank : (width : ℕ) (p q r s : GridPoint) (w : Weights p q r s) → w.a * rank width p + w.m * rank width q ≡ w.b * rank width r + w.n * rank width s
+even_rank : (width : ℕ) (p q r s : GridPoint) (w : Weights p q r s)
+    → w.a * rank width p + w.m * rank width q ≡ w.b * rank width r + w.n * rank width s
 even_rank width p q r s w = omega (arith, ap (λ t. t * width) w.same_y, w.same_x)
 
 pub mean_not_below : (a m p q low : ℕ) → low ≤ p → low ≤ q → (a + m) * low ≤ a * p + m * q
@@ -127,7 +140,8 @@ pub none_in_rank : (width : ℕ) (p q r s : GridPoint) → high_rank width p q r
 none_in_rank width p q r s gap w = omega (arith, not_under width p q r s w, not_over width p q r s w, mul-lt-mul_of_pos_left gap w.some)
 
 -- ---- one point
-at_low_rank : (width : ℕ) (p q r s : GridPoint) → low_rank width p q r s ≡ high_rank width p q r s → (w : Weights p q r s) → w.a * rank width p + w.m * rank width q ≡ (w.a + w.m) * low_rank width p q r s
+at_low_rank : (width : ℕ) (p q r s : GridPoint) → low_rank width p q r s ≡ high_rank width p q r s → (w : Weights p q r s)
+    → w.a * rank width p + w.m * rank width q ≡ (w.a + w.m) * low_rank width p q r s
 at_low_rank width p q r s closed w = omega (arith, not_under width p q r s w, not_over width p q r s w, ap (λ t. (w.a + w.m) * t) closed)
 
 multiplied : (d e k l o : ℕ) → k ≡ d * o → l ≡ e * o → d * l ≡ e * k
@@ -136,7 +150,8 @@ multiplied d e k l o g h = omega (arith, ap (λ t. e * t) g, ap (λ t. d * t) h)
 product_some : (d e : ℕ) → 0 < d → 0 < e → 0 < d * e
 product_some d e g h = omega (arith, mul-lt-mul_of_pos_right g h)
 
-same_ranks : (width : ℕ) (p q : GridPoint) (a m a' m' : ℕ) → IsSameWeighted p q a m a' m' → (a + m) * (a' * rank width p + m' * rank width q) ≡ (a' + m') * (a * rank width p + m * rank width q)
+same_ranks : (width : ℕ) (p q : GridPoint) (a m a' m' : ℕ) → IsSameWeighted p q a m a' m'
+    → (a + m) * (a' * rank width p + m' * rank width q) ≡ (a' + m') * (a * rank width p + m * rank width q)
 same_ranks width p q a m a' m' same = omega (arith, ap (λ t. t * width) same.y, same.x)
 
 same_by_weights : (p q : GridPoint) (a m a' m' : ℕ) → a * m' ≡ a' * m → IsSameWeighted p q a m a' m'
@@ -163,7 +178,8 @@ same_by_rank width p q gp gq a m a' m' e = ⊎_elim
     (cases_order (rank width p) (rank width q))
 
 -- where the two ranks are one, any two common points are the same
-pub one_in_rank : (width : ℕ) (p q r s : GridPoint) → IsInGrid width p → IsInGrid width q → low_rank width p q r s ≡ high_rank width p q r s → (v w : Weights p q r s) → IsSameWeighted p q v.a v.m w.a w.m
+pub one_in_rank : (width : ℕ) (p q r s : GridPoint) → IsInGrid width p → IsInGrid width q → low_rank width p q r s ≡ high_rank width p q r s
+    → (v w : Weights p q r s) → IsSameWeighted p q v.a v.m w.a w.m
 one_in_rank width p q r s gp gq closed v w =
     let ev : v.a * rank width p + v.m * rank width q ≡ (v.a + v.m) * low_rank width p q r s = at_low_rank width p q r s closed v in
     let ew : w.a * rank width p + w.m * rank width q ≡ (w.a + w.m) * low_rank width p q r s = at_low_rank width p q r s closed w in
@@ -171,6 +187,13 @@ one_in_rank width p q r s gp gq closed v w =
 
 -- ---- two points
 pub differ_by_rank : (width : ℕ) (p q e f : GridPoint) (a m a' m' : ℕ) → 0 < a + m → 0 < a' + m'
-    → a * rank width p + m * rank width q ≡ (a + m) * rank width e → a' * rank width p + m' * rank width q ≡ (a' + m') * rank width f → rank width e < rank width f → IsSameWeighted p q a m a' m' → ⊥
+    → a * rank width p + m * rank width q ≡ (a + m) * rank width e → a' * rank width p + m' * rank width q ≡ (a' + m') * rank width f
+    → rank width e < rank width f → IsSameWeighted p q a m a' m' → ⊥
 differ_by_rank width p q e f a m a' m' g h at_e at_f less same =
-    omega (arith, mul-lt-mul_of_pos_left less (product_some (a + m) (a' + m') g h), ap (λ t. (a + m) * t) at_f, ap (λ t. (a' + m') * t) at_e, same_ranks width p q a m a' m' same)
+    omega (
+      arith,
+      mul-lt-mul_of_pos_left less (product_some (a + m) (a' + m') g h),
+      ap (λ t. (a + m) * t) at_f,
+      ap (λ t. (a' + m') * t) at_e,
+      same_ranks width p q a m a' m' same,
+    )

@@ -7,7 +7,6 @@ use borrow.Author.Differences.{up, down}
 use Rattle.geometry_spec.specs.Points.{Point, point_cmp, orientation_of}
 use Rattle.geometry_spec.specs.Segments.{LiesOn}
 use Rattle.geometry_spec.specs.Signs.{lies_on, earlier, later}
-use Rattle.geometry_spec.proofs.Weights.{left_sum, right_sum}
 use Rattle.geometry_spec.proofs.LineOrder.{OnByWeights, between, on_line, on_between}
 use Rattle.geometry_spec.proofs.Shift.{IsCovered, grid_point, in_grid}
 use Rattle.geometry_spec.proofs.ShiftedPoints.{AreCovered, on_by_weights_of, lies_on_of}
@@ -26,12 +25,14 @@ is_zero (pos zero) e = refl
 is_zero (pos (suc n)) e = absurd (omega arith)
 is_zero (negsuc n) e = absurd (omega arith)
 
-not_after : (shift width : ℕ) (a b : Point) (o : Ordering) → IsRanked shift width a b o → is_le o ≡ true → rank_of shift width a ≤ rank_of shift width b
+not_after : (shift width : ℕ) (a b : Point) (o : Ordering) → IsRanked shift width a b o → is_le o ≡ true
+    → rank_of shift width a ≤ rank_of shift width b
 not_after shift width a b Less h e = omega arith
 not_after shift width a b Equal h e = omega arith
 not_after shift width a b Greater h e = absurd (cc)
 
-in_order : (shift width : ℕ) (a b : Point) (o : Ordering) → IsRanked shift width a b o → rank_of shift width a ≤ rank_of shift width b → is_le o ≡ true
+in_order : (shift width : ℕ) (a b : Point) (o : Ordering) → IsRanked shift width a b o → rank_of shift width a ≤ rank_of shift width b
+    → is_le o ≡ true
 in_order shift width a b Less h e = refl
 in_order shift width a b Equal h e = refl
 in_order shift width a b Greater h e = absurd (omega arith)
@@ -55,8 +56,8 @@ module _ (shift width : ℕ) (w p q : Point) (fw : IsCovered shift width w) (fp 
       let high : IsChosen shift width p q (later p q) (max (rank_of shift width p) (rank_of shift width q)) = later_is shift width p q fp fq in
       let side : IsSide (orientation_of p q w) (grid_point shift p) (grid_point shift q) (grid_point shift w) = side_of shift width p q w fp fq fw in
       let flat : up (orientation_of p q w) ≡ down (orientation_of p q w) = zero_is (orientation_of p q w) tests.0 in
-      let after : rank_of shift width (earlier p q) ≤ rank_of shift width w = not_after shift width (earlier p q) w (point_cmp (earlier p q) w) (ranked shift width (earlier p q) w low.covered fw) tests.1 in
-      let before : rank_of shift width w ≤ rank_of shift width (later p q) = not_after shift width w (later p q) (point_cmp w (later p q)) (ranked shift width w (later p q) fw high.covered) tests.2 in
+      let after : rank_of shift width (earlier p q) ≤ rank_of shift width w = not_after shift width _ _ _ (ranked shift width (earlier p q) w low.covered fw) tests.1 in
+      let before : rank_of shift width w ≤ rank_of shift width (later p q) = not_after shift width _ _ _ (ranked shift width w (later p q) fw high.covered) tests.2 in
       lies_on_of shift width w p q fw fp fq
       (between width (grid_point shift p) (grid_point shift q) (grid_point shift w) (in_grid shift width p fp) (in_grid shift width q fq) (in_grid shift width w fw)
       (omega (arith, low.has_rank, after)) (omega (arith, high.has_rank, before)) (omega (arith, side.is, flat)))
@@ -68,12 +69,18 @@ module _ (shift width : ℕ) (w p q : Point) (fw : IsCovered shift width w) (fp 
       let low : IsChosen shift width p q (earlier p q) (min (rank_of shift width p) (rank_of shift width q)) = earlier_is shift width p q fp fq in
       let high : IsChosen shift width p q (later p q) (max (rank_of shift width p) (rank_of shift width q)) = later_is shift width p q fp fq in
       let side : IsSide (orientation_of p q w) (grid_point shift p) (grid_point shift q) (grid_point shift w) = side_of shift width p q w fp fq fw in
-      let line : right_sum (grid_point shift p) (grid_point shift q) (grid_point shift w) ≡ left_sum (grid_point shift p) (grid_point shift q) (grid_point shift w) = on_line _ _ _ weights in
-      let middle : (min (rank_of shift width p) (rank_of shift width q) ≤ rank_of shift width w) × (rank_of shift width w ≤ max (rank_of shift width p) (rank_of shift width q)) = on_between width _ _ _ weights in
       from_all_three _ _ _
-      (is_zero (orientation_of p q w) (omega (arith, side.is, line)))
-      (in_order shift width (earlier p q) w (point_cmp (earlier p q) w) (ranked shift width (earlier p q) w low.covered fw) (omega (arith, low.has_rank, middle)))
-      (in_order shift width w (later p q) (point_cmp w (later p q)) (ranked shift width w (later p q) fw high.covered) (omega (arith, high.has_rank, middle)))
+      (is_zero (orientation_of p q w) (omega (arith, side.is, on_line _ _ _ weights)))
+      (in_order shift width (earlier p q) w (point_cmp (earlier p q) w) (ranked shift width (earlier p q) w low.covered fw) (omega (
+        arith,
+        low.has_rank,
+        on_between width _ _ _ weights,
+      )))
+      (in_order shift width w (later p q) (point_cmp w (later p q)) (ranked shift width w (later p q) fw high.covered) (omega (
+        arith,
+        high.has_rank,
+        on_between width _ _ _ weights,
+      )))
 
 pub lying_on_decided : (w p q : Point) → IsTrue (lies_on w p q) ↔ LiesOn w p q
 lying_on_decided w p q =

@@ -36,7 +36,8 @@ AreAllOne shift p q r s = (v w : WeightsOf shift p q r s) → IsSameWeighted (gr
 pub is_apart : (shift width : ℕ) (p q r s : Point) → AreCovered shift width p q r s → (WeightsOf shift p q r s → ⊥) → SegmentMeeting p q r s Apart
 is_apart shift width p q r s f none w = none (weights_of shift width p q r s f w)
 
-is_at : (shift width : ℕ) (p q r s : Point) → AreCovered shift width p q r s → WeightsOf shift p q r s → AreAllOne shift p q r s → SegmentMeeting p q r s At
+is_at : (shift width : ℕ) (p q r s : Point) → AreCovered shift width p q r s → WeightsOf shift p q r s → AreAllOne shift p q r s
+    → SegmentMeeting p q r s At
 is_at shift width p q r s f w one = (
   common_point_of shift width p q r s f w,
   λ v u. same_points shift width p q r s f v u (one (weights_of shift width p q r s f v) (weights_of shift width p q r s f u)),
@@ -54,7 +55,9 @@ is_along shift width p q r s e g f v w less = (
 )
 
 -- ---- on one line
-line_case : (shift width : ℕ) (p q r s : Point) → OnOneLine shift width p q r s → IsBound shift width p q r s (start_of p q r s) (low_of shift width p q r s) → IsBound shift width p q r s (end_of p q r s) (high_of shift width p q r s)
+line_case : (shift width : ℕ) (p q r s : Point) → OnOneLine shift width p q r s
+    → IsBound shift width p q r s (start_of p q r s) (low_of shift width p q r s)
+    → IsBound shift width p q r s (end_of p q r s) (high_of shift width p q r s)
     → (o : Ordering) → IsRanked shift width (start_of p q r s) (end_of p q r s) o → SegmentMeeting p q r s (case_from_to o)
 line_case shift width p q r s f low high Less h = is_along shift width p q r s (start_of p q r s) (end_of p q r s) f.covered
     (common_at_bound shift width p q r s (start_of p q r s) f.covered low.on_both (omega (arith, low.has_rank)) (omega (arith, low.has_rank, high.has_rank, h)))
@@ -62,9 +65,9 @@ line_case shift width p q r s f low high Less h = is_along shift width p q r s (
     h
 line_case shift width p q r s f low high Equal h = is_at shift width p q r s f.covered
     (common_at_bound shift width p q r s (start_of p q r s) f.covered low.on_both (omega (arith, low.has_rank)) (omega (arith, low.has_rank, high.has_rank, h))).weights
-    (one_in_rank width (grid_point shift p) (grid_point shift q) (grid_point shift r) (grid_point shift s) (in_grid shift width p f.covered.at_p) (in_grid shift width q f.covered.at_q) (omega (arith, low.has_rank, high.has_rank, h)))
+    (one_in_rank width _ _ _ _ (in_grid shift width p f.covered.at_p) (in_grid shift width q f.covered.at_q) (omega (arith, low.has_rank, high.has_rank, h)))
 line_case shift width p q r s f low high Greater h = is_apart shift width p q r s f.covered
-    (none_in_rank width (grid_point shift p) (grid_point shift q) (grid_point shift r) (grid_point shift s) (omega (arith, low.has_rank, high.has_rank, h)))
+    (none_in_rank width _ _ _ _ (omega (arith, low.has_rank, high.has_rank, h)))
 
 line_meeting : (shift width : ℕ) (p q r s : Point) → OnOneLine shift width p q r s → SegmentMeeting p q r s (meeting_on_line p q r s)
 line_meeting shift width p q r s f =
@@ -74,24 +77,26 @@ line_meeting shift width p q r s f =
 
 -- ---- by the tests
 meeting_by : (shift width : ℕ) (p q r s : Point) → AreCovered shift width p q r s → (first second line : Bool)
-    → have_one_sign (orientation_of p q r) (orientation_of p q s) ≡ first → have_one_sign (orientation_of r s p) (orientation_of r s q) ≡ second → are_zero (orientation_of p q r) (orientation_of p q s) ≡ line
+    → have_one_sign (orientation_of p q r) (orientation_of p q s) ≡ first → have_one_sign (orientation_of r s p) (orientation_of r s q) ≡ second
+    → are_zero (orientation_of p q r) (orientation_of p q s) ≡ line
     → SegmentMeeting p q r s (cond first Apart (cond second Apart (cond line (meeting_on_line p q r s) At)))
 meeting_by shift width p q r s f first second line e g h = by first second line e g h
   where
     sides : FourSides (grid_point shift p) (grid_point shift q) (grid_point shift r) (grid_point shift s) (orientation_of p q r) (orientation_of p q s) (orientation_of r s p) (orientation_of r s q)
     sides = four_sides shift width p q r s f
 
-    by : (first second line : Bool) → have_one_sign (orientation_of p q r) (orientation_of p q s) ≡ first → have_one_sign (orientation_of r s p) (orientation_of r s q) ≡ second → are_zero (orientation_of p q r) (orientation_of p q s) ≡ line
+    by : (first second line : Bool) → have_one_sign (orientation_of p q r) (orientation_of p q s) ≡ first
+        → have_one_sign (orientation_of r s p) (orientation_of r s q) ≡ second → are_zero (orientation_of p q r) (orientation_of p q s) ≡ line
         → SegmentMeeting p q r s (cond first Apart (cond second Apart (cond line (meeting_on_line p q r s) At)))
     by true second line e g h = is_apart shift width p q r s f
-        (none_on_one_side (grid_point shift p) (grid_point shift q) (grid_point shift r) (grid_point shift s) (orientation_of p q r) (orientation_of p q s) sides.r_side sides.s_side e)
+        (none_on_one_side _ _ _ _ _ _ sides.r_side sides.s_side e)
     by false true line e g h = is_apart shift width p q r s f
-        (λ w. none_on_one_side (grid_point shift r) (grid_point shift s) (grid_point shift p) (grid_point shift q) (orientation_of r s p) (orientation_of r s q) sides.p_side sides.q_side g
-        (swapped (grid_point shift p) (grid_point shift q) (grid_point shift r) (grid_point shift s) w))
-    by false false true e g h = line_meeting shift width p q r s (record { covered = f; line = on_one_line (grid_point shift p) (grid_point shift q) (grid_point shift r) (grid_point shift s) _ _ _ _ sides g h })
+        (λ w. none_on_one_side _ _ _ _ _ _ sides.p_side sides.q_side g (swapped _ _ _ _ w))
+    by false false true e g h =
+        line_meeting shift width p q r s (record { covered = f; line = on_one_line _ _ _ _ _ _ _ _ sides g h })
     by false false false e g h = is_at shift width p q r s f
-        (some_across (grid_point shift p) (grid_point shift q) (grid_point shift r) (grid_point shift s) _ _ _ _ sides e g h)
-        (one_across (grid_point shift p) (grid_point shift q) (grid_point shift r) (grid_point shift s) _ _ sides.r_side sides.s_side h)
+        (some_across _ _ _ _ _ _ _ _ sides e g h)
+        (one_across _ _ _ _ _ _ sides.r_side sides.s_side h)
 
 pub meeting_is : (p q r s : Point) → SegmentMeeting p q r s (meeting_of p q r s)
 unfolding meeting_of

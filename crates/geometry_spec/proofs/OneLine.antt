@@ -18,19 +18,38 @@ abbrev pub rank_of : ℕ → ℕ → Point → ℕ
 rank_of shift width p = rank width (grid_point shift p)
 
 abbrev pub IsRanked : ℕ → ℕ → Point → Point → Ordering → Type 0
-IsRanked shift width a b o = MatchOrdering o (rank_of shift width a < rank_of shift width b) (rank_of shift width a ≡ rank_of shift width b) (rank_of shift width b < rank_of shift width a)
+IsRanked shift width a b o =
+    MatchOrdering o (rank_of shift width a < rank_of shift width b) (rank_of shift width a ≡ rank_of shift width b) (rank_of shift width b < rank_of shift width a)
 
 lower_row : (y x y' x' width : ℕ) → y < y' → x < width → y * width + x < y' * width + x'
 lower_row y x y' x' width h g = omega (arith, mul-le-mul_right width h)
 
-ranked_by : (shift width : ℕ) (a b : Point) → IsCovered shift width a → IsCovered shift width b → (rows columns : Ordering) → rows ≡ int_cmp a.0 b.0 → columns ≡ int_cmp a.1 b.1 → IsRanked shift width a b (ordering_then rows columns)
+ranked_by : (shift width : ℕ) (a b : Point) → IsCovered shift width a → IsCovered shift width b → (rows columns : Ordering) → rows ≡ int_cmp a.0 b.0
+    → columns ≡ int_cmp a.1 b.1 → IsRanked shift width a b (ordering_then rows columns)
 ranked_by shift width a b fa fb Less columns e g = lower_row (shifted shift a.0) (shifted shift a.1) (shifted shift b.0) (shifted shift b.1) width
     (omega (arith, ints, int_ranked a.0 b.0 Less e, shifted_is shift a.0 fa.y, shifted_is shift b.0 fb.y)) (in_grid shift width a fa).x
 ranked_by shift width a b fa fb Greater columns e g = lower_row (shifted shift b.0) (shifted shift b.1) (shifted shift a.0) (shifted shift a.1) width
     (omega (arith, ints, int_ranked a.0 b.0 Greater e, shifted_is shift a.0 fa.y, shifted_is shift b.0 fb.y)) (in_grid shift width b fb).x
-ranked_by shift width a b fa fb Equal Less e g = omega (arith, ints, ap (λ z. shifted shift z * width) (int_ranked a.0 b.0 Equal e), int_ranked a.1 b.1 Less g, shifted_is shift a.1 fa.x, shifted_is shift b.1 fb.x)
-ranked_by shift width a b fa fb Equal Equal e g = omega (arith, ap (λ z. shifted shift z * width) (int_ranked a.0 b.0 Equal e), ap (shifted shift) (int_ranked a.1 b.1 Equal g))
-ranked_by shift width a b fa fb Equal Greater e g = omega (arith, ints, ap (λ z. shifted shift z * width) (int_ranked a.0 b.0 Equal e), int_ranked a.1 b.1 Greater g, shifted_is shift a.1 fa.x, shifted_is shift b.1 fb.x)
+ranked_by shift width a b fa fb Equal Less e g =
+    omega (
+      arith,
+      ints,
+      ap (λ z. shifted shift z * width) (int_ranked a.0 b.0 Equal e),
+      int_ranked a.1 b.1 Less g,
+      shifted_is shift a.1 fa.x,
+      shifted_is shift b.1 fb.x,
+    )
+ranked_by shift width a b fa fb Equal Equal e g =
+    omega (arith, ap (λ z. shifted shift z * width) (int_ranked a.0 b.0 Equal e), ap (shifted shift) (int_ranked a.1 b.1 Equal g))
+ranked_by shift width a b fa fb Equal Greater e g =
+    omega (
+      arith,
+      ints,
+      ap (λ z. shifted shift z * width) (int_ranked a.0 b.0 Equal e),
+      int_ranked a.1 b.1 Greater g,
+      shifted_is shift a.1 fa.x,
+      shifted_is shift b.1 fb.x,
+    )
 
 pub ranked : (shift width : ℕ) (a b : Point) → IsCovered shift width a → IsCovered shift width b → IsRanked shift width a b (point_cmp a b)
 ranked shift width a b fa fb = ranked_by shift width a b fa fb (int_cmp a.0 b.0) (int_cmp a.1 b.1) refl refl
@@ -46,23 +65,35 @@ pub record IsChosen (shift width : ℕ) (a b e : Point) (n : ℕ) : Type 0 where
 pub of_chosen : (P : Point → Type 0) (a b e : Point) → (e ≡ a) ⊎ (e ≡ b) → P a → P b → P e
 of_chosen P a b e which at_a at_b = ⊎_elim (λ k. subst P (sym k) at_a) (λ k. subst P (sym k) at_b) which
 
-chosen : (shift width : ℕ) (a b e : Point) → IsCovered shift width a → IsCovered shift width b → (n : ℕ) → (e ≡ a) ⊎ (e ≡ b) → rank_of shift width e ≡ n → IsChosen shift width a b e n
-chosen shift width a b e fa fb n which at_rank = record { which = which; covered = of_chosen (λ x. IsCovered shift width x) a b e which fa fb; has_rank = at_rank }
+chosen : (shift width : ℕ) (a b e : Point) → IsCovered shift width a → IsCovered shift width b → (n : ℕ) → (e ≡ a) ⊎ (e ≡ b)
+    → rank_of shift width e ≡ n → IsChosen shift width a b e n
+chosen shift width a b e fa fb n which at_rank =
+    record { which = which; covered = of_chosen (λ x. IsCovered shift width x) a b e which fa fb; has_rank = at_rank }
 
-earlier_by : (shift width : ℕ) (a b : Point) → IsCovered shift width a → IsCovered shift width b → (o : Ordering) → IsRanked shift width b a o → IsChosen shift width a b (cond (is_lt o) b a) (min (rank_of shift width a) (rank_of shift width b))
-earlier_by shift width a b fa fb Less h = chosen shift width a b b fa fb (min (rank_of shift width a) (rank_of shift width b)) (inr refl) (omega (arith, h))
-earlier_by shift width a b fa fb Equal h = chosen shift width a b a fa fb (min (rank_of shift width a) (rank_of shift width b)) (inl refl) (omega (arith, h))
-earlier_by shift width a b fa fb Greater h = chosen shift width a b a fa fb (min (rank_of shift width a) (rank_of shift width b)) (inl refl) (omega (arith, h))
+earlier_by : (shift width : ℕ) (a b : Point) → IsCovered shift width a → IsCovered shift width b → (o : Ordering) → IsRanked shift width b a o
+    → IsChosen shift width a b (cond (is_lt o) b a) (min (rank_of shift width a) (rank_of shift width b))
+earlier_by shift width a b fa fb Less h =
+    chosen shift width a b b fa fb (min (rank_of shift width a) (rank_of shift width b)) (inr refl) (omega (arith, h))
+earlier_by shift width a b fa fb Equal h =
+    chosen shift width a b a fa fb (min (rank_of shift width a) (rank_of shift width b)) (inl refl) (omega (arith, h))
+earlier_by shift width a b fa fb Greater h =
+    chosen shift width a b a fa fb (min (rank_of shift width a) (rank_of shift width b)) (inl refl) (omega (arith, h))
 
-later_by : (shift width : ℕ) (a b : Point) → IsCovered shift width a → IsCovered shift width b → (o : Ordering) → IsRanked shift width b a o → IsChosen shift width a b (cond (is_lt o) a b) (max (rank_of shift width a) (rank_of shift width b))
-later_by shift width a b fa fb Less h = chosen shift width a b a fa fb (max (rank_of shift width a) (rank_of shift width b)) (inl refl) (omega (arith, h))
-later_by shift width a b fa fb Equal h = chosen shift width a b b fa fb (max (rank_of shift width a) (rank_of shift width b)) (inr refl) (omega (arith, h))
-later_by shift width a b fa fb Greater h = chosen shift width a b b fa fb (max (rank_of shift width a) (rank_of shift width b)) (inr refl) (omega (arith, h))
+later_by : (shift width : ℕ) (a b : Point) → IsCovered shift width a → IsCovered shift width b → (o : Ordering) → IsRanked shift width b a o
+    → IsChosen shift width a b (cond (is_lt o) a b) (max (rank_of shift width a) (rank_of shift width b))
+later_by shift width a b fa fb Less h =
+    chosen shift width a b a fa fb (max (rank_of shift width a) (rank_of shift width b)) (inl refl) (omega (arith, h))
+later_by shift width a b fa fb Equal h =
+    chosen shift width a b b fa fb (max (rank_of shift width a) (rank_of shift width b)) (inr refl) (omega (arith, h))
+later_by shift width a b fa fb Greater h =
+    chosen shift width a b b fa fb (max (rank_of shift width a) (rank_of shift width b)) (inr refl) (omega (arith, h))
 
-pub earlier_is : (shift width : ℕ) (a b : Point) → IsCovered shift width a → IsCovered shift width b → IsChosen shift width a b (earlier a b) (min (rank_of shift width a) (rank_of shift width b))
+pub earlier_is : (shift width : ℕ) (a b : Point) → IsCovered shift width a → IsCovered shift width b
+    → IsChosen shift width a b (earlier a b) (min (rank_of shift width a) (rank_of shift width b))
 earlier_is shift width a b fa fb = earlier_by shift width a b fa fb (point_cmp b a) (ranked shift width b a fb fa)
 
-pub later_is : (shift width : ℕ) (a b : Point) → IsCovered shift width a → IsCovered shift width b → IsChosen shift width a b (later a b) (max (rank_of shift width a) (rank_of shift width b))
+pub later_is : (shift width : ℕ) (a b : Point) → IsCovered shift width a → IsCovered shift width b
+    → IsChosen shift width a b (later a b) (max (rank_of shift width a) (rank_of shift width b))
 later_is shift width a b fa fb = later_by shift width a b fa fb (point_cmp b a) (ranked shift width b a fb fa)
 
 -- ---- an end on both lines
@@ -109,7 +140,8 @@ abbrev pub high_of : ℕ → ℕ → Point → Point → Point → Point → ℕ
 high_of shift width p q r s = high_rank width (grid_point shift p) (grid_point shift q) (grid_point shift r) (grid_point shift s)
 
 start_by : (shift width : ℕ) (p q r s a b e : Point) → OnOneLine shift width p q r s
-    → IsChosen shift width p q a (min (rank_of shift width p) (rank_of shift width q)) → IsChosen shift width r s b (min (rank_of shift width r) (rank_of shift width s))
+    → IsChosen shift width p q a (min (rank_of shift width p) (rank_of shift width q))
+    → IsChosen shift width r s b (min (rank_of shift width r) (rank_of shift width s))
     → IsChosen shift width a b e (max (rank_of shift width a) (rank_of shift width b)) → IsBound shift width p q r s e (low_of shift width p q r s)
 start_by shift width p q r s a b e f ca cb ce = record {
   on_both = of_chosen (λ x. IsOnBothLines shift width p q r s x) a b e ce.which (of_first shift width p q r s a f ca.which) (of_second shift width p q r s b f cb.which);
@@ -117,20 +149,23 @@ start_by shift width p q r s a b e f ca cb ce = record {
 }
 
 end_by : (shift width : ℕ) (p q r s a b e : Point) → OnOneLine shift width p q r s
-    → IsChosen shift width p q a (max (rank_of shift width p) (rank_of shift width q)) → IsChosen shift width r s b (max (rank_of shift width r) (rank_of shift width s))
+    → IsChosen shift width p q a (max (rank_of shift width p) (rank_of shift width q))
+    → IsChosen shift width r s b (max (rank_of shift width r) (rank_of shift width s))
     → IsChosen shift width a b e (min (rank_of shift width a) (rank_of shift width b)) → IsBound shift width p q r s e (high_of shift width p q r s)
 end_by shift width p q r s a b e f ca cb ce = record {
   on_both = of_chosen (λ x. IsOnBothLines shift width p q r s x) a b e ce.which (of_first shift width p q r s a f ca.which) (of_second shift width p q r s b f cb.which);
   has_rank = omega (arith, ca.has_rank, cb.has_rank, ce.has_rank);
 }
 
-pub start_is : (shift width : ℕ) (p q r s : Point) → OnOneLine shift width p q r s → IsBound shift width p q r s (start_of p q r s) (low_of shift width p q r s)
+pub start_is : (shift width : ℕ) (p q r s : Point) → OnOneLine shift width p q r s
+    → IsBound shift width p q r s (start_of p q r s) (low_of shift width p q r s)
 start_is shift width p q r s f =
     let a : IsChosen shift width p q (earlier p q) (min (rank_of shift width p) (rank_of shift width q)) = earlier_is shift width p q f.covered.at_p f.covered.at_q in
     let b : IsChosen shift width r s (earlier r s) (min (rank_of shift width r) (rank_of shift width s)) = earlier_is shift width r s f.covered.at_r f.covered.at_s in
     start_by shift width p q r s (earlier p q) (earlier r s) (start_of p q r s) f a b (later_is shift width (earlier p q) (earlier r s) a.covered b.covered)
 
-pub end_is : (shift width : ℕ) (p q r s : Point) → OnOneLine shift width p q r s → IsBound shift width p q r s (end_of p q r s) (high_of shift width p q r s)
+pub end_is : (shift width : ℕ) (p q r s : Point) → OnOneLine shift width p q r s
+    → IsBound shift width p q r s (end_of p q r s) (high_of shift width p q r s)
 end_is shift width p q r s f =
     let a : IsChosen shift width p q (later p q) (max (rank_of shift width p) (rank_of shift width q)) = later_is shift width p q f.covered.at_p f.covered.at_q in
     let b : IsChosen shift width r s (later r s) (max (rank_of shift width r) (rank_of shift width s)) = later_is shift width r s f.covered.at_r f.covered.at_s in
@@ -145,10 +180,20 @@ rank_times : (a m p q e f : ℕ) → a * p + m * q ≡ (a + m) * e → (a * f) *
 rank_times a m p q e f g = omega (arith, ap (λ t. t * f) g)
 
 common_by : (width : ℕ) (p q r s e : GridPoint) → OnByWeights p q e → OnByWeights r s e → IsCommonAt width p q r s e
-common_by width p q r s e o u = record { weights = common_at p q r s e o u; there = rank_times o.a o.m (rank width p) (rank width q) (rank width e) (u.a + u.m) (omega (arith, ap (λ t. t * width) o.y, o.x)) }
+common_by width p q r s e o u =
+    record {
+      weights = common_at p q r s e o u;
+      there = rank_times o.a o.m (rank width p) (rank width q) (rank width e) (u.a + u.m) (omega (
+        arith,
+        ap (λ t. t * width) o.y,
+        o.x,
+      ));
+    }
 
 pub common_at_bound : (shift width : ℕ) (p q r s e : Point) → AreCovered shift width p q r s → IsOnBothLines shift width p q r s e
-    → low_of shift width p q r s ≤ rank_of shift width e → rank_of shift width e ≤ high_of shift width p q r s → IsCommonAt width (grid_point shift p) (grid_point shift q) (grid_point shift r) (grid_point shift s) (grid_point shift e)
-common_at_bound shift width p q r s e f o low high = common_by width (grid_point shift p) (grid_point shift q) (grid_point shift r) (grid_point shift s) (grid_point shift e)
-    (between width (grid_point shift p) (grid_point shift q) (grid_point shift e) (in_grid shift width p f.at_p) (in_grid shift width q f.at_q) (in_grid shift width e o.covered) (omega arith) (omega arith) o.first)
-    (between width (grid_point shift r) (grid_point shift s) (grid_point shift e) (in_grid shift width r f.at_r) (in_grid shift width s f.at_s) (in_grid shift width e o.covered) (omega arith) (omega arith) o.second)
+    → low_of shift width p q r s ≤ rank_of shift width e → rank_of shift width e ≤ high_of shift width p q r s
+    → IsCommonAt width (grid_point shift p) (grid_point shift q) (grid_point shift r) (grid_point shift s) (grid_point shift e)
+common_at_bound shift width p q r s e f o low high =
+    common_by width (grid_point shift p) (grid_point shift q) (grid_point shift r) (grid_point shift s) (grid_point shift e)
+    (between width _ _ _ (in_grid shift width p f.at_p) (in_grid shift width q f.at_q) (in_grid shift width e o.covered) (omega arith) (omega arith) o.first)
+    (between width _ _ _ (in_grid shift width r f.at_r) (in_grid shift width s f.at_s) (in_grid shift width e o.covered) (omega arith) (omega arith) o.second)

@@ -8,27 +8,71 @@ use Rattle.geometry_spec.proofs.LineOrder.{OnByWeights}
 use Rattle.geometry_spec.proofs.Shift.{shifted, IsCovered, grid_point, shifted_is, shifted_between}
 
 -- ---- one coordinate
-pub even_shifted : (shift : ℕ) (a b c e : ℤ) (d k m l n : ℕ) → down a ≤ shift → down b ≤ shift → down c ≤ shift → down e ≤ shift → k + m ≡ d → l + n ≡ d
+pub even_shifted : (shift : ℕ) (a b c e : ℤ) (d k m l n : ℕ) → down a ≤ shift → down b ≤ shift → down c ≤ shift → down e ≤ shift → k + m ≡ d
+    → l + n ≡ d
     → scaled_between a b d m ≡ scaled_between c e d n → k * shifted shift a + m * shifted shift b ≡ l * shifted shift c + n * shifted shift e
-even_shifted shift a b c e d k m l n fa fb fc fe g h same = omega (arith, shifted_between shift a b d k m fa fb g, shifted_between shift c e d l n fc fe h, ap up same, ap down same)
+even_shifted shift a b c e d k m l n fa fb fc fe g h same =
+    omega (arith, shifted_between shift a b d k m fa fb g, shifted_between shift c e d l n fc fe h, ap up same, ap down same)
 
-pub even_before : (shift : ℕ) (a b c e : ℤ) (d k m l n : ℕ) → down a ≤ shift → down b ≤ shift → down c ≤ shift → down e ≤ shift → k + m ≡ d → l + n ≡ d
+pub even_before : (shift : ℕ) (a b c e : ℤ) (d k m l n : ℕ) → down a ≤ shift → down b ≤ shift → down c ≤ shift → down e ≤ shift → k + m ≡ d
+    → l + n ≡ d
     → k * shifted shift a + m * shifted shift b ≡ l * shifted shift c + n * shifted shift e → scaled_between a b d m ≡ scaled_between c e d n
-even_before shift a b c e d k m l n fa fb fc fe g h same = same_in (scaled_between a b d m) (scaled_between c e d n) (omega (arith, shifted_between shift a b d k m fa fb g, shifted_between shift c e d l n fc fe h))
+even_before shift a b c e d k m l n fa fb fc fe g h same =
+    same_in (scaled_between a b d m) (scaled_between c e d n) (omega (arith, shifted_between shift a b d k m fa fb g, shifted_between shift c e d l n fc fe h))
 
 same_shifted : (shift : ℕ) (a b : ℤ) (d k m e l n : ℕ) → down a ≤ shift → down b ≤ shift → k + m ≡ d → l + n ≡ e
-    → pos e *ℤ scaled_between a b d m ≡ pos d *ℤ scaled_between a b e n → (k + m) * (l * shifted shift a + n * shifted shift b) ≡ (l + n) * (k * shifted shift a + m * shifted shift b)
-same_shifted shift a b d k m e l n fa fb g h same = omega (arith, ap up same, ap down same, product_is (pos e) (scaled_between a b d m), product_is (pos d) (scaled_between a b e n), ap (λ t. e * t) (shifted_between shift a b d k m fa fb g), ap (λ t. d * t) (shifted_between shift a b e l n fa fb h), ap (λ t. t * (l * shifted shift a + n * shifted shift b)) g, ap (λ t. t * (k * shifted shift a + m * shifted shift b)) h)
+    → pos e *ℤ scaled_between a b d m ≡ pos d *ℤ scaled_between a b e n
+    → (k + m) * (l * shifted shift a + n * shifted shift b) ≡ (l + n) * (k * shifted shift a + m * shifted shift b)
+same_shifted shift a b d k m e l n fa fb g h same =
+    omega (
+      arith,
+      ap up same,
+      ap down same,
+      product_is (pos e) (scaled_between a b d m),
+      product_is (pos d) (scaled_between a b e n),
+      ap (λ t. e * t) (shifted_between shift a b d k m fa fb g),
+      ap (λ t. d * t) (shifted_between shift a b e l n fa fb h),
+      ap (λ t. t * (l * shifted shift a + n * shifted shift b)) g,
+      ap (λ t. t * (k * shifted shift a + m * shifted shift b)) h,
+    )
 
 same_before : (shift : ℕ) (a b : ℤ) (d k m e l n : ℕ) → down a ≤ shift → down b ≤ shift → k + m ≡ d → l + n ≡ e
-    → (k + m) * (l * shifted shift a + n * shifted shift b) ≡ (l + n) * (k * shifted shift a + m * shifted shift b) → pos e *ℤ scaled_between a b d m ≡ pos d *ℤ scaled_between a b e n
-same_before shift a b d k m e l n fa fb g h same = same_in (pos e *ℤ scaled_between a b d m) (pos d *ℤ scaled_between a b e n) (omega (arith, product_is (pos e) (scaled_between a b d m), product_is (pos d) (scaled_between a b e n), ap (λ t. e * t) (shifted_between shift a b d k m fa fb g), ap (λ t. d * t) (shifted_between shift a b e l n fa fb h), ap (λ t. t * (l * shifted shift a + n * shifted shift b)) g, ap (λ t. t * (k * shifted shift a + m * shifted shift b)) h))
+    → (k + m) * (l * shifted shift a + n * shifted shift b) ≡ (l + n) * (k * shifted shift a + m * shifted shift b)
+    → pos e *ℤ scaled_between a b d m ≡ pos d *ℤ scaled_between a b e n
+same_before shift a b d k m e l n fa fb g h same =
+    same_in (pos e *ℤ scaled_between a b d m) (pos d *ℤ scaled_between a b e n) (omega (
+      arith,
+      product_is (pos e) (scaled_between a b d m),
+      product_is (pos d) (scaled_between a b e n),
+      ap (λ t. e * t) (shifted_between shift a b d k m fa fb g),
+      ap (λ t. d * t) (shifted_between shift a b e l n fa fb h),
+      ap (λ t. t * (l * shifted shift a + n * shifted shift b)) g,
+      ap (λ t. t * (k * shifted shift a + m * shifted shift b)) h,
+    ))
 
-on_shifted : (shift : ℕ) (a b c : ℤ) (d k m : ℕ) → down a ≤ shift → down b ≤ shift → down c ≤ shift → k + m ≡ d → scaled_between a b d m ≡ pos d *ℤ c → k * shifted shift a + m * shifted shift b ≡ (k + m) * shifted shift c
-on_shifted shift a b c d k m fa fb fc g same = omega (arith, shifted_between shift a b d k m fa fb g, ap up same, ap down same, product_is (pos d) c, ap (λ t. d * t) (shifted_is shift c fc), ap (λ t. t * shifted shift c) g)
+on_shifted : (shift : ℕ) (a b c : ℤ) (d k m : ℕ) → down a ≤ shift → down b ≤ shift → down c ≤ shift → k + m ≡ d → scaled_between a b d m ≡ pos d *ℤ c
+    → k * shifted shift a + m * shifted shift b ≡ (k + m) * shifted shift c
+on_shifted shift a b c d k m fa fb fc g same =
+    omega (
+      arith,
+      shifted_between shift a b d k m fa fb g,
+      ap up same,
+      ap down same,
+      product_is (pos d) c,
+      ap (λ t. d * t) (shifted_is shift c fc),
+      ap (λ t. t * shifted shift c) g,
+    )
 
-on_before : (shift : ℕ) (a b c : ℤ) (d k m : ℕ) → down a ≤ shift → down b ≤ shift → down c ≤ shift → k + m ≡ d → k * shifted shift a + m * shifted shift b ≡ (k + m) * shifted shift c → scaled_between a b d m ≡ pos d *ℤ c
-on_before shift a b c d k m fa fb fc g same = same_in (scaled_between a b d m) (pos d *ℤ c) (omega (arith, shifted_between shift a b d k m fa fb g, product_is (pos d) c, ap (λ t. d * t) (shifted_is shift c fc), ap (λ t. t * shifted shift c) g))
+on_before : (shift : ℕ) (a b c : ℤ) (d k m : ℕ) → down a ≤ shift → down b ≤ shift → down c ≤ shift → k + m ≡ d
+    → k * shifted shift a + m * shifted shift b ≡ (k + m) * shifted shift c → scaled_between a b d m ≡ pos d *ℤ c
+on_before shift a b c d k m fa fb fc g same =
+    same_in (scaled_between a b d m) (pos d *ℤ c) (omega (
+      arith,
+      shifted_between shift a b d k m fa fb g,
+      product_is (pos d) c,
+      ap (λ t. d * t) (shifted_is shift c fc),
+      ap (λ t. t * shifted shift c) g,
+    ))
 
 -- ---- points
 pub record AreCovered (shift width : ℕ) (p q r s : Point) : Type 0 where
@@ -74,13 +118,15 @@ same_points shift width p q r s f v w same = record {
 
 -- and where weights give two points, their common points differ
 pub same_weights : (shift width : ℕ) (p q r s : Point) (f : AreCovered shift width p q r s) (v w : WeightsOf shift p q r s)
-    → IsSamePoint (common_point_of shift width p q r s f v) (common_point_of shift width p q r s f w) → IsSameWeighted (grid_point shift p) (grid_point shift q) v.a v.m w.a w.m
+    → IsSamePoint (common_point_of shift width p q r s f v) (common_point_of shift width p q r s f w)
+    → IsSameWeighted (grid_point shift p) (grid_point shift q) v.a v.m w.a w.m
 same_weights shift width p q r s f v w same = record {
   y = same_shifted shift p.0 q.0 (v.a + v.m) v.a v.m (w.a + w.m) w.a w.m f.at_p.y f.at_q.y refl refl same.y;
   x = same_shifted shift p.1 q.1 (v.a + v.m) v.a v.m (w.a + w.m) w.a w.m f.at_p.x f.at_q.x refl refl same.x;
 }
 
-pub on_by_weights_of : (shift width : ℕ) (w p q : Point) → IsCovered shift width w → IsCovered shift width p → IsCovered shift width q → LiesOn w p q → OnByWeights (grid_point shift p) (grid_point shift q) (grid_point shift w)
+pub on_by_weights_of : (shift width : ℕ) (w p q : Point) → IsCovered shift width w → IsCovered shift width p → IsCovered shift width q → LiesOn w p q
+    → OnByWeights (grid_point shift p) (grid_point shift q) (grid_point shift w)
 on_by_weights_of shift width w p q fw fp fq o = record {
   a = o.d - o.m;
   m = o.m;
@@ -89,7 +135,8 @@ on_by_weights_of shift width w p q fw fp fq o = record {
   x = on_shifted shift p.1 q.1 w.1 o.d (o.d - o.m) o.m fp.x fq.x fw.x (omega (arith, o.within)) o.same_x;
 }
 
-pub lies_on_of : (shift width : ℕ) (w p q : Point) → IsCovered shift width w → IsCovered shift width p → IsCovered shift width q → OnByWeights (grid_point shift p) (grid_point shift q) (grid_point shift w) → LiesOn w p q
+pub lies_on_of : (shift width : ℕ) (w p q : Point) → IsCovered shift width w → IsCovered shift width p → IsCovered shift width q
+    → OnByWeights (grid_point shift p) (grid_point shift q) (grid_point shift w) → LiesOn w p q
 lies_on_of shift width w p q fw fp fq o = record {
   d = o.a + o.m;
   m = o.m;

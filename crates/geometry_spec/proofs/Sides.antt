@@ -5,7 +5,7 @@ use Rattle.std.proofs.lemmas.Bool.Decides.{nat_tests}
 use borrow.Author.Differences.{up, down}
 use Rattle.geometry_spec.specs.Points.{Point, orientation_of}
 use Rattle.geometry_spec.specs.Signs.{have_one_sign, are_zero}
-use Rattle.geometry_spec.proofs.Weights.{GridPoint, left_sum, right_sum, Weights, IsSameWeighted, four_determinants, weighted_determinants, none_to_the_right, none_to_the_left, crossing_leftwards, crossing_rightwards, same_proportion, same_by_proportion}
+use Rattle.geometry_spec.proofs.Weights.{GridPoint, left_sum, right_sum, Weights, IsSameWeighted, four_determinants, determinants_cancel, none_to_the_right, none_to_the_left, crossing_leftwards, crossing_rightwards, same_proportion, same_by_proportion}
 use Rattle.geometry_spec.proofs.Shift.{IsCovered, grid_point, shifted_orientation}
 use Rattle.geometry_spec.proofs.ShiftedPoints.{AreCovered}
 
@@ -72,17 +72,20 @@ pub record FourSides (p q r s : GridPoint) (of_r of_s of_p of_q : ℤ) : Type 0 
 some_weight : (a b c d : ℕ) → b ≤ a → c ≤ d → (a ≡ b → c ≡ d → ⊥) → 0 < (d - c) + (a - b)
 some_weight a b c d k l differ = grind arith
 
-across_leftwards : (p q r s : GridPoint) (i j k l : ℤ) → FourSides p q r s i j k l → IsFall j i → IsFall k l → (up i ≡ down i → up j ≡ down j → ⊥) → Weights p q r s
+across_leftwards : (p q r s : GridPoint) (i j k l : ℤ) → FourSides p q r s i j k l → IsFall j i → IsFall k l → (up i ≡ down i → up j ≡ down j → ⊥)
+    → Weights p q r s
 across_leftwards p q r s i j k l f g h differ = crossing_leftwards p q r s (down l - up l) (up k - down k) (up j - down j) (down i - up i)
     (some_weight (down i) (up i) (down j) (up j) g.second g.first (λ e e'. differ (sym e) (sym e')))
     (omega (arith, f.r_side.is, g)) (omega (arith, f.s_side.is, g)) (omega (arith, f.p_side.is, h)) (omega (arith, f.q_side.is, h))
 
-across_rightwards : (p q r s : GridPoint) (i j k l : ℤ) → FourSides p q r s i j k l → IsFall i j → IsFall l k → (up i ≡ down i → up j ≡ down j → ⊥) → Weights p q r s
+across_rightwards : (p q r s : GridPoint) (i j k l : ℤ) → FourSides p q r s i j k l → IsFall i j → IsFall l k → (up i ≡ down i → up j ≡ down j → ⊥)
+    → Weights p q r s
 across_rightwards p q r s i j k l f g h differ = crossing_rightwards p q r s (up l - down l) (down k - up k) (down j - up j) (up i - down i)
     (some_weight (up i) (down i) (up j) (down j) g.first g.second differ)
     (omega (arith, f.r_side.is, g)) (omega (arith, f.s_side.is, g)) (omega (arith, f.p_side.is, h)) (omega (arith, f.q_side.is, h))
 
-across : (p q r s : GridPoint) (i j k l : ℤ) → FourSides p q r s i j k l → IsFall i j ⊎ IsFall j i → IsFall k l ⊎ IsFall l k → (up i ≡ down i → up j ≡ down j → ⊥) → Weights p q r s
+across : (p q r s : GridPoint) (i j k l : ℤ) → FourSides p q r s i j k l → IsFall i j ⊎ IsFall j i → IsFall k l ⊎ IsFall l k
+    → (up i ≡ down i → up j ≡ down j → ⊥) → Weights p q r s
 across p q r s i j k l f (inr g) (inl h) differ = across_leftwards p q r s i j k l f g h differ
 across p q r s i j k l f (inl g) (inr h) differ = across_rightwards p q r s i j k l f g h differ
 across p q r s i j k l f (inl g) (inl h) differ = absurd (differ
@@ -93,7 +96,8 @@ across p q r s i j k l f (inr g) (inr h) differ = absurd (differ
     (omega (arith, four_determinants p q r s, f.r_side.is, f.s_side.is, f.p_side.is, f.q_side.is, g, h)))
 
 -- neither segment strictly on one side of the other's line, and not both r and s on the line of p q
-pub some_across : (p q r s : GridPoint) (i j k l : ℤ) → FourSides p q r s i j k l → have_one_sign i j ≡ false → have_one_sign k l ≡ false → are_zero i j ≡ false → Weights p q r s
+pub some_across : (p q r s : GridPoint) (i j k l : ℤ) → FourSides p q r s i j k l → have_one_sign i j ≡ false → have_one_sign k l ≡ false
+    → are_zero i j ≡ false → Weights p q r s
 some_across p q r s i j k l f e g n = across p q r s i j k l f (not_one_sign_is i j e) (not_one_sign_is k l g) (not_zero_is i j n)
 
 -- ---- one common point alone
@@ -112,12 +116,10 @@ one_proportion b n c k f g f' g' h i differ = ⊎_elim
     either)
     (cases_order f g)
 
-determinants_cancel : (p q r s : GridPoint) (w : Weights p q r s) → w.b * right_sum p q r + w.n * right_sum p q s ≡ w.b * left_sum p q r + w.n * left_sum p q s
-determinants_cancel p q r s w = weighted_determinants p q r s w.a w.m w.b w.n w.even w.same_y w.same_x
-
-pub one_across : (p q r s : GridPoint) (i j : ℤ) → IsSide i p q r → IsSide j p q s → are_zero i j ≡ false → (v w : Weights p q r s) → IsSameWeighted p q v.a v.m w.a w.m
+pub one_across : (p q r s : GridPoint) (i j : ℤ) → IsSide i p q r → IsSide j p q s → are_zero i j ≡ false → (v w : Weights p q r s)
+    → IsSameWeighted p q v.a v.m w.a w.m
 one_across p q r s i j g h n v w = same_by_proportion p q r s v w
-    (one_proportion v.b v.n w.b w.n (right_sum p q r) (left_sum p q r) (right_sum p q s) (left_sum p q s) (determinants_cancel p q r s v) (determinants_cancel p q r s w)
+    (one_proportion v.b v.n w.b w.n _ _ _ _ (determinants_cancel p q r s v) (determinants_cancel p q r s w)
     (λ e f. not_zero_is i j n (omega (arith, g.is, e)) (omega (arith, h.is, f))))
 
 -- ---- all on one line
@@ -127,7 +129,8 @@ pub record AreOnOneLine (p q r s : GridPoint) : Type 0 where
   pub p_on : right_sum r s p ≡ left_sum r s p
   pub q_on : right_sum r s q ≡ left_sum r s q
 
-all_on_line : (p q r s : GridPoint) (i j k l : ℤ) → FourSides p q r s i j k l → (up i ≡ down i) × (up j ≡ down j) → IsFall k l ⊎ IsFall l k → AreOnOneLine p q r s
+all_on_line : (p q r s : GridPoint) (i j k l : ℤ) → FourSides p q r s i j k l → (up i ≡ down i) × (up j ≡ down j) → IsFall k l ⊎ IsFall l k
+    → AreOnOneLine p q r s
 all_on_line p q r s i j k l f z (inl h) = record {
   r_on = omega (arith, f.r_side.is, z);
   s_on = omega (arith, f.s_side.is, z);
@@ -142,11 +145,13 @@ all_on_line p q r s i j k l f z (inr h) = record {
 }
 
 -- r and s on the line of p q, and p and q not strictly on one side of r s
-pub on_one_line : (p q r s : GridPoint) (i j k l : ℤ) → FourSides p q r s i j k l → have_one_sign k l ≡ false → are_zero i j ≡ true → AreOnOneLine p q r s
+pub on_one_line : (p q r s : GridPoint) (i j k l : ℤ) → FourSides p q r s i j k l → have_one_sign k l ≡ false → are_zero i j ≡ true
+    → AreOnOneLine p q r s
 on_one_line p q r s i j k l f g z = all_on_line p q r s i j k l f (are_zero_is i j z) (not_one_sign_is k l g)
 
 -- ---- the determinants of points before the shift
-pub side_of : (shift width : ℕ) (a b c : Point) → IsCovered shift width a → IsCovered shift width b → IsCovered shift width c → IsSide (orientation_of a b c) (grid_point shift a) (grid_point shift b) (grid_point shift c)
+pub side_of : (shift width : ℕ) (a b c : Point) → IsCovered shift width a → IsCovered shift width b → IsCovered shift width c
+    → IsSide (orientation_of a b c) (grid_point shift a) (grid_point shift b) (grid_point shift c)
 side_of shift width a b c fa fb fc = record { is = shifted_orientation shift width a b c fa fb fc }
 
 pub four_sides : (shift width : ℕ) (p q r s : Point) → AreCovered shift width p q r s

@@ -36,20 +36,28 @@ swapped p q r s w = record { a = w.b; m = w.n; b = w.a; n = w.m; some = omega ar
 
 -- ---- identities
 -- the four determinants of p, q, r and s add up
-pub four_determinants : (p q r s : GridPoint) → right_sum p q r + right_sum r s p + (left_sum p q s + left_sum r s q) ≡ left_sum p q r + left_sum r s p + (right_sum p q s + right_sum r s q)
+pub four_determinants : (p q r s : GridPoint)
+    → right_sum p q r + right_sum r s p + (left_sum p q s + left_sum r s q) ≡ left_sum p q r + left_sum r s p + (right_sum p q s + right_sum r s q)
 four_determinants p q r s = omega arith
 
 -- the determinants are the weights of the point where two lines cross
-crossing_y : (p q r s : GridPoint) → right_sum p q r * s.y + left_sum p q s * r.y + (right_sum r s p * q.y + left_sum r s q * p.y) ≡ left_sum p q r * s.y + right_sum p q s * r.y + (left_sum r s p * q.y + right_sum r s q * p.y)
+crossing_y : (p q r s : GridPoint)
+    → right_sum p q r * s.y + left_sum p q s * r.y + (right_sum r s p * q.y + left_sum r s q * p.y) ≡ left_sum p q r * s.y + right_sum p q s * r.y + (left_sum r s p * q.y + right_sum r s q * p.y)
 crossing_y p q r s = omega arith
 
-crossing_x : (p q r s : GridPoint) → right_sum p q r * s.x + left_sum p q s * r.x + (right_sum r s p * q.x + left_sum r s q * p.x) ≡ left_sum p q r * s.x + right_sum p q s * r.x + (left_sum r s p * q.x + right_sum r s q * p.x)
+crossing_x : (p q r s : GridPoint)
+    → right_sum p q r * s.x + left_sum p q s * r.x + (right_sum r s p * q.x + left_sum r s q * p.x) ≡ left_sum p q r * s.x + right_sum p q s * r.x + (left_sum r s p * q.x + right_sum r s q * p.x)
 crossing_x p q r s = omega arith
 
 -- at a common point the determinants of r and s, weighted, cancel
-pub weighted_determinants : (p q r s : GridPoint) (a m b n : ℕ) → a + m ≡ b + n → a * p.y + m * q.y ≡ b * r.y + n * s.y → a * p.x + m * q.x ≡ b * r.x + n * s.x
+weighted_determinants : (p q r s : GridPoint) (a m b n : ℕ) → a + m ≡ b + n → a * p.y + m * q.y ≡ b * r.y + n * s.y
+    → a * p.x + m * q.x ≡ b * r.x + n * s.x
     → b * right_sum p q r + n * right_sum p q s ≡ b * left_sum p q r + n * left_sum p q s
-weighted_determinants p q r s a m b n e ey ex = omega (arith, ap (λ t. t * (p.y * q.x)) e, ap (λ t. t * (p.x * q.y)) e, ap (λ t. t * q.x) ey, ap (λ t. t * p.x) ey, ap (λ t. t * q.y) ex, ap (λ t. t * p.y) ex)
+weighted_determinants p q r s a m b n e ey ex =
+    omega (arith, ap (λ t. t * (p.y * q.x)) e, ap (λ t. t * (p.x * q.y)) e, ap (λ t. t * q.x) ey, ap (λ t. t * p.x) ey, ap (λ t. t * q.y) ex, ap (λ t. t * p.y) ex)
+
+pub determinants_cancel : (p q r s : GridPoint) (w : Weights p q r s) → w.b * right_sum p q r + w.n * right_sum p q s ≡ w.b * left_sum p q r + w.n * left_sum p q s
+determinants_cancel p q r s w = weighted_determinants p q r s w.a w.m w.b w.n w.even w.same_y w.same_x
 
 -- ---- r and s strictly on one side of p q: no common point
 no_weight : (b n f g f' g' : ℕ) → g < f → g' < f' → b * f + n * f' ≡ b * g + n * g' → b + n ≡ 0
@@ -57,17 +65,18 @@ no_weight b n f g f' g' h k e = omega (arith, mul-le-mul_left b h, mul-le-mul_le
 
 pub none_to_the_right : (p q r s : GridPoint) → left_sum p q r < right_sum p q r → left_sum p q s < right_sum p q s → Weights p q r s → ⊥
 none_to_the_right p q r s g h w =
-    let z : w.b + w.n ≡ 0 = no_weight w.b w.n (right_sum p q r) (left_sum p q r) (right_sum p q s) (left_sum p q s) g h (weighted_determinants p q r s w.a w.m w.b w.n w.even w.same_y w.same_x) in
+    let z : w.b + w.n ≡ 0 = no_weight w.b w.n _ _ _ _ g h (determinants_cancel p q r s w) in
     omega (arith, w.some, w.even, z)
 
 pub none_to_the_left : (p q r s : GridPoint) → right_sum p q r < left_sum p q r → right_sum p q s < left_sum p q s → Weights p q r s → ⊥
 none_to_the_left p q r s g h w =
-    let z : w.b + w.n ≡ 0 = no_weight w.b w.n (left_sum p q r) (right_sum p q r) (left_sum p q s) (right_sum p q s) g h (sym (weighted_determinants p q r s w.a w.m w.b w.n w.even w.same_y w.same_x)) in
+    let z : w.b + w.n ≡ 0 = no_weight w.b w.n _ _ _ _ g h (sym (determinants_cancel p q r s w)) in
     omega (arith, w.some, w.even, z)
 
 -- ---- r not to the left and s not to the right of p q, and the other way round for p and q: a common point
 pub crossing_leftwards : (p q r s : GridPoint) (a m b n : ℕ) → 0 < b + n
-    → n + left_sum p q r ≡ right_sum p q r → b + right_sum p q s ≡ left_sum p q s → m + right_sum r s p ≡ left_sum r s p → a + left_sum r s q ≡ right_sum r s q
+    → n + left_sum p q r ≡ right_sum p q r → b + right_sum p q s ≡ left_sum p q s → m + right_sum r s p ≡ left_sum r s p
+    → a + left_sum r s q ≡ right_sum r s q
     → Weights p q r s
 crossing_leftwards p q r s a m b n some en eb em ea = record {
   a = a;
@@ -81,7 +90,8 @@ crossing_leftwards p q r s a m b n some en eb em ea = record {
 }
 
 pub crossing_rightwards : (p q r s : GridPoint) (a m b n : ℕ) → 0 < b + n
-    → n + right_sum p q r ≡ left_sum p q r → b + left_sum p q s ≡ right_sum p q s → m + left_sum r s p ≡ right_sum r s p → a + right_sum r s q ≡ left_sum r s q
+    → n + right_sum p q r ≡ left_sum p q r → b + left_sum p q s ≡ right_sum p q s → m + left_sum r s p ≡ right_sum r s p
+    → a + right_sum r s q ≡ left_sum r s q
     → Weights p q r s
 crossing_rightwards p q r s a m b n some en eb em ea = record {
   a = a;
@@ -110,6 +120,22 @@ same_proportion b n b' n' f g f' g' e e' h = cancel (b * n') (b' * n) f g h (ome
 
 pub same_by_proportion : (p q r s : GridPoint) (v w : Weights p q r s) → v.b * w.n ≡ w.b * v.n → IsSameWeighted p q v.a v.m w.a w.m
 same_by_proportion p q r s v w e = record {
-  y = omega (arith, ap (λ t. t * r.y) e, ap (λ t. t * s.y) e, ap (λ t. t * (w.a + w.m)) v.same_y, ap (λ t. t * (v.a + v.m)) w.same_y, ap (λ t. t * (w.b * r.y + w.n * s.y)) v.even, ap (λ t. t * (v.b * r.y + v.n * s.y)) w.even);
-  x = omega (arith, ap (λ t. t * r.x) e, ap (λ t. t * s.x) e, ap (λ t. t * (w.a + w.m)) v.same_x, ap (λ t. t * (v.a + v.m)) w.same_x, ap (λ t. t * (w.b * r.x + w.n * s.x)) v.even, ap (λ t. t * (v.b * r.x + v.n * s.x)) w.even);
+  y = omega (
+    arith,
+    ap (λ t. t * r.y) e,
+    ap (λ t. t * s.y) e,
+    ap (λ t. t * (w.a + w.m)) v.same_y,
+    ap (λ t. t * (v.a + v.m)) w.same_y,
+    ap (λ t. t * (w.b * r.y + w.n * s.y)) v.even,
+    ap (λ t. t * (v.b * r.y + v.n * s.y)) w.even,
+  );
+  x = omega (
+    arith,
+    ap (λ t. t * r.x) e,
+    ap (λ t. t * s.x) e,
+    ap (λ t. t * (w.a + w.m)) v.same_x,
+    ap (λ t. t * (v.a + v.m)) w.same_x,
+    ap (λ t. t * (w.b * r.x + w.n * s.x)) v.even,
+    ap (λ t. t * (v.b * r.x + v.n * s.x)) w.even,
+  );
 }

@@ -1,7 +1,5 @@
 -- Edits of small cells, with what they touch and what is judged anew after them.
-use Rattle.std.specs.Prelude.{◌≡◌, ℕ, Bool, true, false, List, [], ◌∷◌, map}
-use Rattle.s57_types.specs.declared.name.RecName.{RecName}
-use Rattle.cell_spec.specs.declared.edit.Edit.{Edit}
+use Rattle.std.specs.Prelude.{◌≡◌, true, false, [], ◌∷◌, map}
 use Rattle.cell_spec.specs.declared.edit.Edit.TheVariants.{Add, Set, Del}
 use Rattle.cell_spec.specs.declared.key.Key.TheVariants.{Name, Refs, Foid}
 use Rattle.cell_spec.specs.declared.key.Subject.TheVariants.{Rec, Side, Pair, Ident}
@@ -9,7 +7,7 @@ use Rattle.cell_spec.specs.Edits.{apply_edits, is_applicable, touched_keys}
 use Rattle.cell_spec.specs.Lookup.{name_of}
 use Rattle.rule_spec.specs.Affected.{change_by, affected_list, lookup_budget}
 use Rattle.rule_spec.specs.Reads.{read_set}
-use Rattle.plain_findings.specs.Parts.{vc, ve, fe, lnam, at, node, edge, spot}
+use Rattle.plain_findings.specs.Parts.{vc, ve, fe, lnam, at, node, edge}
 use Rattle.plain_findings.specs.Samples.{grid, closed_edge, used_by_line, self_named, node_on_line}
 
 -- a new node goes last, a replaced one keeps its place, and the list closes up where one is deleted
@@ -17,7 +15,7 @@ abbrev pub EditsKeepPlaces : Type 0
 EditsKeepPlaces =
     (map name_of (apply_edits (Add (node 9 (at 5 5)) ∷ Set (node 2 (at 7 7)) ∷ Add (node 8 (at 6 6)) ∷ Del (vc 3) ∷ []) grid).vc ≡ vc 1 ∷ vc 2 ∷ vc 4 ∷ vc 9 ∷ vc 8 ∷ []) ×
     (map (λ edit. is_applicable (edit ∷ []) grid) (Add (node 1 (at 0 0)) ∷ Add (node 9 (at 0 0)) ∷ Set (node 9 (at 0 0)) ∷ Set (node 1 (at 0 0)) ∷ Del (vc 9) ∷ Del (vc 1) ∷ [])
-        ≡ false ∷ true ∷ false ∷ true ∷ false ∷ true ∷ [])
+    ≡ false ∷ true ∷ false ∷ true ∷ false ∷ true ∷ [])
 
 abbrev pub ReadsAreAsListed : Type 0
 ReadsAreAsListed =

@@ -1,14 +1,13 @@
 -- What the rules find in small cells.
-use Rattle.std.specs.Prelude.{◌≡◌, ℕ, List, [], ◌∷◌, ◌++◌, map}
+use Rattle.std.specs.Prelude.{◌≡◌, ℕ, List, [], ◌∷◌, map}
 use Rattle.s57_types.specs.declared.cell.Cell.{Cell}
-use Rattle.s57_types.specs.declared.name.RecName.{RecName}
 use Rattle.cell_spec.specs.declared.edit.Edit.TheVariants.{Add, Set, Del}
 use Rattle.cell_spec.specs.declared.finding.Finding.{Finding}
 use Rattle.cell_spec.specs.declared.key.Subject.{Subject}
 use Rattle.cell_spec.specs.declared.key.Subject.TheVariants.{Rec, Side, Pair, Ident}
 use Rattle.rule_spec.specs.Findings.{all_findings, finding, finding_total}
 use Rattle.rule_spec.specs.Kinds.{all_kinds}
-use Rattle.plain_findings.specs.Parts.{vi, vc, ve, fe, lnam, at, node, spot, outer, inner, feature, depth_area, square, vector}
+use Rattle.plain_findings.specs.Parts.{vi, vc, ve, fe, lnam, at, node, outer, inner, feature, depth_area, square}
 use Rattle.plain_findings.specs.Samples.{empty_cell, grid, grid_after, dangling, closed_edge, used_by_line, stacked_edge, diagonals, node_on_line, touching_edges, overlapping_edges, self_named, knotted_edges, misshapen, nodes_at_one_place, two_squares, ring_area, eight, faulty_features, truncated_square}
 use Rattle.cell_spec.specs.Edits.{apply_edits}
 
@@ -41,9 +40,11 @@ vector_samples =
 abbrev pub pair_samples : List Sample
 pair_samples =
     (diagonals, orphan_edge 1 ∷ orphan_edge 2 ∷ one (Pair (ve 1) (ve 2)) 7 (1 ∷ 1 ∷ []) ∷ []) ∷
-    (node_on_line, orphan_edge 1 ∷ one (Pair (vc 3) (ve 1)) 11 (1 ∷ []) ∷ []) ∷
-    (touching_edges, orphan_edge 1 ∷ orphan_edge 2 ∷ one (Pair (vc 1) (vc 2)) 10 [] ∷ one (Pair (vc 1) (ve 2)) 11 (1 ∷ []) ∷
-        one (Pair (vc 2) (ve 1)) 11 (1 ∷ []) ∷ one (Pair (ve 1) (ve 2)) 8 (1 ∷ 1 ∷ []) ∷ []) ∷
+    (node_on_line, orphan_edge 1 ∷ one (Pair (vc 3) (ve 1)) 11 (1 ∷ []) ∷ []) ∷ (
+      touching_edges,
+      orphan_edge 1 ∷ orphan_edge 2 ∷ one (Pair (vc 1) (vc 2)) 10 [] ∷ one (Pair (vc 1) (ve 2)) 11 (1 ∷ []) ∷
+          one (Pair (vc 2) (ve 1)) 11 (1 ∷ []) ∷ one (Pair (ve 1) (ve 2)) 8 (1 ∷ 1 ∷ []) ∷ [],
+    ) ∷
     (overlapping_edges, orphan_edge 1 ∷ orphan_edge 2 ∷ orphan_edge 3 ∷ one (Pair (ve 1) (ve 2)) 8 (1 ∷ 2 ∷ []) ∷ one (Pair (ve 1) (ve 3)) 9 (1 ∷ 1 ∷ []) ∷ []) ∷ []
 
 -- features and their boundaries
@@ -59,9 +60,11 @@ feature_samples =
     (ring_area (outer 1 1 ∷ outer 2 2 ∷ []), one (Rec (fe 1)) 17 (2 ∷ []) ∷ []) ∷
     (ring_area (inner 1 2 ∷ inner 2 1 ∷ []), one (Rec (fe 1)) 17 (0 ∷ []) ∷ []) ∷
     (eight (outer 1 1 ∷ outer 2 1 ∷ outer 3 1 ∷ outer 4 1 ∷ []), []) ∷
-    (eight (outer 2 1 ∷ outer 3 1 ∷ outer 4 1 ∷ outer 1 1 ∷ []), one (Rec (fe 1)) 17 (2 ∷ []) ∷ []) ∷
-    (faulty_features, one (Rec (fe 5)) 12 [] ∷ one (Rec (fe 6)) 12 [] ∷ one (Rec (fe 7)) 20 [] ∷ (Rec (fe 8), finding 13 (1 ∷ []) ∷ finding 14 (2 ∷ []) ∷ []) ∷
-        one (Rec (fe 10)) 19 (1 ∷ []) ∷ one (Ident (lnam 1)) 25 (2 ∷ []) ∷ []) ∷ []
+    (eight (outer 2 1 ∷ outer 3 1 ∷ outer 4 1 ∷ outer 1 1 ∷ []), one (Rec (fe 1)) 17 (2 ∷ []) ∷ []) ∷ (
+      faulty_features,
+      one (Rec (fe 5)) 12 [] ∷ one (Rec (fe 6)) 12 [] ∷ one (Rec (fe 7)) 20 [] ∷ (Rec (fe 8), finding 13 (1 ∷ []) ∷ finding 14 (2 ∷ []) ∷ []) ∷
+          one (Rec (fe 10)) 19 (1 ∷ []) ∷ one (Ident (lnam 1)) 25 (2 ∷ []) ∷ [],
+    ) ∷ []
 
 -- two findings with the same four numbers at the side of an edge
 abbrev pub both : ℕ → List ℕ → Judged
@@ -69,15 +72,18 @@ both n nums = (Side (ve n), finding 22 nums ∷ finding 23 nums ∷ [])
 
 -- the sides of edges
 abbrev pub side_samples : List Sample
-side_samples =
-    (grid_after (Del (fe 2) ∷ Add (depth_area 3 square) ∷ []),
-        both 1 (0 ∷ 2 ∷ 0 ∷ 0 ∷ []) ∷ both 2 (2 ∷ 0 ∷ 0 ∷ 0 ∷ []) ∷ both 3 (2 ∷ 0 ∷ 0 ∷ 0 ∷ []) ∷ both 4 (0 ∷ 2 ∷ 0 ∷ 0 ∷ []) ∷ []) ∷
-    (apply_edits (Set (node 1 (at 1 1)) ∷ []) two_squares,
-        both 1 (0 ∷ 2 ∷ 0 ∷ 1 ∷ []) ∷ both 2 (2 ∷ 0 ∷ 1 ∷ 0 ∷ []) ∷ both 3 (2 ∷ 0 ∷ 1 ∷ 0 ∷ []) ∷ both 4 (0 ∷ 2 ∷ 0 ∷ 1 ∷ []) ∷ []) ∷
-    (grid_after (Add (feature 4 3 2 30 [] truncated_square) ∷ []), []) ∷
-    (grid_after (Del (fe 2) ∷ Add (feature 4 3 2 30 [] truncated_square) ∷ []),
-        (Side (ve 1), finding 23 (0 ∷ 1 ∷ 0 ∷ 0 ∷ []) ∷ finding 24 (4 ∷ 4 ∷ []) ∷ []) ∷ (Side (ve 2), finding 23 (1 ∷ 0 ∷ 0 ∷ 0 ∷ []) ∷ finding 24 (4 ∷ 2 ∷ []) ∷ []) ∷
-        (Side (ve 3), finding 23 (1 ∷ 0 ∷ 0 ∷ 0 ∷ []) ∷ finding 24 (4 ∷ 1 ∷ []) ∷ []) ∷ (Side (ve 4), finding 23 (0 ∷ 1 ∷ 0 ∷ 0 ∷ []) ∷ finding 24 (4 ∷ 3 ∷ []) ∷ []) ∷ []) ∷ []
+side_samples = (
+  grid_after (Del (fe 2) ∷ Add (depth_area 3 square) ∷ []),
+  both 1 (0 ∷ 2 ∷ 0 ∷ 0 ∷ []) ∷ both 2 (2 ∷ 0 ∷ 0 ∷ 0 ∷ []) ∷ both 3 (2 ∷ 0 ∷ 0 ∷ 0 ∷ []) ∷ both 4 (0 ∷ 2 ∷ 0 ∷ 0 ∷ []) ∷ [],
+) ∷ (
+  apply_edits (Set (node 1 (at 1 1)) ∷ []) two_squares,
+  both 1 (0 ∷ 2 ∷ 0 ∷ 1 ∷ []) ∷ both 2 (2 ∷ 0 ∷ 1 ∷ 0 ∷ []) ∷ both 3 (2 ∷ 0 ∷ 1 ∷ 0 ∷ []) ∷ both 4 (0 ∷ 2 ∷ 0 ∷ 1 ∷ []) ∷ [],
+) ∷
+    (grid_after (Add (feature 4 3 2 30 [] truncated_square) ∷ []), []) ∷ (
+      grid_after (Del (fe 2) ∷ Add (feature 4 3 2 30 [] truncated_square) ∷ []),
+      (Side (ve 1), finding 23 (0 ∷ 1 ∷ 0 ∷ 0 ∷ []) ∷ finding 24 (4 ∷ 4 ∷ []) ∷ []) ∷ (Side (ve 2), finding 23 (1 ∷ 0 ∷ 0 ∷ 0 ∷ []) ∷ finding 24 (4 ∷ 2 ∷ []) ∷ []) ∷
+          (Side (ve 3), finding 23 (1 ∷ 0 ∷ 0 ∷ 0 ∷ []) ∷ finding 24 (4 ∷ 1 ∷ []) ∷ []) ∷ (Side (ve 4), finding 23 (0 ∷ 1 ∷ 0 ∷ 0 ∷ []) ∷ finding 24 (4 ∷ 3 ∷ []) ∷ []) ∷ [],
+    ) ∷ []
 
 -- what is found in each cell is what stands beside it
 abbrev pub AreFoundAs : List Sample → Type 0

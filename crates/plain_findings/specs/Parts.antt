@@ -1,18 +1,15 @@
 -- The parts of small cells.
 use Rattle.std.specs.Prelude.{ℕ, pos, List, [], ◌∷◌, map, replicate}
 use Rattle.s57_types.specs.declared.head.Head.{Head}
-use Rattle.s57_types.specs.declared.name.Kind.{Kind}
 use Rattle.s57_types.specs.declared.name.Kind.TheVariants.{Vi, Vc, Ve, Fe}
 use Rattle.s57_types.specs.declared.name.Lnam.{Lnam}
 use Rattle.s57_types.specs.declared.name.RecName.{RecName}
 use Rattle.s57_types.specs.declared.record.Attr.{Attr}
 use Rattle.s57_types.specs.declared.record.End.{End}
-use Rattle.s57_types.specs.declared.record.Feature.{Feature}
 use Rattle.s57_types.specs.declared.record.Partner.{Partner}
 use Rattle.s57_types.specs.declared.record.Rec.{Rec}
 use Rattle.s57_types.specs.declared.record.Rec.TheVariants.{V, F}
 use Rattle.s57_types.specs.declared.record.Spot.{Spot}
-use Rattle.s57_types.specs.declared.record.Vector.{Vector}
 use Rattle.geometry_spec.specs.Points.{Point}
 
 abbrev pub vi : ℕ → RecName
@@ -87,9 +84,35 @@ coverage_area n places = feature n 3 2 302 (catcov 49 ∷ []) places
 
 abbrev pub head : Head
 head = record {
-  dsid_rcid = 1; intu = 5; dsnm = []; edtn = []; updn = []; uadt = replicate 8 48; isdt = replicate 8 48; sted = replicate 4 48; prsp = 1;
-  psdn = []; pred = []; prof = 1; agen = 1; dsid_comt = []; aall = 0; nall = 0; dspm_rcid = 1; hdat = 2; vdat = 23; sdat = 23; cscl = 10000;
-  duni = 1; huni = 1; puni = 1; coun = 1; comf = 10000000; somf = 10; dspm_comt = [] }
+  dsid_rcid = 1;
+  intu = 5;
+  dsnm = [];
+  edtn = [];
+  updn = [];
+  uadt = replicate 8 48;
+  isdt = replicate 8 48;
+  sted = replicate 4 48;
+  prsp = 1;
+  psdn = [];
+  pred = [];
+  prof = 1;
+  agen = 1;
+  dsid_comt = [];
+  aall = 0;
+  nall = 0;
+  dspm_rcid = 1;
+  hdat = 2;
+  vdat = 23;
+  sdat = 23;
+  cscl = 10000;
+  duni = 1;
+  huni = 1;
+  puni = 1;
+  coun = 1;
+  comf = 10000000;
+  somf = 10;
+  dspm_comt = [];
+}
 
 -- the boundary of a square of the edges 1 to 4, clockwise
 abbrev pub square : List Spot

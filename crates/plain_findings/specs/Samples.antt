@@ -1,12 +1,12 @@
 -- Small cells.
-use Rattle.std.specs.Prelude.{ℕ, pos, negsuc, List, [], ◌∷◌, ◌++◌, map}
+use Rattle.std.specs.Prelude.{ℕ, pos, negsuc, List, [], ◌∷◌, map}
 use Rattle.s57_types.specs.declared.cell.Cell.{Cell}
 use Rattle.s57_types.specs.declared.record.Rec.{Rec}
 use Rattle.s57_types.specs.declared.record.Spot.{Spot}
 use Rattle.cell_spec.specs.declared.edit.Edit.{Edit}
-use Rattle.cell_spec.specs.declared.edit.Edit.TheVariants.{Add, Set, Del}
+use Rattle.cell_spec.specs.declared.edit.Edit.TheVariants.{Add}
 use Rattle.cell_spec.specs.Edits.{apply_edits}
-use Rattle.plain_findings.specs.Parts.{head, vi, vc, ve, fe, at, node, edge, end_of, vector, spot, outer, inner, feature, depth_area, coverage_area, partnered, named_alike, square}
+use Rattle.plain_findings.specs.Parts.{head, vi, vc, ve, at, node, edge, end_of, vector, spot, outer, feature, depth_area, coverage_area, partnered, named_alike, square}
 
 abbrev pub cell : List Rec → List Rec → List Rec → Cell
 cell nodes edges features = record { head = head; vi = []; vc = nodes; ve = edges; fe = features }
@@ -94,7 +94,7 @@ eight places = cell (node 1 (at 0 0) ∷ node 2 (at 10 10) ∷ node 3 (at 20 20)
 abbrev pub faulty_features : Cell
 faulty_features = apply_edits
     (Add (feature 5 2 2 30 [] []) ∷ Add (feature 6 1 2 30 [] (spot (ve 1) 255 255 255 ∷ [])) ∷ Add (feature 7 255 1 30 [] []) ∷
-     Add (feature 8 3 2 30 [] (outer 9 1 ∷ spot (ve 1) 255 1 255 ∷ [])) ∷ Add (partnered 10 (99 ∷ 1 ∷ [])) ∷ Add (named_alike 11 1) ∷ []) grid
+    Add (feature 8 3 2 30 [] (outer 9 1 ∷ spot (ve 1) 255 1 255 ∷ [])) ∷ Add (partnered 10 (99 ∷ 1 ∷ [])) ∷ Add (named_alike 11 1) ∷ []) grid
 
 -- an area on the square whose boundary is said to be cut off by the data limit
 abbrev pub truncated_square : List Spot

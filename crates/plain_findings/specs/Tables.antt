@@ -1,8 +1,6 @@
 -- Tables that the definitions answer to.
-use Rattle.std.specs.Prelude.{◌≡◌, ℕ, ◌&&◌, Bool, true, false, not, List, [], ◌∷◌, Option, None, Some, map, filter, flat_map, pos, negsuc, replicate}
-use Rattle.std.specs.List.{list_any}
+use Rattle.std.specs.Prelude.{◌≡◌, ℕ, Bool, true, false, List, [], ◌∷◌, Option, None, Some, map, filter, flat_map, pos, negsuc}
 use Rattle.s57_types.specs.declared.cell.Cell.{Cell}
-use Rattle.s57_types.specs.declared.name.RecName.{RecName}
 use Rattle.s57_types.specs.declared.record.Attr.{Attr}
 use Rattle.s57_types.specs.declared.record.Feature.{Feature}
 use Rattle.s57_types.specs.declared.record.Spot.{Spot}
@@ -34,7 +32,7 @@ CodesFitTheTable =
     (accepted 1 ≡ (255, 255, 255) ∷ []) ×
     (accepted 2 ≡ (1, 255, 1) ∷ (1, 255, 2) ∷ (1, 255, 255) ∷ (2, 255, 1) ∷ (2, 255, 2) ∷ (2, 255, 255) ∷ (255, 255, 1) ∷ (255, 255, 2) ∷ (255, 255, 255) ∷ []) ×
     (accepted 3 ≡ (1, 1, 1) ∷ (1, 1, 2) ∷ (1, 1, 255) ∷ (1, 2, 1) ∷ (1, 2, 2) ∷ (1, 2, 255) ∷ (1, 3, 255) ∷
-        (2, 1, 1) ∷ (2, 1, 2) ∷ (2, 1, 255) ∷ (2, 2, 1) ∷ (2, 2, 2) ∷ (2, 2, 255) ∷ (2, 3, 255) ∷ [])
+    (2, 1, 1) ∷ (2, 1, 2) ∷ (2, 1, 255) ∷ (2, 2, 1) ∷ (2, 2, 2) ∷ (2, 2, 255) ∷ (2, 3, 255) ∷ [])
 
 -- an area of M_COVR with these attributes
 abbrev pub covered : List Attr → Feature
@@ -56,14 +54,14 @@ partition arcs = (loop_lengths arcs, first_open_place arcs)
 abbrev pub BoundariesPartition : Type 0
 BoundariesPartition =
     map partition (
-        [] ∷
-        (arc 1 1 ∷ []) ∷
-        (arc 1 2 ∷ arc 2 1 ∷ []) ∷
-        (arc 1 2 ∷ arc 2 3 ∷ arc 3 2 ∷ arc 2 1 ∷ []) ∷
-        (arc 2 3 ∷ arc 3 2 ∷ arc 2 1 ∷ arc 1 2 ∷ []) ∷
-        (arc 1 2 ∷ arc 2 1 ∷ arc 3 4 ∷ []) ∷
-        (arc 1 2 ∷ arc 3 1 ∷ []) ∷
-        (arc 1 1 ∷ arc 2 2 ∷ arc 3 4 ∷ arc 4 3 ∷ []) ∷ [])
+    [] ∷
+    (arc 1 1 ∷ []) ∷
+    (arc 1 2 ∷ arc 2 1 ∷ []) ∷
+    (arc 1 2 ∷ arc 2 3 ∷ arc 3 2 ∷ arc 2 1 ∷ []) ∷
+    (arc 2 3 ∷ arc 3 2 ∷ arc 2 1 ∷ arc 1 2 ∷ []) ∷
+    (arc 1 2 ∷ arc 2 1 ∷ arc 3 4 ∷ []) ∷
+    (arc 1 2 ∷ arc 3 1 ∷ []) ∷
+    (arc 1 1 ∷ arc 2 2 ∷ arc 3 4 ∷ arc 4 3 ∷ []) ∷ [])
     ≡ ([], None) ∷ (1 ∷ [], None) ∷ (2 ∷ [], None) ∷ (4 ∷ [], None) ∷ (2 ∷ 2 ∷ [], None) ∷ (2 ∷ [], Some 3) ∷ ([], Some 1) ∷ (1 ∷ 1 ∷ 2 ∷ [], None) ∷ []
 
 -- two nodes, the second at these places
@@ -74,8 +72,8 @@ abbrev pub TilesDecideCandidates : Type 0
 TilesDecideCandidates =
     (map (λ east. is_oversized (box_of (at 0 0) (at 0 east))) (4128768 ∷ 4194304 ∷ []) ≡ false ∷ true ∷ []) ×
     (map two_nodes (
-        cell (node 1 (pos 65536, negsuc 0) ∷ node 2 (pos 65536, negsuc 0) ∷ []) [] [] ∷
-        cell (node 1 (pos 65536, negsuc 0) ∷ node 2 (pos 65536, pos 0) ∷ []) [] [] ∷
-        cell (node 1 (negsuc 0, pos 5) ∷ node 2 (negsuc 65535, pos 65535) ∷ []) [] [] ∷ []) ≡ true ∷ false ∷ true ∷ []) ×
+    cell (node 1 (pos 65536, negsuc 0) ∷ node 2 (pos 65536, negsuc 0) ∷ []) [] [] ∷
+    cell (node 1 (pos 65536, negsuc 0) ∷ node 2 (pos 65536, pos 0) ∷ []) [] [] ∷
+    cell (node 1 (negsuc 0, pos 5) ∷ node 2 (negsuc 65535, pos 65535) ∷ []) [] [] ∷ []) ≡ true ∷ false ∷ true ∷ []) ×
     (candidates_of diagonals (ve 1) ≡ vc 1 ∷ vc 2 ∷ vc 3 ∷ vc 4 ∷ ve 2 ∷ []) ×
     (candidates_of grid (vc 1) ≡ vc 2 ∷ vc 3 ∷ vc 4 ∷ ve 1 ∷ ve 2 ∷ ve 3 ∷ ve 4 ∷ [])

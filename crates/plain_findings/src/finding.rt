@@ -9,8 +9,16 @@ ghost use Rattle.rule_spec.specs.Vectors.{stacked as spec_stacked, self_meet as 
 ghost use Rattle.rule_spec.specs.Rules.{vector_rules, feature_rules, pair_rules, side_rules, identity_rules, on_edges, on_nodes};
 
 use cell_spec::{Finding, Findings, Subject, Subjects};
-use plain_lookups::{Found, Nums, ascending_subjects, bearers, edge_named, is_chain_part, is_edge_name, is_node_name, name_of, record_named};
-use plain_rules::{bad_codes, bad_shape, contact_of_kind, dangling_end, dangling_feature, dangling_ref, end_count, false_truncation, mixed_ring, node_on_edge, node_pointer, open_ring, orphan, outer_count, prim_refs, same_place, self_meet, side_overlap, side_unbalanced, stacked, twice_foid, wrong_group, wrong_turn};
+use plain_lookups::{
+    Found, Nums, ascending_subjects, bearers, edge_named, is_chain_part, is_edge_name,
+    is_node_name, name_of, record_named,
+};
+use plain_rules::{
+    bad_codes, bad_shape, contact_of_kind, dangling_end, dangling_feature, dangling_ref, end_count,
+    false_truncation, mixed_ring, node_on_edge, node_pointer, open_ring, orphan, outer_count,
+    prim_refs, same_place, self_meet, side_overlap, side_unbalanced, stacked, twice_foid,
+    wrong_group, wrong_turn,
+};
 use s57_types::{Cell, Feature, Items, Lnam, Rec, RecName, Recs, Vector};
 use std::alloc::{AllocError, Global};
 
@@ -86,7 +94,11 @@ fn add_pairs(found: &mut Vec<Subject>, a: RecName, names: &[RecName]) -> Result<
     Ok(())
 }
 
-fn add_all_pairs(found: &mut Vec<Subject>, firsts: &[RecName], names: &[RecName]) -> Result<(), AllocError>
+fn add_all_pairs(
+    found: &mut Vec<Subject>,
+    firsts: &[RecName],
+    names: &[RecName],
+) -> Result<(), AllocError>
     ensures { OnOk result (found.new.items ≡ found.old.items ++ flat_map (λ a. map (SpecPair a) names.now) firsts.now) }
 {
     for a in firsts {
@@ -123,7 +135,11 @@ fn add_borne(found: &mut Vec<Subject>, borne: &[Lnam]) -> Result<(), AllocError>
 }
 
 /// All that may be a subject.
-fn possible_subjects_of(alloc: Global, names: &[RecName], borne: &[Lnam]) -> Result<Vec<Subject>, AllocError>
+fn possible_subjects_of(
+    alloc: Global,
+    names: &[RecName],
+    borne: &[Lnam],
+) -> Result<Vec<Subject>, AllocError>
     ensures { IfOk result (λ found. found.items ≡ possible_subjects names.now borne.now) }
 {
     let mut found = Vec::new(alloc);
@@ -191,7 +207,12 @@ fn finding(kind: u8, nums: &Nums) -> Finding
 }
 
 /// Adds what a rule found, if its kind is asked for.
-fn add_found(out: &mut Vec<Finding>, asked: &[u8], kind: u8, found: &Found) -> Result<(), AllocError>
+fn add_found(
+    out: &mut Vec<Finding>,
+    asked: &[u8],
+    kind: u8,
+    found: &Found,
+) -> Result<(), AllocError>
     ensures { OnOk result (out.new.items ≡ out.old.items ++ (if spec_is_asked asked.now kind then map (spec_finding kind) found.now else [])) }
 {
     if is_asked(asked, kind) {
@@ -265,7 +286,12 @@ fn node_pointer_of(alloc: Global, cell: &Cell, vector: &Vector) -> Result<Found,
 }
 
 /// The findings of kinds 1 to 6 about a vector record.
-fn vector_findings(alloc: Global, asked: &[u8], cell: &Cell, vector: &Vector) -> Result<Vec<Finding>, AllocError>
+fn vector_findings(
+    alloc: Global,
+    asked: &[u8],
+    cell: &Cell,
+    vector: &Vector,
+) -> Result<Vec<Finding>, AllocError>
     ensures { IfOk result (λ out. out.items ≡ numbered_findings asked.now (λ rule. rule cell.now vector.now) 1 vector_rules) }
 {
     let mut out = Vec::new(alloc);
@@ -285,7 +311,13 @@ fn vector_findings(alloc: Global, asked: &[u8], cell: &Cell, vector: &Vector) ->
 }
 
 /// The findings of kinds 7 to 11 about two nodes or edges.
-fn pair_findings(alloc: Global, asked: &[u8], cell: &Cell, a: RecName, b: RecName) -> Result<Vec<Finding>, AllocError>
+fn pair_findings(
+    alloc: Global,
+    asked: &[u8],
+    cell: &Cell,
+    a: RecName,
+    b: RecName,
+) -> Result<Vec<Finding>, AllocError>
     ensures { IfOk result (λ out. out.items ≡ numbered_findings asked.now (λ rule. rule cell.now a b) 7 pair_rules) }
 {
     let mut out = Vec::new(alloc);
@@ -303,7 +335,12 @@ fn pair_findings(alloc: Global, asked: &[u8], cell: &Cell, a: RecName, b: RecNam
 }
 
 /// The findings of kinds 21 to 24 about the sides of an edge.
-fn side_findings(alloc: Global, asked: &[u8], cell: &Cell, edge: RecName) -> Result<Vec<Finding>, AllocError>
+fn side_findings(
+    alloc: Global,
+    asked: &[u8],
+    cell: &Cell,
+    edge: RecName,
+) -> Result<Vec<Finding>, AllocError>
     ensures { IfOk result (λ out. out.items ≡ numbered_findings asked.now (λ rule. rule cell.now edge) 21 side_rules) }
 {
     let mut out = Vec::new(alloc);
@@ -319,7 +356,12 @@ fn side_findings(alloc: Global, asked: &[u8], cell: &Cell, edge: RecName) -> Res
 }
 
 /// The findings of kind 25 about an identifier.
-fn identity_findings(alloc: Global, asked: &[u8], cell: &Cell, foid: Lnam) -> Result<Vec<Finding>, AllocError>
+fn identity_findings(
+    alloc: Global,
+    asked: &[u8],
+    cell: &Cell,
+    foid: Lnam,
+) -> Result<Vec<Finding>, AllocError>
     ensures { IfOk result (λ out. out.items ≡ numbered_findings asked.now (λ rule. rule cell.now foid) 25 identity_rules) }
 {
     let mut out = Vec::new(alloc);
@@ -328,7 +370,13 @@ fn identity_findings(alloc: Global, asked: &[u8], cell: &Cell, foid: Lnam) -> Re
     Ok(out)
 }
 
-fn add_pointer_findings(alloc: Global, out: &mut Vec<Finding>, asked: &[u8], cell: &Cell, feature: &Feature) -> Result<(), AllocError>
+fn add_pointer_findings(
+    alloc: Global,
+    out: &mut Vec<Finding>,
+    asked: &[u8],
+    cell: &Cell,
+    feature: &Feature,
+) -> Result<(), AllocError>
     ensures { OnOk result (out.new.items ≡ out.old.items ++ numbered_findings asked.now (λ rule. rule cell.now feature.now) 12 (take 3 feature_rules)) }
 {
     let found = prim_refs(alloc, cell, feature)?;
@@ -339,7 +387,13 @@ fn add_pointer_findings(alloc: Global, out: &mut Vec<Finding>, asked: &[u8], cel
     add_found(out, asked, 14, &found)
 }
 
-fn add_boundary_findings(alloc: Global, out: &mut Vec<Finding>, asked: &[u8], cell: &Cell, feature: &Feature) -> Result<(), AllocError>
+fn add_boundary_findings(
+    alloc: Global,
+    out: &mut Vec<Finding>,
+    asked: &[u8],
+    cell: &Cell,
+    feature: &Feature,
+) -> Result<(), AllocError>
     ensures { OnOk result (out.new.items ≡ out.old.items ++ numbered_findings asked.now (λ rule. rule cell.now feature.now) 15 (take 4 (drop 3 feature_rules))) }
 {
     let found = open_ring(alloc, cell, feature)?;
@@ -353,7 +407,12 @@ fn add_boundary_findings(alloc: Global, out: &mut Vec<Finding>, asked: &[u8], ce
 }
 
 /// The findings of kinds 12 to 20 about a feature.
-fn feature_findings(alloc: Global, asked: &[u8], cell: &Cell, feature: &Feature) -> Result<Vec<Finding>, AllocError>
+fn feature_findings(
+    alloc: Global,
+    asked: &[u8],
+    cell: &Cell,
+    feature: &Feature,
+) -> Result<Vec<Finding>, AllocError>
     ensures { IfOk result (λ out. out.items ≡ numbered_findings asked.now (λ rule. rule cell.now feature.now) 12 feature_rules) }
 {
     let mut out = Vec::new(alloc);
@@ -366,7 +425,12 @@ fn feature_findings(alloc: Global, asked: &[u8], cell: &Cell, feature: &Feature)
     Ok(out)
 }
 
-fn findings_about(alloc: Global, asked: &[u8], cell: &Cell, subject: Subject) -> Result<Vec<Finding>, AllocError>
+fn findings_about(
+    alloc: Global,
+    asked: &[u8],
+    cell: &Cell,
+    subject: Subject,
+) -> Result<Vec<Finding>, AllocError>
     ensures { IfOk result (λ out. out.items ≡ spec_about asked.now cell.now subject) }
 {
     match subject {
@@ -383,7 +447,12 @@ fn findings_about(alloc: Global, asked: &[u8], cell: &Cell, subject: Subject) ->
 
 /// The findings about a subject of the kinds asked for, ascending.
 #[tactic(auto, unfolding(rule_spec::specs::Findings::findings_of_subject))]
-pub fn findings_of_subject(alloc: Global, asked: &[u8], cell: &Cell, subject: Subject) -> Result<Findings, AllocError>
+pub fn findings_of_subject(
+    alloc: Global,
+    asked: &[u8],
+    cell: &Cell,
+    subject: Subject,
+) -> Result<Findings, AllocError>
     ensures { IfOk result (λ found. found ≡ spec_of_subject asked.now cell.now subject) }
 {
     if !is_subject(alloc, cell, subject)? {

@@ -5,7 +5,10 @@ mod finding;
 mod law;
 
 pub use finding::{Judged, all_findings, findings_of_subject, subjects};
-pub use law::{boundaries_partition, changes_are_judged, codes_fit_the_table, samples_are_judged, tiles_decide_candidates};
+pub use law::{
+    boundaries_partition, changes_are_judged, codes_fit_the_table, samples_are_judged,
+    tiles_decide_candidates,
+};
 
 #[cfg(test)]
 mod tests;

@@ -38,7 +38,10 @@ pub fn same_point(p: Point, q: Point) -> bool
 fn ends_with(alloc: Global, topi: u8, ends: &[End]) -> Result<Vec<End>, AllocError>
     ensures { IfOk result (λ found. found.items ≡ filter (λ (e : End). e.topi == topi) ends.now) }
 {
-    ends.iter().copied().filter(|end| end.topi == topi).collect(alloc)
+    ends.iter()
+        .copied()
+        .filter(|end| end.topi == topi)
+        .collect(alloc)
 }
 
 /// The node that an edge names at its one end with a topology indicator.
@@ -62,7 +65,12 @@ pub fn node_position(cell: &Cell, name: RecName) -> Option<Point>
     }
 }
 
-fn points_between(alloc: Global, first: Point, plane: &[Point], last: Point) -> Result<Vec<Point>, AllocError>
+fn points_between(
+    alloc: Global,
+    first: Point,
+    plane: &[Point],
+    last: Point,
+) -> Result<Vec<Point>, AllocError>
     ensures { IfOk result (λ points. points.items ≡ first ∷ (plane.now ++ last ∷ [])) }
 {
     let mut points = Vec::new(alloc);
@@ -111,7 +119,11 @@ pub fn line_named(alloc: Global, cell: &Cell, name: RecName) -> Result<Option<Ed
 pub fn segments_of(alloc: Global, points: &[Point]) -> Result<Vec<Segment>, AllocError>
     ensures { IfOk result (λ segments. segments.items ≡ spec_segments points.now) }
 {
-    points.iter().copied().zip(points.iter().copied().skip(1)).collect(alloc)
+    points
+        .iter()
+        .copied()
+        .zip(points.iter().copied().skip(1))
+        .collect(alloc)
 }
 
 /// Segments with their numbers from 1.

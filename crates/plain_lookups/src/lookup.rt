@@ -79,26 +79,44 @@ pub fn targets(alloc: Global, rec: &Rec) -> Result<Vec<RecName>, AllocError>
 }
 
 /// Adds the places at which a record points to a name.
-fn add_pointers_among(found: &mut Vec<Ref>, name: RecName, rec: &Rec, names: &[RecName]) -> Result<(), AllocError>
+fn add_pointers_among(
+    found: &mut Vec<Ref>,
+    name: RecName,
+    rec: &Rec,
+    names: &[RecName],
+) -> Result<(), AllocError>
     ensures { OnOk result (found.new.items ≡ found.old.items ++ pointers_at name rec.now 1 names.now) }
 {
     for (k, target) in names.iter().enumerate() {
         if name == *target {
             let place = number(k + 1)?;
-            found.push(Ref { from: name_of(rec), place })?;
+            found.push(Ref {
+                from: name_of(rec),
+                place,
+            })?;
         }
     }
     Ok(())
 }
 
-fn add_pointers_in(alloc: Global, found: &mut Vec<Ref>, name: RecName, rec: &Rec) -> Result<(), AllocError>
+fn add_pointers_in(
+    alloc: Global,
+    found: &mut Vec<Ref>,
+    name: RecName,
+    rec: &Rec,
+) -> Result<(), AllocError>
     ensures { OnOk result (found.new.items ≡ found.old.items ++ spec_pointers_in name rec.now) }
 {
     let names = targets(alloc, rec)?;
     add_pointers_among(found, name, rec, &names)
 }
 
-fn add_pointers(alloc: Global, found: &mut Vec<Ref>, name: RecName, recs: &Recs) -> Result<(), AllocError>
+fn add_pointers(
+    alloc: Global,
+    found: &mut Vec<Ref>,
+    name: RecName,
+    recs: &Recs,
+) -> Result<(), AllocError>
     ensures { OnOk result (found.new.items ≡ found.old.items ++ flat_map (spec_pointers_in name) recs.now) }
 {
     for rec in recs.as_slice() {

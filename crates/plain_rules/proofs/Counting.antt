@@ -1,5 +1,5 @@
 -- The first length that passes a test, and loops taken off the front of a list.
-use Rattle.std.proofs.Common.{◌≡◌, ℕ, zero, suc, ◌+◌, ◌<◌, Bool, true, false, List, [], ◌∷◌, length, drop, find, Option, None, Some, refl, ap, ◌∙◌, arith, cond}
+use Rattle.std.proofs.Common.{◌≡◌, ℕ, zero, suc, ◌+◌, ◌<◌, Bool, true, false, List, [], ◌∷◌, length, drop, find, None, Some, refl, ap, ◌∙◌, arith, cond}
 use Rattle.std.specs.Option.{option_map_or}
 use Rattle.std.proofs.lemmas.List.{drop_more}
 use Rattle.rule_spec.specs.Loops.{Arc, counted_from, loop_length, loop_lengths_within}

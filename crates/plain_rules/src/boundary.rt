@@ -37,7 +37,12 @@ fn line_along(alloc: Global, ornt: u8, line: EdgeLine) -> Result<EdgeLine, Alloc
     Ok(line)
 }
 
-fn boundary_row(alloc: Global, cell: &Cell, place: u32, spot: &Spot) -> Result<Option<BoundaryRow>, AllocError>
+fn boundary_row(
+    alloc: Global,
+    cell: &Cell,
+    place: u32,
+    spot: &Spot,
+) -> Result<Option<BoundaryRow>, AllocError>
     ensures { IfOk result (λ row. row ≡ spec_row cell.now (place, spot.now)) }
 {
     match line_named(alloc, cell, spot.to)? {
@@ -55,7 +60,11 @@ fn boundary_row(alloc: Global, cell: &Cell, place: u32, spot: &Spot) -> Result<O
 
 /// The rows of an area's boundary.
 #[tactic(auto, unfolding(rule_spec::specs::Boundary::boundary_of))]
-fn boundary_of(alloc: Global, cell: &Cell, feature: &Feature) -> Result<Vec<BoundaryRow>, AllocError>
+fn boundary_of(
+    alloc: Global,
+    cell: &Cell,
+    feature: &Feature,
+) -> Result<Vec<BoundaryRow>, AllocError>
     ensures { IfOk result (λ rows. rows.items ≡ spec_boundary cell.now feature.now) }
 {
     let places = feature.places.as_slice();
@@ -95,7 +104,9 @@ fn has_usable_boundary(alloc: Global, cell: &Cell, feature: &Feature) -> Result<
 fn arcs_of(alloc: Global, rows: &[BoundaryRow]) -> Result<Vec<Arc>, AllocError>
     ensures { IfOk result (λ arcs. arcs.items ≡ map arc_of rows.now) }
 {
-    rows.iter().map(|row| (row.line.begins, row.line.ends)).collect(alloc)
+    rows.iter()
+        .map(|row| (row.line.begins, row.line.ends))
+        .collect(alloc)
 }
 
 fn is_interior(block: &[BoundaryRow]) -> bool
@@ -136,7 +147,11 @@ fn split_block(rows: &[BoundaryRow], n: usize) -> (&[BoundaryRow], &[BoundaryRow
     rows.split_at(n.min(rows.len()))
 }
 
-fn add_first_place(alloc: Global, found: &mut Found, block: &[BoundaryRow]) -> Result<(), AllocError>
+fn add_first_place(
+    alloc: Global,
+    found: &mut Found,
+    block: &[BoundaryRow],
+) -> Result<(), AllocError>
     ensures { OnOk result (found.new ≡ found.old ++ spec_first_place block.now ∷ []) }
 {
     let list = match block {

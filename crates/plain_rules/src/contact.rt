@@ -11,7 +11,10 @@ ghost use Rattle.rule_spec.specs.Contacts.{is_on as spec_is_on, shared_nodes as 
 use crate::vector::{found_pair, meeting_of_segments};
 use geo_exact::on_segment;
 use geometry_spec::{MeetCase, Point};
-use plain_lookups::{Found, Numbered, Segment, edge_named, found_at, found_if, line_named, node_position, numbered, same_point, segments_of};
+use plain_lookups::{
+    Found, Numbered, Segment, edge_named, found_at, found_if, line_named, node_position, numbered,
+    same_point, segments_of,
+};
 use rule_spec::EdgeLine;
 use s57_types::{Cell, RecName, Vector};
 use std::alloc::{AllocError, Global};
@@ -91,7 +94,11 @@ fn first_in_row(places: &[Point], a: Numbered, row: &[Numbered]) -> Option<(Numb
     None
 }
 
-fn first_illegal_pair(places: &[Point], first: &[Numbered], second: &[Numbered]) -> Option<(Numbered, Numbered)>
+fn first_illegal_pair(
+    places: &[Point],
+    first: &[Numbered],
+    second: &[Numbered],
+) -> Option<(Numbered, Numbered)>
     ensures { result ≡ find (spec_have_illegal places.now) (each_with_each first.now second.now) }
 {
     for a in first {
@@ -112,7 +119,12 @@ fn numbered_segments(alloc: Global, line: &EdgeLine) -> Result<Vec<Numbered>, Al
 }
 
 /// The first illegal contact of two lines.
-pub fn first_illegal_contact(alloc: Global, cell: &Cell, a: &EdgeLine, b: &EdgeLine) -> Result<Option<(Numbered, Numbered)>, AllocError>
+pub fn first_illegal_contact(
+    alloc: Global,
+    cell: &Cell,
+    a: &EdgeLine,
+    b: &EdgeLine,
+) -> Result<Option<(Numbered, Numbered)>, AllocError>
     ensures { IfOk result (λ pair. pair ≡ spec_first_illegal cell.now a.now b.now) }
 {
     let shared = shared_nodes(alloc, a, b)?;
@@ -133,18 +145,16 @@ fn kind_of_contact(s: Segment, t: Segment, case: MeetCase) -> u8
 {
     match case {
         MeetCase::Apart => 0,
-        MeetCase::At => {
-            if touch_at_an_end(s, t) {
-                8
-            } else {
-                7
-            }
-        }
+        MeetCase::At => { if touch_at_an_end(s, t) { 8 } else { 7 } }
         MeetCase::Along => 9,
     }
 }
 
-fn found_contact(alloc: Global, kind: u8, pair: Option<(Numbered, Numbered)>) -> Result<Found, AllocError>
+fn found_contact(
+    alloc: Global,
+    kind: u8,
+    pair: Option<(Numbered, Numbered)>,
+) -> Result<Found, AllocError>
     ensures { IfOk result (λ found. found ≡ spec_found_contact kind pair) }
 {
     if let Some((a, b)) = pair {
@@ -155,7 +165,13 @@ fn found_contact(alloc: Global, kind: u8, pair: Option<(Numbered, Numbered)>) ->
     Ok(Found::make(alloc))
 }
 
-fn contact_of_lines(alloc: Global, kind: u8, cell: &Cell, a: Option<&EdgeLine>, b: Option<&EdgeLine>) -> Result<Found, AllocError>
+fn contact_of_lines(
+    alloc: Global,
+    kind: u8,
+    cell: &Cell,
+    a: Option<&EdgeLine>,
+    b: Option<&EdgeLine>,
+) -> Result<Found, AllocError>
     ensures { IfOk result (λ found. found ≡ spec_contact kind cell.now (option_copied a.entry) (option_copied b.entry)) }
 {
     let Some(a) = a else {
@@ -169,7 +185,13 @@ fn contact_of_lines(alloc: Global, kind: u8, cell: &Cell, a: Option<&EdgeLine>, 
 }
 
 /// Cross, Touch or Coincide, by the number of the kind.
-pub fn contact_of_kind(alloc: Global, kind: u8, cell: &Cell, a: RecName, b: RecName) -> Result<Found, AllocError>
+pub fn contact_of_kind(
+    alloc: Global,
+    kind: u8,
+    cell: &Cell,
+    a: RecName,
+    b: RecName,
+) -> Result<Found, AllocError>
     ensures { IfOk result (λ found. found ≡ spec_contact kind cell.now (edge_line_of cell.now a) (edge_line_of cell.now b)) }
 {
     let first = line_named(alloc, cell, a)?;
@@ -190,7 +212,11 @@ fn are_same_place(p: Option<Point>, q: Option<Point>) -> bool
 pub fn same_place(alloc: Global, cell: &Cell, a: RecName, b: RecName) -> Result<Found, AllocError>
     ensures { IfOk result (λ found. found ≡ spec_same_place cell.now a b) }
 {
-    found_if(alloc, are_same_place(node_position(cell, a), node_position(cell, b)), &[])
+    found_if(
+        alloc,
+        are_same_place(node_position(cell, a), node_position(cell, b)),
+        &[],
+    )
 }
 
 fn names_node(edge: &Vector, name: RecName) -> bool
@@ -215,7 +241,11 @@ fn first_segment_under(w: Point, segments: &[Segment]) -> Option<usize>
     None
 }
 
-fn segment_under(alloc: Global, w: Option<Point>, line: Option<&EdgeLine>) -> Result<Found, AllocError>
+fn segment_under(
+    alloc: Global,
+    w: Option<Point>,
+    line: Option<&EdgeLine>,
+) -> Result<Found, AllocError>
     ensures { IfOk result (λ found. found ≡ spec_under w (option_copied line.entry)) }
 {
     let Some(w) = w else {

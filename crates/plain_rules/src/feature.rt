@@ -5,7 +5,9 @@ ghost use Rattle.std.specs.List.{list_any};
 ghost use Rattle.rule_spec.specs.Records.{is_node_name as spec_is_node, is_edge_name as spec_is_edge};
 ghost use Rattle.rule_spec.specs.Features.{target as spec_target, is_one_of as spec_is_one_of, fits_primitive as spec_fits, prim_refs as spec_prim_refs, dangling_ref as spec_dangling_ref, has_its_codes as spec_has_codes, bad_codes as spec_bad_codes, dangling_feature as spec_dangling_feature, is_group1_area as spec_group1, says_covered as spec_covered, is_coverage_area as spec_coverage, wrong_group as spec_wrong_group};
 
-use plain_lookups::{Found, add_place, bearers, found_if, is_edge_name, is_node_name, number, record_named};
+use plain_lookups::{
+    Found, add_place, bearers, found_if, is_edge_name, is_node_name, number, record_named,
+};
 use s57_types::{Attr, Cell, Feature, Spot};
 use std::alloc::{AllocError, Global};
 
@@ -62,7 +64,11 @@ pub fn prim_refs(alloc: Global, cell: &Cell, feature: &Feature) -> Result<Found,
     ensures { IfOk result (λ found. found ≡ spec_prim_refs cell.now feature.now) }
 {
     let _ = cell;
-    found_if(alloc, !fits_primitive(feature.prim, feature.places.as_slice()), &[])
+    found_if(
+        alloc,
+        !fits_primitive(feature.prim, feature.places.as_slice()),
+        &[],
+    )
 }
 
 /// DanglingRef.
@@ -83,13 +89,16 @@ pub fn dangling_ref(alloc: Global, cell: &Cell, feature: &Feature) -> Result<Fou
 fn has_line_codes(spot: &Spot) -> bool
     ensures { result ≡ spec_has_codes 2 spot.now }
 {
-    is_one_of(&[1, 2, 255], u16::from(spot.ornt)) && spot.usag == 255 && is_one_of(&[1, 2, 255], u16::from(spot.mask))
+    is_one_of(&[1, 2, 255], u16::from(spot.ornt))
+        && spot.usag == 255
+        && is_one_of(&[1, 2, 255], u16::from(spot.mask))
 }
 
 fn has_area_codes(spot: &Spot) -> bool
     ensures { result ≡ spec_has_codes 3 spot.now }
 {
-    let shown = is_one_of(&[1, 2], u16::from(spot.usag)) && is_one_of(&[1, 2, 255], u16::from(spot.mask));
+    let shown = is_one_of(&[1, 2], u16::from(spot.usag))
+        && is_one_of(&[1, 2, 255], u16::from(spot.mask));
     let truncated = spot.usag == 3 && spot.mask == 255;
     is_one_of(&[1, 2], u16::from(spot.ornt)) && (shown || truncated)
 }

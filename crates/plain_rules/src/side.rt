@@ -56,13 +56,17 @@ pub fn uses_of(alloc: Global, cell: &Cell, name: RecName) -> Result<Vec<EdgeUse>
 fn group1_count(ornt: u8, uses: &[EdgeUse]) -> usize
     ensures { result ≡ side_count (λ u. u.is_group1) ornt uses.now }
 {
-    uses.iter().filter(|u| u.is_group1 && u.ornt == ornt).count()
+    uses.iter()
+        .filter(|u| u.is_group1 && u.ornt == ornt)
+        .count()
 }
 
 fn coverage_count(ornt: u8, uses: &[EdgeUse]) -> usize
     ensures { result ≡ side_count (λ u. u.is_coverage) ornt uses.now }
 {
-    uses.iter().filter(|u| u.is_coverage && u.ornt == ornt).count()
+    uses.iter()
+        .filter(|u| u.is_coverage && u.ornt == ornt)
+        .count()
 }
 
 fn side_counts(uses: &[EdgeUse]) -> Result<EdgeSideCounts, AllocError>
@@ -91,7 +95,16 @@ pub fn orphan(alloc: Global, cell: &Cell, edge: RecName) -> Result<Found, AllocE
 fn found_counts(alloc: Global, test: bool, n: EdgeSideCounts) -> Result<Found, AllocError>
     ensures { IfOk result (λ found. found ≡ spec_found_if test (numbers_of n)) }
 {
-    found_if(alloc, test, &[n.group1_forward, n.group1_reverse, n.coverage_forward, n.coverage_reverse])
+    found_if(
+        alloc,
+        test,
+        &[
+            n.group1_forward,
+            n.group1_reverse,
+            n.coverage_forward,
+            n.coverage_reverse,
+        ],
+    )
 }
 
 fn overlaps(n: EdgeSideCounts) -> bool
@@ -112,7 +125,8 @@ pub fn side_overlap(alloc: Global, cell: &Cell, edge: RecName) -> Result<Found, 
 fn is_balanced(n: EdgeSideCounts) -> bool
     ensures { result ≡ spec_is_balanced n }
 {
-    u64::from(n.group1_forward) + u64::from(n.coverage_reverse) == u64::from(n.coverage_forward) + u64::from(n.group1_reverse)
+    u64::from(n.group1_forward) + u64::from(n.coverage_reverse)
+        == u64::from(n.coverage_forward) + u64::from(n.group1_reverse)
 }
 
 /// SideUnbalanced.

@@ -8,7 +8,10 @@ ghost use Rattle.rule_spec.specs.Vectors.{has_its_shape as spec_shape, bad_shape
 
 use geo_exact::meeting;
 use geometry_spec::{MeetCase, Point};
-use plain_lookups::{Found, Numbered, Segment, add_place, found_at, found_if, line_of, node_named, number, numbered, nums, same_point as are_one_point, segments_of};
+use plain_lookups::{
+    Found, Numbered, Segment, add_place, found_at, found_if, line_of, node_named, number, numbered,
+    nums, same_point as are_one_point, segments_of,
+};
 use s57_types::{Cell, End, Kind, Vector};
 use std::alloc::{AllocError, Global};
 
@@ -43,7 +46,11 @@ pub fn node_pointer(alloc: Global, cell: &Cell, node: &Vector) -> Result<Found, 
 fn topi_count(topi: u8, edge: &Vector) -> usize
     ensures { result ≡ spec_topi_count topi edge.now }
 {
-    edge.ends.as_slice().iter().filter(|end| end.topi == topi).count()
+    edge.ends
+        .as_slice()
+        .iter()
+        .filter(|end| end.topi == topi)
+        .count()
 }
 
 /// EndCount.
@@ -135,7 +142,12 @@ fn meets_wrongly(closed: bool, count: usize, a: Numbered, b: Numbered) -> bool
     a.0 < b.0 && is_bad_meeting(b.0 - 1 == a.0, closing, case)
 }
 
-fn first_in_row(closed: bool, count: usize, a: Numbered, row: &[Numbered]) -> Option<(Numbered, Numbered)>
+fn first_in_row(
+    closed: bool,
+    count: usize,
+    a: Numbered,
+    row: &[Numbered],
+) -> Option<(Numbered, Numbered)>
     ensures { result ≡ find (spec_meets_wrongly closed count) (map (λ b. (a, b)) row.now) }
 {
     for b in row {
@@ -177,7 +189,10 @@ fn self_meet_of(alloc: Global, points: &[Point]) -> Result<Found, AllocError>
     }
     let segments = segments_of(alloc, points)?;
     let segments = numbered(alloc, &segments)?;
-    found_pair(alloc, first_wrong_meeting(is_closed_line(points), &segments))
+    found_pair(
+        alloc,
+        first_wrong_meeting(is_closed_line(points), &segments),
+    )
 }
 
 /// SelfMeet.

@@ -1,12 +1,9 @@
 -- The boundary of an area (S-57 Part 3, 4.7.3; Appendix B.1, 3.8): closed loops, one of them exterior and clockwise, the interior ones counterclockwise.
-use Rattle.std.specs.Prelude.{ℕ, ◌==◌, ◌&&◌, Bool, not, List, [], ◌∷◌, ◌++◌, Option, None, Some, length, map, filter, filter_map, flat_map, reverse, is_some, ℤ, pos, int_lt, option_map, if◌then◌else◌}
+use Rattle.std.specs.Prelude.{ℕ, ◌==◌, ◌&&◌, Bool, not, List, [], ◌∷◌, Option, length, map, filter, filter_map, flat_map, reverse, is_some, ℤ, pos, int_lt, option_map, if◌then◌else◌}
 use Rattle.std.specs.List.{enumerate_from, list_any, list_all}
-use Rattle.std.specs.Option.{option_map_or}
-use Rattle.s57_types.specs.declared.name.RecName.{RecName}
 use Rattle.s57_types.specs.declared.record.Feature.{Feature}
 use Rattle.s57_types.specs.declared.record.Spot.{Spot}
 use Rattle.s57_types.specs.declared.cell.Cell.{Cell}
-use Rattle.geometry_spec.specs.Points.{Point}
 use Rattle.geometry_spec.specs.Areas.{signed_double_area}
 use Rattle.rule_spec.specs.declared.line.BoundaryRow.{BoundaryRow}
 use Rattle.rule_spec.specs.declared.line.EdgeLine.{EdgeLine}

@@ -43,7 +43,7 @@ have_illegal_contact places pair = is_illegal places pair.0.1 pair.1.1 (meeting_
 abbrev pub first_illegal_contact : Cell → EdgeLine → EdgeLine → Option (Numbered × Numbered)
 first_illegal_contact c a b =
     find (have_illegal_contact (filter_map (node_position c) (shared_nodes a b)))
-        (each_with_each (enumerate_from 1 (segments_of a.points)) (enumerate_from 1 (segments_of b.points)))
+    (each_with_each (enumerate_from 1 (segments_of a.points)) (enumerate_from 1 (segments_of b.points)))
 
 -- one segment has an end on the other
 abbrev pub touch_at_an_end : Segment → Segment → Bool

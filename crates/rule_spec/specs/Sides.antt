@@ -35,8 +35,11 @@ side_count is_such_area ornt uses = count_by (λ (u : EdgeUse). is_such_area u &
 -- count the areas at the right and at the left side.
 abbrev pub side_counts : List EdgeUse → EdgeSideCounts
 side_counts uses = record {
-  group1_forward = side_count (λ u. u.is_group1) 1 uses; group1_reverse = side_count (λ u. u.is_group1) 2 uses;
-  coverage_forward = side_count (λ u. u.is_coverage) 1 uses; coverage_reverse = side_count (λ u. u.is_coverage) 2 uses }
+  group1_forward = side_count (λ u. u.is_group1) 1 uses;
+  group1_reverse = side_count (λ u. u.is_group1) 2 uses;
+  coverage_forward = side_count (λ u. u.is_coverage) 1 uses;
+  coverage_reverse = side_count (λ u. u.is_coverage) 2 uses;
+}
 
 -- the four counts as the numbers of a finding
 abbrev pub numbers_of : EdgeSideCounts → List ℕ

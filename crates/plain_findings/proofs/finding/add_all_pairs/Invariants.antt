@@ -1,5 +1,5 @@
-use Rattle.std.proofs.Common.{◌≡◌, ◌++◌, drop, map, filter, flat_map}
-use Rattle.cell_spec.specs.declared.key.Subject.TheVariants.{Rec, Side, Pair, Ident}
+use Rattle.std.proofs.Common.{◌≡◌, ◌++◌, drop, map, flat_map}
+use Rattle.cell_spec.specs.declared.key.Subject.TheVariants.{Pair}
 use Rattle.plain_findings.proofs.finding.add_all_pairs.Given as goal
 
 abbrev pub invariant-loop-a : goal.invariant-loop-a

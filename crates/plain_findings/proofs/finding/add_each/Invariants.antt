@@ -1,4 +1,4 @@
-use Rattle.std.proofs.Common.{◌≡◌, ◌++◌, drop, map, filter, flat_map}
+use Rattle.std.proofs.Common.{◌≡◌, ◌++◌, drop, map}
 use Rattle.rule_spec.specs.Findings.{finding}
 use Rattle.plain_findings.proofs.finding.add_each.Given as goal
 

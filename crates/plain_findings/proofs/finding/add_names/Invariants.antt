@@ -1,5 +1,5 @@
-use Rattle.std.proofs.Common.{◌≡◌, ◌++◌, drop, map, filter, flat_map}
-use Rattle.cell_spec.specs.Lookup.{name_of, identities_of}
+use Rattle.std.proofs.Common.{◌≡◌, ◌++◌, drop, map}
+use Rattle.cell_spec.specs.Lookup.{name_of}
 use Rattle.plain_findings.proofs.finding.add_names.Given as goal
 
 abbrev pub invariant-loop-rec : goal.invariant-loop-rec

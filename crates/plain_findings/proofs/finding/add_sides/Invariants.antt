@@ -1,5 +1,5 @@
-use Rattle.std.proofs.Common.{◌≡◌, ◌++◌, drop, map, filter, flat_map}
-use Rattle.cell_spec.specs.declared.key.Subject.TheVariants.{Rec, Side, Pair, Ident}
+use Rattle.std.proofs.Common.{◌≡◌, ◌++◌, drop, map}
+use Rattle.cell_spec.specs.declared.key.Subject.TheVariants.{Side}
 use Rattle.plain_findings.proofs.finding.add_sides.Given as goal
 
 abbrev pub invariant-loop-name : goal.invariant-loop-name

@@ -1,4 +1,4 @@
-use Rattle.std.proofs.Common.{◌≡◌, ◌++◌, drop, map, filter, flat_map}
+use Rattle.std.proofs.Common.{◌≡◌, ◌++◌, drop}
 use Rattle.rule_spec.specs.Findings.{findings_among}
 use Rattle.plain_findings.proofs.finding.all_findings.Given as goal
 

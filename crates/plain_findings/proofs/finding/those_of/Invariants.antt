@@ -1,4 +1,4 @@
-use Rattle.std.proofs.Common.{◌≡◌, ◌++◌, drop, map, filter, flat_map}
+use Rattle.std.proofs.Common.{◌≡◌, ◌++◌, drop, filter}
 use Rattle.rule_spec.specs.Findings.{is_subject}
 use Rattle.plain_findings.proofs.finding.those_of.Given as goal
 

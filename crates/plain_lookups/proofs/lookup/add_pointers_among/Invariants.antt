@@ -1,4 +1,4 @@
-use Rattle.std.proofs.Common.{◌≡◌, ◌++◌, ◌+◌, drop, map, filter}
+use Rattle.std.proofs.Common.{◌≡◌, ◌++◌, ◌+◌, drop}
 use Rattle.cell_spec.specs.Lookup.{pointers_at}
 use Rattle.plain_lookups.proofs.lookup.add_pointers_among.Given as goal
 

@@ -11,5 +11,5 @@ returns c =
     let P : List RecName → Type 0 = λ xs. IfOk c.ascending_names.result (λ names. names ≡ ascending name_order xs) in
     let cell = c.args.cell.now in
     let gathered = c.deref.ensures.value ∙ four_lists (λ xs. map name_of (filter (bears c.args.foid) xs)) (bearers-append c.args.foid) cell.vi cell.vc cell.ve cell.fe
-        _ _ _ _ _ c.new-found.ensures.items c.in_ok-add_bearers.ensures c.in_ok-add_bearers-2.ensures c.in_ok-add_bearers-3.ensures c.in_ok-add_bearers-4.ensures in
+    _ _ _ _ _ c.new-found.ensures.items c.in_ok-add_bearers.ensures c.in_ok-add_bearers-2.ensures c.in_ok-add_bearers-3.ensures c.in_ok-add_bearers-4.ensures in
     subst P gathered c.ascending_names.ensures

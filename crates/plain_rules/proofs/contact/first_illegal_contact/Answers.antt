@@ -1,4 +1,4 @@
-use Rattle.std.proofs.Common.{◌≡◌, ◌∙◌, ap, find, filter_map}
+use Rattle.std.proofs.Common.{◌∙◌, ap, find, filter_map}
 use Rattle.rule_spec.specs.Contacts.{have_illegal_contact}
 use Rattle.rule_spec.specs.EdgePoints.{node_position}
 use Rattle.rule_spec.specs.Vectors.{each_with_each}

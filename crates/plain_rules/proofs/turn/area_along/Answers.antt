@@ -1,4 +1,4 @@
-use Rattle.std.proofs.Common.{◌≡◌, ◌+◌, ◌∷◌, ◌+ℤ◌, pos, get_or, drop, ap, ◌∙◌, arith}
+use Rattle.std.proofs.Common.{◌+◌, ◌∷◌, ◌+ℤ◌, pos, get_or, drop, ap, ◌∙◌, arith}
 use Rattle.std.proofs.lemmas.Int.{to_z-of_z}
 use Rattle.geometry_spec.specs.Areas.{twice_area_along}
 use Rattle.geometry_spec.specs.Points.{Point}
