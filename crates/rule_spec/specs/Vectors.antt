@@ -14,7 +14,7 @@ use Rattle.rule_spec.specs.EdgePoints.{Segment, same_point, segments_of, line_of
 use Rattle.rule_spec.specs.Rule.{Found, found_if, found_at}
 
 -- the geometry of an isolated node is one position or soundings; that of a connected node is one position; an edge has no soundings
--- (S-57 Part 3, 4.7.2 and 4.7.3; Appendix B.1, 2.2)
+-- (S-57 Part 3, 7.7.1.6 and 7.7.1.7)
 abbrev pub has_its_shape : Vector → Bool
 has_its_shape v =
     let positions = length v.plane in
@@ -35,7 +35,7 @@ node_pointer c node = found_if (nat_lt 0 (length node.ends)) []
 abbrev pub stacked_segment : List Point → Option ℕ
 stacked_segment points = position_from (λ (s : Segment). same_point s.0 s.1) 1 (segments_of points)
 
--- Stacked: an edge with points has two equal points in a row (S-57 Appendix B.1, 3.8); the number of the first
+-- Stacked: an edge with points has two equal points in a row (S-57 Appendix B.1); the number of the first
 abbrev pub stacked : Cell → Vector → Found
 stacked c e = option_map_or (λ line. found_at (stacked_segment line.points)) (line_of c e) []
 
