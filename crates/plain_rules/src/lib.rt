@@ -1,6 +1,16 @@
-//! The rules of a chart cell evaluated plainly and slowly: lists, no index, every pair. The yardstick of every faster body.
+//! The 25 rules of a chart cell evaluated plainly and slowly: lists, no index. The yardstick of every faster body.
 #![tactic(auto)]
 
-mod lookup;
-mod order;
-mod record;
+mod boundary;
+mod contact;
+mod feature;
+mod ring;
+mod side;
+mod turn;
+mod vector;
+
+pub use boundary::{mixed_ring, open_ring, outer_count, wrong_turn};
+pub use contact::{contact_of_kind, node_on_edge, same_place};
+pub use feature::{bad_codes, dangling_feature, dangling_ref, prim_refs, wrong_group};
+pub use side::{false_truncation, orphan, side_overlap, side_unbalanced, twice_foid};
+pub use vector::{bad_shape, dangling_end, end_count, node_pointer, self_meet, stacked};

@@ -1,12 +1,9 @@
--- The boundary of an area (S-57 Part 3, 4.7.3; Appendix B.1, 3.8): closed loops, one of them exterior and clockwise, the interior ones counterclockwise.
-use Rattle.std.specs.Prelude.{ℕ, ◌==◌, ◌&&◌, Bool, not, List, [], ◌∷◌, ◌++◌, Option, None, Some, length, map, filter, filter_map, flat_map, reverse, is_some, ℤ, pos, int_lt, option_map, if◌then◌else◌}
+-- The boundary of an area (S-57 Part 3, 7.6.8; Appendix B.1): closed loops, one of them exterior and clockwise, the interior ones counterclockwise.
+use Rattle.std.specs.Prelude.{ℕ, ◌==◌, ◌&&◌, Bool, not, List, [], ◌∷◌, Option, length, map, filter, filter_map, flat_map, reverse, is_some, ℤ, pos, int_lt, option_map, if◌then◌else◌}
 use Rattle.std.specs.List.{enumerate_from, list_any, list_all}
-use Rattle.std.specs.Option.{option_map_or}
-use Rattle.s57_types.specs.declared.name.RecName.{RecName}
 use Rattle.s57_types.specs.declared.record.Feature.{Feature}
 use Rattle.s57_types.specs.declared.record.Spot.{Spot}
 use Rattle.s57_types.specs.declared.cell.Cell.{Cell}
-use Rattle.geometry_spec.specs.Points.{Point}
 use Rattle.geometry_spec.specs.Areas.{signed_double_area}
 use Rattle.rule_spec.specs.declared.line.BoundaryRow.{BoundaryRow}
 use Rattle.rule_spec.specs.declared.line.EdgeLine.{EdgeLine}
@@ -29,10 +26,18 @@ boundary_row c pointer = option_map (λ line. record { place = pointer.0; usag =
 unfoldable pub boundary_of : Cell → Feature → List BoundaryRow
 boundary_of c f = filter_map (boundary_row c) (enumerate_from 1 f.places)
 
+-- nothing was found
+abbrev pub is_clean : Found → Bool
+is_clean found = length found == 0
+
+-- a spatial pointer names an edge with points
+abbrev pub has_points : Cell → Spot → Bool
+has_points c s = is_some (edge_line_of c (target s))
+
 -- the boundary rules judge an area whose pointers fit its primitive, name records of the cell and have their codes, and name edges with points
 unfoldable pub has_usable_boundary : Cell → Feature → Bool
 has_usable_boundary c f =
-    (f.prim == 3) && (length (prim_refs c f ++ dangling_ref c f ++ bad_codes c f) == 0) && list_all (λ s. is_some (edge_line_of c (target s))) f.places
+    (f.prim == 3) && (is_clean (prim_refs c f) && is_clean (dangling_ref c f) && is_clean (bad_codes c f)) && list_all (has_points c) f.places
 
 abbrev pub arc_of : BoundaryRow → Arc
 arc_of row = (row.line.begins, row.line.ends)
@@ -81,9 +86,9 @@ outer_count_of rows = let outer = length (filter is_exterior (loops_of rows)) in
 abbrev pub wrong_turn_of : List BoundaryRow → Found
 wrong_turn_of rows = map first_place (filter turns_wrongly (loops_of rows))
 
--- nothing was found
-abbrev pub is_clean : Found → Bool
-is_clean found = length found == 0
+-- the boundary is closed loops, and none of them is mixed
+abbrev pub has_whole_loops : List BoundaryRow → Bool
+has_whole_loops rows = is_clean (open_ring_of rows) && is_clean (mixed_ring_of rows)
 
 -- OpenRing: the boundary isn't closed loops one after the other; the first place that is in no loop
 abbrev pub open_ring : Cell → Feature → Found
@@ -91,12 +96,12 @@ open_ring c f = if has_usable_boundary c f then open_ring_of (boundary_of c f) e
 
 -- MixedRing: a loop has interior and other usage; its first place
 abbrev pub mixed_ring : Cell → Feature → Found
-mixed_ring c f = let rows = boundary_of c f in if has_usable_boundary c f && is_clean (open_ring_of rows) then mixed_ring_of rows else []
+mixed_ring c f = if has_usable_boundary c f && is_clean (open_ring_of (boundary_of c f)) then mixed_ring_of (boundary_of c f) else []
 
 -- OuterCount: the number of exterior loops isn't 1; that number
 abbrev pub outer_count : Cell → Feature → Found
-outer_count c f = let rows = boundary_of c f in if has_usable_boundary c f && is_clean (open_ring_of rows ++ mixed_ring_of rows) then outer_count_of rows else []
+outer_count c f = if has_usable_boundary c f && has_whole_loops (boundary_of c f) then outer_count_of (boundary_of c f) else []
 
 -- WrongTurn: an exterior loop isn't clockwise, or an interior loop isn't counterclockwise; its first place
 abbrev pub wrong_turn : Cell → Feature → Found
-wrong_turn c f = let rows = boundary_of c f in if has_usable_boundary c f && is_clean (open_ring_of rows ++ mixed_ring_of rows) then wrong_turn_of rows else []
+wrong_turn c f = if has_usable_boundary c f && has_whole_loops (boundary_of c f) then wrong_turn_of (boundary_of c f) else []

@@ -1,5 +1,5 @@
 -- Pairs of nodes and edges that may touch, by square tiles. This project's own rule.
-use Rattle.std.specs.Prelude.{ℕ, ◌&&◌, ◌||◌, Bool, not, List, [], ◌∷◌, ◌++◌, map, filter, length, nat_lt, int_le, option_to_list}
+use Rattle.std.specs.Prelude.{◌&&◌, ◌||◌, Bool, not, List, [], ◌++◌, map, filter, length, nat_lt, int_le, option_to_list}
 use Rattle.std.specs.List.{list_any}
 use Rattle.std.specs.Option.{option_map_or}
 use Rattle.s57_types.specs.declared.name.RecName.{RecName}
@@ -9,7 +9,6 @@ use Rattle.cell_spec.specs.Lookup.{all_records, name_of}
 use Rattle.cell_spec.specs.Names.{name_order, same_name}
 use Rattle.geometry_spec.specs.declared.tile.TileRange.{TileRange}
 use Rattle.geometry_spec.specs.Boxes.{box_of}
-use Rattle.geometry_spec.specs.Points.{Point}
 use Rattle.geometry_spec.specs.Tiles.{tiles_of, is_oversized}
 use Rattle.rule_spec.specs.EdgePoints.{Segment, segments_of, node_position, edge_points_of}
 

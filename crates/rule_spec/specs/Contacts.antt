@@ -35,12 +35,15 @@ is_illegal places s t Apart = false
 is_illegal places s t At = not (meet_at_one_of places s t)
 is_illegal places s t Along = true
 
+-- whether two numbered segments have an illegal contact
+abbrev pub have_illegal_contact : List Point → Numbered × Numbered → Bool
+have_illegal_contact places pair = is_illegal places pair.0.1 pair.1.1 (meeting_of_segments pair.0.1 pair.1.1)
+
 -- the first illegal contact of two lines: the least two segments, by the number on the first line, then on the second
 abbrev pub first_illegal_contact : Cell → EdgeLine → EdgeLine → Option (Numbered × Numbered)
 first_illegal_contact c a b =
-    let places = filter_map (node_position c) (shared_nodes a b) in
-    find (λ (pair : Numbered × Numbered). is_illegal places pair.0.1 pair.1.1 (meeting_of_segments pair.0.1 pair.1.1))
-        (each_with_each (enumerate_from 1 (segments_of a.points)) (enumerate_from 1 (segments_of b.points)))
+    find (have_illegal_contact (filter_map (node_position c) (shared_nodes a b)))
+    (each_with_each (enumerate_from 1 (segments_of a.points)) (enumerate_from 1 (segments_of b.points)))
 
 -- one segment has an end on the other
 abbrev pub touch_at_an_end : Segment → Segment → Bool

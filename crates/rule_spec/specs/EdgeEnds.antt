@@ -1,5 +1,5 @@
--- The ends of an edge: chain-node topology gives it one beginning node and one end node (S-57 Part 2, 2.2.1.2; Part 3, 4.7.2).
-use Rattle.std.specs.Prelude.{ℕ, ◌==◌, ◌&&◌, not, List, [], ◌∷◌, length, count_by, is_some}
+-- The ends of an edge: chain-node topology gives it one beginning node and one end node (S-57 Part 2, 2.2.1.2; Part 3, 7.7.1.4).
+use Rattle.std.specs.Prelude.{ℕ, ◌==◌, ◌&&◌, not, [], ◌∷◌, length, count_by, is_some}
 use Rattle.s57_types.specs.declared.record.End.{End}
 use Rattle.s57_types.specs.declared.record.Vector.{Vector}
 use Rattle.s57_types.specs.declared.cell.Cell.{Cell}

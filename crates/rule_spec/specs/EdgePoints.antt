@@ -1,5 +1,5 @@
--- The points and segments of an edge (S-57 Part 2, 2.2.1.2, chain-node topology; Part 3, 4.7.3).
-use Rattle.std.specs.Prelude.{ℕ, ◌==◌, ◌&&◌, Bool, List, [], ◌∷◌, ◌++◌, Option, None, Some, map, filter, zip, drop, option_map, option_and_then}
+-- The points and segments of an edge (S-57 Part 2, 2.2.1.2, chain-node topology; Part 3, 7.7.1.4 and 7.7.1.6).
+use Rattle.std.specs.Prelude.{ℕ, ◌==◌, ◌&&◌, Bool, List, [], ◌∷◌, ◌++◌, Option, None, Some, filter, zip, drop, option_map, option_and_then}
 use Rattle.std.specs.Ordering.{int_eq}
 use Rattle.s57_types.specs.declared.name.RecName.{RecName}
 use Rattle.s57_types.specs.declared.record.End.{End}

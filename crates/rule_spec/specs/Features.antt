@@ -18,7 +18,7 @@ abbrev pub target : Spot → RecName
 target s = s.to
 
 -- a point has one spatial pointer, and not to an edge; a line or an area has one or more, and none to a node; a feature without geometry
--- has none (S-57 Part 3, 4.7.1; Appendix B.1, 2.2)
+-- has none (S-57 Part 3, 7.6.1 and 7.6.8)
 abbrev pub fits_primitive : ℕ → List RecName → Bool
 fits_primitive prim targets =
     if prim == 1 then (length targets == 1) && not (list_any is_edge_name targets)
@@ -33,8 +33,8 @@ prim_refs c f = found_if (not (fits_primitive f.prim (map target f.places))) []
 abbrev pub dangling_ref : Cell → Feature → Found
 dangling_ref c f = places_where (λ s. not (is_some (lookup_record c (target s)))) f.places
 
--- the orientation, usage and masking indicators that a spatial pointer of a primitive may have (S-57 Part 3, 4.7.3 and 7.6.8; Appendix
--- B.1, 3.6 and 3.9): none at a point, an orientation and a mask at a line, and at an area, where a boundary cut by the data limit isn't masked
+-- the orientation, usage and masking indicators that a spatial pointer of a primitive may have (S-57 Part 3, 7.6.8; Appendix
+-- B.1): none at a point, an orientation and a mask at a line, and at an area, where a boundary cut by the data limit isn't masked
 abbrev pub has_its_codes : ℕ → Spot → Bool
 has_its_codes prim s =
     if prim == 1 then (s.ornt == 255) && (s.usag == 255) && (s.mask == 255)
@@ -58,7 +58,7 @@ is_group1_area f = (f.prim == 3) && is_one_of (42 ∷ 46 ∷ 57 ∷ 65 ∷ 71 �
 abbrev pub says_covered : Attr → Bool
 says_covered a = (a.code == 18) && (length a.value == 1) && list_any (λ byte. byte == 49) a.value
 
--- an area of M_COVR (302) that says that its data is there (Appendix B.1, 3.4)
+-- an area of M_COVR (302) that says that its data is there (Appendix B.1)
 abbrev pub is_coverage_area : Feature → Bool
 is_coverage_area f = (f.prim == 3) && (f.objl == 302) && list_any says_covered f.attf
 

@@ -1,8 +1,12 @@
 -- Subjects and findings of a cell.
 use Rattle.std.specs.Prelude.{ℕ, ◌==◌, ◌&&◌, Bool, List, [], ◌∷◌, ◌++◌, length, map, filter, flat_map, sum_by, is_some, slice_index, nat_lt, if◌then◌else◌}
 use Rattle.std.specs.List.{enumerate_from, list_any}
+use Rattle.std.specs.Option.{option_map_or}
 use Rattle.std.specs.Ordering.{is_lt}
+use Rattle.s57_types.specs.declared.name.Lnam.{Lnam}
 use Rattle.s57_types.specs.declared.name.RecName.{RecName}
+use Rattle.s57_types.specs.declared.record.Rec.{Rec as Record}
+use Rattle.s57_types.specs.declared.record.Rec.TheVariants.{V, F}
 use Rattle.s57_types.specs.declared.cell.Cell.{Cell}
 use Rattle.cell_spec.specs.declared.finding.Finding.{Finding}
 use Rattle.cell_spec.specs.declared.key.Subject.{Subject}
@@ -11,8 +15,8 @@ use Rattle.cell_spec.specs.Ascending.{ascending}
 use Rattle.cell_spec.specs.Lookup.{all_records, name_of, identities_of, lookup_record, lookup_identity}
 use Rattle.cell_spec.specs.Names.{name_order, subject_order}
 use Rattle.rule_spec.specs.Records.{edge_named, is_chain_part}
-use Rattle.rule_spec.specs.Rule.{Rule}
-use Rattle.rule_spec.specs.Rules.{rules}
+use Rattle.rule_spec.specs.Rule.{Found}
+use Rattle.rule_spec.specs.Rules.{vector_rules, pair_rules, feature_rules, side_rules, identity_rules}
 
 abbrev pub is_below : RecName → RecName → Bool
 is_below a b = is_lt (name_order a b)
@@ -29,27 +33,49 @@ is_subject c (Ident l) = nat_lt 0 (length (lookup_identity c l))
 abbrev pub record_names : Cell → List RecName
 record_names c = map name_of (all_records c)
 
+-- all that may be a subject, by the names and identifiers of a cell's records
+abbrev pub possible_subjects : List RecName → List Lnam → List Subject
+possible_subjects names identities = map Rec names ++ map Side names ++ flat_map (λ a. map (Pair a) names) names ++ map Ident identities
+
 -- the subjects of a cell, ascending
 unfoldable pub subjects : Cell → List Subject
-subjects c =
-    let names = record_names c in
-    ascending subject_order (filter (is_subject c) (map Rec names ++ map Side names ++ flat_map (λ a. map (Pair a) names) names ++ map Ident (flat_map identities_of (all_records c))))
+subjects c = ascending subject_order (filter (is_subject c) (possible_subjects (record_names c) (flat_map identities_of (all_records c))))
+
+abbrev pub is_asked : List ℕ → ℕ → Bool
+is_asked asked kind = list_any (λ other. other == kind) asked
 
 -- a finding of a kind; numbers that it doesn't use are 0
 abbrev pub finding : ℕ → List ℕ → Finding
 finding kind nums = record { kind = kind; nums = slice_index nums 0 ∷ slice_index nums 1 ∷ slice_index nums 2 ∷ slice_index nums 3 ∷ [] }
 
--- the findings of one rule, if its kind is asked for
-abbrev pub findings_of_rule : List ℕ → Cell → Subject → ℕ × Rule → List Finding
-findings_of_rule asked c s rule = if list_any (λ kind. kind == rule.0) asked then map (finding rule.0) (rule.1 c s) else []
+-- the findings of rules whose kinds count from a number on, of the kinds asked for; `judge` gives a rule its subject
+abbrev pub numbered_findings : {R : Type 0} → List ℕ → (R → Found) → ℕ → List R → List Finding
+numbered_findings {R} asked judge first rules =
+    flat_map (λ (rule : ℕ × R). if is_asked asked rule.0 then map (finding rule.0) (judge rule.1) else []) (enumerate_from first rules)
+
+-- the findings about a record
+abbrev pub findings_of_record : List ℕ → Cell → Record → List Finding
+findings_of_record asked c (V v) = numbered_findings asked (λ rule. rule c v) 1 vector_rules
+findings_of_record asked c (F f) = numbered_findings asked (λ rule. rule c f) 12 feature_rules
+
+-- the findings about what is named by a subject
+abbrev pub findings_about : List ℕ → Cell → Subject → List Finding
+findings_about asked c (Rec n) = option_map_or (findings_of_record asked c) (lookup_record c n) []
+findings_about asked c (Side n) = numbered_findings asked (λ rule. rule c n) 21 side_rules
+findings_about asked c (Pair a b) = numbered_findings asked (λ rule. rule c a b) 7 pair_rules
+findings_about asked c (Ident l) = numbered_findings asked (λ rule. rule c l) 25 identity_rules
 
 -- the findings about a subject of the kinds asked for, ascending by kind and numbers; none for what is no subject of the cell
 unfoldable pub findings_of_subject : List ℕ → Cell → Subject → List Finding
-findings_of_subject asked c s = if is_subject c s then flat_map (findings_of_rule asked c s) (enumerate_from 1 rules) else []
+findings_of_subject asked c s = if is_subject c s then findings_about asked c s else []
+
+-- those of some subjects that have a finding, each with its findings
+abbrev pub findings_among : List ℕ → Cell → List Subject → List (Subject × List Finding)
+findings_among asked c ss = filter (λ (row : Subject × List Finding). nat_lt 0 (length row.1)) (map (λ s. (s, findings_of_subject asked c s)) ss)
 
 -- the subjects that have a finding, ascending, each with its findings
 unfoldable pub all_findings : List ℕ → Cell → List (Subject × List Finding)
-all_findings asked c = filter (λ (row : Subject × List Finding). nat_lt 0 (length row.1)) (map (λ s. (s, findings_of_subject asked c s)) (subjects c))
+all_findings asked c = findings_among asked c (subjects c)
 
 -- how many findings a cell has
 abbrev pub finding_total : List ℕ → Cell → ℕ

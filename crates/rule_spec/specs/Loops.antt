@@ -1,6 +1,6 @@
--- The partition of a boundary into closed loops (S-57 Appendix B.1, 3.8 and Part 3, 4.7.3).
-use Rattle.std.specs.Prelude.{◌≡◌, ℕ, zero, suc, ◌+◌, ◌-◌, ◌<◌, ◌≤◌, ◌==◌, ◌&&◌, Bool, true, false, not, List, [], ◌∷◌, ◌++◌, Option, None, Some, length, map, take, drop, find, flat_map, sum_by, All, slice_get, if◌then◌else◌}
-use Rattle.std.specs.List.{list_any, list_all}
+-- The partition of a boundary into closed loops (S-57 Part 3, 7.6.8; Appendix B.1).
+use Rattle.std.specs.Prelude.{◌≡◌, ℕ, zero, suc, ◌+◌, ◌-◌, ◌≤◌, ◌==◌, ◌&&◌, Bool, true, false, not, List, [], ◌∷◌, ◌++◌, Option, None, Some, length, map, take, drop, find, flat_map, sum_by, All, if◌then◌else◌}
+use Rattle.std.specs.List.{list_any}
 use Rattle.std.specs.Option.{option_map_or}
 use Rattle.std.specs.Cmp.Lexicographic.{pointwise}
 use Rattle.s57_types.specs.declared.name.RecName.{RecName}

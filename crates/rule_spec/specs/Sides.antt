@@ -1,4 +1,4 @@
--- The areas at the two sides of an edge, and the features that bear an identifier (S-57 Appendix B.1, 3.4 and 3.10.1: Group 1 areas cover the
+-- The areas at the two sides of an edge, and the features that bear an identifier (S-57 Appendix B.1, 3.10.1: Group 1 areas cover the
 -- area that has data without gaps and overlaps; Part 3, 4.3: identifiers are unique).
 use Rattle.std.specs.Prelude.{ℕ, ◌+◌, ◌-◌, ◌==◌, ◌&&◌, ◌||◌, Bool, not, List, [], ◌∷◌, Option, length, filter_map, find, count_by, nat_lt, slice_get, option_map, option_and_then, if◌then◌else◌}
 use Rattle.std.specs.Option.{option_map_or}
@@ -8,14 +8,12 @@ use Rattle.s57_types.specs.declared.record.Feature.{Feature}
 use Rattle.s57_types.specs.declared.record.Spot.{Spot}
 use Rattle.s57_types.specs.declared.cell.Cell.{Cell}
 use Rattle.cell_spec.specs.declared.key.Ref.{Ref}
-use Rattle.cell_spec.specs.declared.key.Subject.{Subject}
-use Rattle.cell_spec.specs.declared.key.Subject.TheVariants.{Rec, Side, Pair, Ident}
 use Rattle.cell_spec.specs.Lookup.{lookup_pointers, lookup_identity}
 use Rattle.rule_spec.specs.declared.side.EdgeSideCounts.{EdgeSideCounts}
 use Rattle.rule_spec.specs.declared.side.EdgeUse.{EdgeUse}
 use Rattle.rule_spec.specs.Features.{is_group1_area, is_coverage_area}
 use Rattle.rule_spec.specs.Records.{feature_named}
-use Rattle.rule_spec.specs.Rule.{Rule, Found, found_if}
+use Rattle.rule_spec.specs.Rule.{Found, found_if}
 
 -- the use that a row of a feature's spatial pointers (FSPT) makes of an edge
 abbrev pub use_of_row : Ref → Feature → Spot → EdgeUse
@@ -37,8 +35,11 @@ side_count is_such_area ornt uses = count_by (λ (u : EdgeUse). is_such_area u &
 -- count the areas at the right and at the left side.
 abbrev pub side_counts : List EdgeUse → EdgeSideCounts
 side_counts uses = record {
-  group1_forward = side_count (λ u. u.is_group1) 1 uses; group1_reverse = side_count (λ u. u.is_group1) 2 uses;
-  coverage_forward = side_count (λ u. u.is_coverage) 1 uses; coverage_reverse = side_count (λ u. u.is_coverage) 2 uses }
+  group1_forward = side_count (λ u. u.is_group1) 1 uses;
+  group1_reverse = side_count (λ u. u.is_group1) 2 uses;
+  coverage_forward = side_count (λ u. u.is_coverage) 1 uses;
+  coverage_reverse = side_count (λ u. u.is_coverage) 2 uses;
+}
 
 -- the four counts as the numbers of a finding
 abbrev pub numbers_of : EdgeSideCounts → List ℕ
@@ -78,8 +79,5 @@ false_truncation c e =
     if n.coverage_forward == n.coverage_reverse then found_use (find is_truncated (uses_of c e)) else []
 
 -- TwiceFoid: more than one feature bears the identifier; their number
-abbrev pub twice_foid : Rule
-twice_foid c (Rec n) = []
-twice_foid c (Side n) = []
-twice_foid c (Pair a b) = []
-twice_foid c (Ident l) = let bearers = length (lookup_identity c l) in found_if (nat_lt 1 bearers) (bearers ∷ [])
+abbrev pub twice_foid : Cell → Lnam → Found
+twice_foid c l = let bearers = length (lookup_identity c l) in found_if (nat_lt 1 bearers) (bearers ∷ [])

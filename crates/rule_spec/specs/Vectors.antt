@@ -1,9 +1,8 @@
 -- Rules on single nodes and edges, beside those on the ends of an edge.
-use Rattle.std.specs.Prelude.{ℕ, ◌+◌, ◌==◌, ◌&&◌, ◌||◌, Bool, true, false, not, List, [], ◌∷◌, Option, None, Some, length, map, flat_map, find, nat_lt, is_some, slice_get, if◌then◌else◌, MatchOption}
+use Rattle.std.specs.Prelude.{ℕ, ◌+◌, ◌==◌, ◌&&◌, ◌||◌, Bool, true, false, not, List, [], ◌∷◌, Option, None, Some, length, map, flat_map, find, nat_lt, is_some, slice_index_or, if◌then◌else◌}
 use Rattle.std.specs.List.{enumerate_from, position_from}
 use Rattle.std.specs.Option.{option_map_or}
 use Rattle.s57_types.specs.declared.name.Kind.TheVariants.{Vi, Vc}
-use Rattle.s57_types.specs.declared.name.RecName.{RecName}
 use Rattle.s57_types.specs.declared.record.Vector.{Vector}
 use Rattle.s57_types.specs.declared.cell.Cell.{Cell}
 use Rattle.cell_spec.specs.Names.{is_of_kind}
@@ -15,7 +14,7 @@ use Rattle.rule_spec.specs.EdgePoints.{Segment, same_point, segments_of, line_of
 use Rattle.rule_spec.specs.Rule.{Found, found_if, found_at}
 
 -- the geometry of an isolated node is one position or soundings; that of a connected node is one position; an edge has no soundings
--- (S-57 Part 3, 4.7.2 and 4.7.3; Appendix B.1, 2.2)
+-- (S-57 Part 3, 7.7.1.6 and 7.7.1.7)
 abbrev pub has_its_shape : Vector → Bool
 has_its_shape v =
     let positions = length v.plane in
@@ -36,7 +35,7 @@ node_pointer c node = found_if (nat_lt 0 (length node.ends)) []
 abbrev pub stacked_segment : List Point → Option ℕ
 stacked_segment points = position_from (λ (s : Segment). same_point s.0 s.1) 1 (segments_of points)
 
--- Stacked: an edge with points has two equal points in a row (S-57 Appendix B.1, 3.8); the number of the first
+-- Stacked: an edge with points has two equal points in a row (S-57 Appendix B.1); the number of the first
 abbrev pub stacked : Cell → Vector → Found
 stacked c e = option_map_or (λ line. found_at (stacked_segment line.points)) (line_of c e) []
 
@@ -60,26 +59,28 @@ is_bad_meeting neighbours closing Along = true
 -- whether a line ends where it begins
 abbrev pub is_closed_line : List Point → Bool
 is_closed_line [] = false
-is_closed_line (p ∷ rest) = option_map_or (λ q. same_point p q) (slice_get (p ∷ rest) (length rest)) false
+is_closed_line (p ∷ rest) = same_point p (slice_index_or (p ∷ rest) (length rest) p)
 
--- whether the first of two segments stands before the second and meets it as it may not
-abbrev pub meets_wrongly : List Point → Numbered × Numbered → Bool
-meets_wrongly points pair =
+-- whether the first of two numbered segments stands before the second and meets it as it may not; on a closed line the last of so many segments
+-- may end where the first begins
+abbrev pub meets_wrongly : Bool → ℕ → Numbered × Numbered → Bool
+meets_wrongly closed count pair =
     let i = pair.0.0 in
     let j = pair.1.0 in
-    let closing = (i == 1) && (j == length (segments_of points)) && is_closed_line points in
-    nat_lt i j && is_bad_meeting (j == i + 1) closing (meeting_of_segments pair.0.1 pair.1.1)
+    nat_lt i j && is_bad_meeting (j == i + 1) ((closed && (i == 1)) && (j == count)) (meeting_of_segments pair.0.1 pair.1.1)
 
 -- the numbers of two segments
 abbrev pub found_pair : Option (Numbered × Numbered) → Found
 found_pair None = []
 found_pair (Some pair) = (pair.0.0 ∷ pair.1.0 ∷ []) ∷ []
 
--- SelfMeet: an edge with points, none of them stacked, meets itself; the least two segments
+-- the least two segments of a line that meet as they may not, by the number of the first, then of the second
+abbrev pub first_wrong_meeting : Bool → List Numbered → Option (Numbered × Numbered)
+first_wrong_meeting closed segments = find (meets_wrongly closed (length segments)) (each_with_each segments segments)
+
+-- SelfMeet: an edge with points, none of them stacked, meets itself; the numbers of the least two segments
 abbrev pub self_meet_of : List Point → Found
-self_meet_of points =
-    let segments = enumerate_from 1 (segments_of points) in
-    if is_some (stacked_segment points) then [] else found_pair (find (meets_wrongly points) (each_with_each segments segments))
+self_meet_of points = if is_some (stacked_segment points) then [] else found_pair (first_wrong_meeting (is_closed_line points) (enumerate_from 1 (segments_of points)))
 
 abbrev pub self_meet : Cell → Vector → Found
 self_meet c e = option_map_or (λ line. self_meet_of line.points) (line_of c e) []

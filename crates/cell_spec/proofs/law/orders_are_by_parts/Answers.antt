@@ -1,5 +1,5 @@
 -- Two subjects are compared by their variants first, then by their parts.
-use Rattle.std.proofs.Common.{◌≡◌, refl, rules, arith}
+use Rattle.std.proofs.Common.{◌≡◌, refl, rules}
 use Rattle.std.specs.declared.cmp.Ordering.{Ordering}
 use Rattle.std.specs.declared.cmp.Ordering.TheVariants.{Less, Equal, Greater}
 use Rattle.std.specs.Ordering.{nat_cmp, ordering_then}
@@ -31,7 +31,7 @@ returns-clause-subjects c (Pair p1 q1) (Rec n2) = refl
 returns-clause-subjects c (Pair p1 q1) (Side n2) = refl
 returns-clause-subjects c (Pair p1 q1) (Pair p2 q2) =
     rw (returns-clause-names c p1 p2) (rw (returns-clause-names c q1 q2)
-        (four_parts (nat_cmp (kind_rank p1.kind) (kind_rank p2.kind)) (nat_cmp p1.id p2.id) (nat_cmp (kind_rank q1.kind) (kind_rank q2.kind)) (nat_cmp q1.id q2.id)))
+    (four_parts (nat_cmp (kind_rank p1.kind) (kind_rank p2.kind)) (nat_cmp p1.id p2.id) (nat_cmp (kind_rank q1.kind) (kind_rank q2.kind)) (nat_cmp q1.id q2.id)))
 returns-clause-subjects c (Pair p1 q1) (Ident l2) = refl
 returns-clause-subjects c (Ident l1) (Rec n2) = refl
 returns-clause-subjects c (Ident l1) (Side n2) = refl

@@ -1,0 +1,41 @@
+-- Edits of small cells, with what they touch and what is judged anew after them.
+use Rattle.std.specs.Prelude.{◌≡◌, true, false, [], ◌∷◌, map}
+use Rattle.cell_spec.specs.declared.edit.Edit.TheVariants.{Add, Set, Del}
+use Rattle.cell_spec.specs.declared.key.Key.TheVariants.{Name, Refs, Foid}
+use Rattle.cell_spec.specs.declared.key.Subject.TheVariants.{Rec, Side, Pair, Ident}
+use Rattle.cell_spec.specs.Edits.{apply_edits, is_applicable, touched_keys}
+use Rattle.cell_spec.specs.Lookup.{name_of}
+use Rattle.rule_spec.specs.Affected.{change_by, affected_list, lookup_budget}
+use Rattle.rule_spec.specs.Reads.{read_set}
+use Rattle.plain_findings.specs.Parts.{vc, ve, fe, lnam, at, node, edge}
+use Rattle.plain_findings.specs.Samples.{grid, closed_edge, used_by_line, self_named, node_on_line}
+
+-- a new node goes last, a replaced one keeps its place, and the list closes up where one is deleted
+abbrev pub EditsKeepPlaces : Type 0
+EditsKeepPlaces =
+    (map name_of (apply_edits (Add (node 9 (at 5 5)) ∷ Set (node 2 (at 7 7)) ∷ Add (node 8 (at 6 6)) ∷ Del (vc 3) ∷ []) grid).vc ≡ vc 1 ∷ vc 2 ∷ vc 4 ∷ vc 9 ∷ vc 8 ∷ []) ×
+    (map (λ edit. is_applicable (edit ∷ []) grid) (Add (node 1 (at 0 0)) ∷ Add (node 9 (at 0 0)) ∷ Set (node 9 (at 0 0)) ∷ Set (node 1 (at 0 0)) ∷ Del (vc 9) ∷ Del (vc 1) ∷ [])
+    ≡ false ∷ true ∷ false ∷ true ∷ false ∷ true ∷ [])
+
+abbrev pub ReadsAreAsListed : Type 0
+ReadsAreAsListed =
+    (read_set self_named (Rec (ve 1)) ≡ Name (ve 1) ∷ []) ×
+    (read_set grid (Rec (ve 1)) ≡ Name (vc 1) ∷ Name (vc 2) ∷ Name (ve 1) ∷ []) ×
+    (read_set grid (Rec (fe 1)) ≡ Name (vc 1) ∷ Name (vc 2) ∷ Name (vc 3) ∷ Name (vc 4) ∷ Name (ve 1) ∷ Name (ve 2) ∷ Name (ve 3) ∷ Name (ve 4) ∷ Name (fe 1) ∷ []) ×
+    (read_set grid (Side (ve 1)) ≡ Name (ve 1) ∷ Name (fe 1) ∷ Name (fe 2) ∷ Refs (ve 1) ∷ []) ×
+    (read_set grid (Pair (vc 1) (ve 1)) ≡ Name (vc 1) ∷ Name (vc 2) ∷ Name (ve 1) ∷ []) ×
+    (read_set grid (Ident (lnam 7)) ≡ Foid (lnam 7) ∷ []) ×
+    (read_set grid (Rec (fe 7)) ≡ Name (fe 7) ∷ [])
+
+abbrev pub TouchedAreAsListed : Type 0
+TouchedAreAsListed =
+    (touched_keys (used_by_line ∷ []) closed_edge ≡ Name (fe 1) ∷ Refs (ve 1) ∷ Foid (lnam 1) ∷ []) ×
+    (touched_keys (Set (edge 1 1 3 []) ∷ []) grid ≡ Name (ve 1) ∷ Refs (vc 1) ∷ Refs (vc 2) ∷ Refs (vc 3) ∷ []) ×
+    (touched_keys (Del (fe 2) ∷ []) grid ≡ Name (fe 2) ∷ Refs (ve 1) ∷ Refs (ve 2) ∷ Refs (ve 3) ∷ Refs (ve 4) ∷ Foid (lnam 2) ∷ [])
+
+-- the line feature that clears an orphan touches the side of the edge, though the edge isn't edited
+abbrev pub AffectedAreAsListed : Type 0
+AffectedAreAsListed =
+    (affected_list (change_by (used_by_line ∷ []) closed_edge) ≡ Rec (fe 1) ∷ Side (ve 1) ∷ Ident (lnam 1) ∷ []) ×
+    (lookup_budget (used_by_line ∷ []) closed_edge (Rec (fe 1) ∷ Side (ve 1) ∷ Ident (lnam 1) ∷ []) ≡ 48) ×
+    (affected_list (change_by (Set (node 3 (at 5 5)) ∷ []) node_on_line) ≡ Rec (vc 3) ∷ Pair (vc 1) (vc 3) ∷ Pair (vc 2) (vc 3) ∷ Pair (vc 3) (ve 1) ∷ [])

@@ -1,0 +1,5 @@
+pub mod Changes
+pub mod Expected
+pub mod Parts
+pub mod Samples
+pub mod Tables
