@@ -1,9 +1,9 @@
 -- What a search finds among ascending rows, and what the definitions of a table give at that place.
-use Rattle.std.proofs.Common.{◌≡◌, ℕ, zero, suc, ◌+◌, ◌<◌, ◌≤◌, List, [], ◌∷◌, ◌++◌, length, get_or, set, take, drop, insert, remove, Option, Some, None, Result, Ok, Err, MatchResult, refl, sym, ap, ◌∙◌, arith, Ordering, Less, Equal, Greater, is_eq, is_lt, take-append-drop, drop-cons, length-take, map, true≢false, false, cond, is_gt}
+use Rattle.std.proofs.Common.{◌≡◌, ℕ, zero, suc, ◌+◌, ◌<◌, ◌≤◌, List, [], ◌∷◌, ◌++◌, length, get_or, set, take, drop, insert, remove, Some, None, Result, Ok, Err, MatchResult, refl, sym, ap, ◌∙◌, arith, Ordering, Less, Equal, Greater, is_lt, take-append-drop, drop-cons, length-take, true≢false, true, false, cond, is_gt}
 use Rattle.std.specs.Cmp.{IsTotalOrder, alike_right}
 use Rattle.std.specs.Ordering.{ordering_index, ordering_reverse}
 use Rattle.std.specs.List.{AllByRecursion, AllWithin, HoldsAt}
-use Rattle.std.specs.List.Sorted.{IsStrictlySortedBy, IsSearchInRange, IsBinarySearchResult, IsPartitionPoint, IsNonDecreasingBy}
+use Rattle.std.specs.List.Sorted.{IsSearchInRange, IsBinarySearchResult, IsNonDecreasingBy}
 use Rattle.std.specs.Map.{keys_of}
 use Rattle.std.proofs.lemmas.Map.Keys.{sorted_head, sorted_tail, Less-from_sorted}
 use Rattle.std.proofs.lemmas.List.Sorted.{searchable_from_sorted}
@@ -24,6 +24,12 @@ back_from_within P [] zero within = tt
 back_from_within P [] (suc i) within = tt
 back_from_within P (x ∷ xs) zero within = (within zero x (omega arith) (omega arith), back_from_within P xs zero (λ k d low high. within (suc k) d (omega arith) (omega arith)))
 back_from_within P (x ∷ xs) (suc i) within = back_from_within P xs i (λ k d low high. within (suc k) d (omega arith) (omega arith))
+
+-- the one answer that passes the test for below
+pub less_from_test : (answer : Ordering) → is_lt answer ≡ true → answer ≡ Less
+less_from_test Less holds = refl
+less_from_test Equal holds = absurd (true≢false (sym holds))
+less_from_test Greater holds = absurd (true≢false (sym holds))
 
 -- the answer the other way round
 pub turned : {K : Type 0} {cmp : K → K → Ordering} → IsTotalOrder cmp → (x y : K) (answer : Ordering) → cmp x y ≡ answer → cmp y x ≡ ordering_reverse answer
@@ -151,13 +157,13 @@ module _ {K V : Type 0} (cmp : K → K → Ordering) where
       above = above_tied first.0 key rows (same first) (sorted_head cmp first.0 (keys_of rows) ascending);
     }
     row_at_from_same (first ∷ rows) key (suc place) ascending in_range same =
-      let rest = row_at_from_same rows key place (sorted_tail cmp first.0 (keys_of rows) ascending) (omega arith) (λ d. same d) in
-      record {
-        in_range = in_range;
-        below = (sym (alike_right total (get_or rows place first).0 key first.0 (same first)) ∙ one_of_all (λ k. cmp first.0 k ≡ Less) rows place first (omega arith) (sorted_head cmp first.0 (keys_of rows) ascending), rest.below);
-        same = same;
-        above = rest.above;
-      }
+        let rest = row_at_from_same rows key place (sorted_tail cmp first.0 (keys_of rows) ascending) (omega arith) (λ d. same d) in
+        record {
+          in_range = in_range;
+          below = (sym (alike_right total (get_or rows place first).0 key first.0 (same first)) ∙ one_of_all (λ k. cmp first.0 k ≡ Less) rows place first (omega arith) (sorted_head cmp first.0 (keys_of rows) ascending), rest.below);
+          same = same;
+          above = rest.above;
+        }
 
     -- ascending rows in the form that a binary search asks for
     searchable : (rows : List (K × V)) (key : K) → IsAscending cmp rows → IsNonDecreasingBy (λ row. ordering_index (cmp row.0 key)) rows
@@ -169,20 +175,20 @@ module _ {K V : Type 0} (cmp : K → K → Ordering) where
     pub searched : (rows : List (K × V)) (key : K) (r : Result ℕ ℕ) → IsAscending cmp rows → IsSearchInRange r (length rows) → IsBinarySearchResult (λ row. cmp row.0 key) rows r → MatchResult r (IsRowAt cmp rows key) (IsGapAt cmp rows key)
     searched rows key (Ok place) ascending in_range same = row_at_from_same rows key place ascending in_range same
     searched rows key (Err place) ascending in_range parts =
-      let point = parts (searchable rows key ascending) in
-      record {
-        in_range = in_range;
-        below = front_from_within (λ row. cmp row.0 key ≡ Less) rows place in_range point.0;
-        above = back_from_within (λ row. cmp row.0 key ≡ Greater) rows place point.1;
-      }
+        let point = parts (searchable rows key ascending) in
+        record {
+          in_range = in_range;
+          below = front_from_within (λ row. cmp row.0 key ≡ Less) rows place in_range point.0;
+          above = back_from_within (λ row. cmp row.0 key ≡ Greater) rows place point.1;
+        }
 
     -- a greater key has no lower place
     pub lower_bound-mono : (rows : List (K × V)) (from to : K) → is_gt (cmp from to) ≡ false → lower_bound cmp rows from ≤ lower_bound cmp rows to
     lower_bound-mono [] from to le = omega arith
     lower_bound-mono (row ∷ rows) from to le =
-      let rest = lower_bound-mono rows from to le in
-      elim (cmp row.0 from) as (λ answer. cmp row.0 from ≡ answer → cond (is_lt answer) (1 + lower_bound cmp rows from) 0 ≤ lower_bound cmp (row ∷ rows) to) [
-      | Less ↦ λ is. rw (is_lt-trans total row.0 from to (cmp from to) refl le is) (omega arith)
-      | Equal ↦ λ is. omega arith
-      | Greater ↦ λ is. omega arith
-      ] refl
+        let rest = lower_bound-mono rows from to le in
+        elim (cmp row.0 from) as (λ answer. cmp row.0 from ≡ answer → cond (is_lt answer) (1 + lower_bound cmp rows from) 0 ≤ lower_bound cmp (row ∷ rows) to) [
+          | Less ↦ λ is. rw (is_lt-trans total row.0 from to (cmp from to) refl le is) (omega arith)
+          | Equal ↦ λ is. omega arith
+          | Greater ↦ λ is. omega arith
+        ] refl

@@ -3,6 +3,8 @@
 
 mod laws;
 mod table;
+#[cfg(test)]
+mod tests;
 
 pub use laws::{
     changes_count_rows, changes_keep_order, copies_are_same, each_row_is_found, lower_bound_parts,

@@ -1,5 +1,5 @@
 //! The table as one sorted vector.
-ghost use Rattle.std.specs.Prelude.{◌≡◌, false, ◌+◌, ◌-◌, ◌<◌, ◌≤◌, [], length, max, slice_get, Some, IfOk, IfNone, MatchResult, OnOk, OnErr, is_some, if◌then◌else◌};
+ghost use Rattle.std.specs.Prelude.{◌≡◌, false, ◌+◌, ◌-◌, ◌<◌, ◌≤◌, [], length, max, slice_get, Some, IfOk, IfNone, MatchResult, OnOk, OnErr, is_some, IsTrue, ◌↔◌, if◌then◌else◌};
 ghost use Rattle.std.specs.Option.{option_copied};
 ghost use Rattle.std.specs.Ordering.{is_gt};
 ghost use Rattle.row_table.specs.Rows.{Table, IsAscending, value_of, with_row, without_key, lower_bound, AreCopies, IsRowAt, IsGapAt};
@@ -36,6 +36,13 @@ impl<K: Ord + Drop, V: Drop> RowTable<K, V> {
             rows: Vec::new(alloc),
             spare: 0,
         }
+    }
+
+    /// Whether the keys of the rows ascend, each below the next.
+    pub fn is_ascending(rows: &[(K, V)]) -> bool
+        ensures { IsTrue result ↔ IsAscending K.cmp rows.now }
+    {
+        rows.is_sorted_by(|row, next| row.0.cmp(&next.0).is_lt())
     }
 
     /// The table of rows whose keys ascend already, in one pass, with no reserved capacity.
@@ -113,8 +120,8 @@ impl<K: Ord + Drop, V: Drop> RowTable<K, V> {
     {
         match self.search(key) {
             Ok(place) => {
-                let (_, old) = self.rows.remove(place);
-                Some(old)
+                let (_, value) = self.rows.remove(place);
+                Some(value)
             }
             Err(_) => None,
         }

@@ -1,5 +1,4 @@
-use Rattle.std.proofs.Common.{ap, sym, ◌∙◌, ◌≡◌, Some}
-use Rattle.row_table.specs.Rows.{IsRowAt, value_of}
+use Rattle.std.proofs.Common.{ap, sym, ◌∙◌, Some}
 use Rattle.row_table.proofs.Place.{value_of_found, value_of_gap}
 use Rattle.row_table.proofs.table.RowTable.get.Goals as goal
 

@@ -1,6 +1,4 @@
-use Rattle.std.proofs.Common.{ap, sym, ◌∙◌, ◌≡◌, ◌<◌, arith, Some, None, IfNone, is_ok, subst}
-use Rattle.std.specs.List.{insert}
-use Rattle.row_table.specs.Rows.{IsRowAt, IsGapAt, value_of}
+use Rattle.std.proofs.Common.{ap, sym, ◌∙◌, arith, Some}
 use Rattle.row_table.proofs.Place.{value_of_found, value_of_gap, with_row_found, with_row_gap}
 use Rattle.row_table.proofs.Ascending.{IsAscending-with_row}
 use Rattle.row_table.proofs.table.RowTable.put.Goals as goal

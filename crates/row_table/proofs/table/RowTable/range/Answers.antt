@@ -1,4 +1,3 @@
-use Rattle.std.proofs.Common.{rules}
 use Rattle.std.proofs.lemmas.List.Sums.{prefix_len-le-length}
 use Rattle.row_table.proofs.Place.{lower_bound-mono}
 use Rattle.row_table.proofs.table.RowTable.range.Goals as goal
