@@ -1,0 +1,4 @@
+pub mod Ascending
+pub mod Changes
+pub mod Copies
+pub mod Place
