@@ -1,5 +1,6 @@
 //! The cases by their names.
 
+use crate::table::Work;
 use std::fmt;
 
 /// What is timed.
@@ -11,6 +12,8 @@ pub enum Case {
     Segments,
     /// Turns under the ticket lock: the size is the number of threads.
     Turns,
+    /// Work with a sorted table.
+    Table(Work),
 }
 
 impl Case {
@@ -20,17 +23,18 @@ impl Case {
             "baseline" => Some(Case::Baseline),
             "segments" => Some(Case::Segments),
             "turns" => Some(Case::Turns),
-            _ => None,
+            _ => Work::of(name).map(Case::Table),
         }
     }
 }
 
 impl fmt::Display for Case {
     fn fmt<W: fmt::Write>(&self, f: &mut fmt::Formatter<W>) -> fmt::Result {
-        f.write_str(match self {
-            Case::Baseline => "baseline",
-            Case::Segments => "segments",
-            Case::Turns => "turns",
-        })
+        match self {
+            Case::Baseline => f.write_str("baseline"),
+            Case::Segments => f.write_str("segments"),
+            Case::Turns => f.write_str("turns"),
+            Case::Table(work) => work.fmt(f),
+        }
     }
 }

@@ -7,6 +7,7 @@
 mod baseline;
 mod case;
 mod segments;
+mod table;
 mod turns;
 
 use case::Case;
@@ -29,6 +30,7 @@ fn outcome<R: Threads + Wait + Sync>(
         Case::Baseline => baseline::byte_sum(alloc, size),
         Case::Segments => segments::meetings(alloc, size),
         Case::Turns => turns::sum_of_numbers(rt, alloc, size),
+        Case::Table(work) => table::outcome(alloc, work, size),
     }
 }
 

@@ -1,5 +1,5 @@
 -- Every change of a table keeps its keys ascending.
-use Rattle.std.proofs.Common.{◌≡◌, List, [], ◌∷◌, refl, sym, ◌∙◌, Ordering, Less, Equal, Greater, is_eq, Bool, true, false, cond, is_lt, ◌+◌, arith, get_or, ap, true≢false}
+use Rattle.std.proofs.Common.{◌≡◌, List, [], ◌∷◌, refl, sym, ◌∙◌, Ordering, Less, Equal, Greater, is_eq, Bool, ℕ, true, false, cond, is_lt, ◌+◌, arith, get_or, ap, true≢false, ◌++◌, take, drop, take-append-drop}
 use Rattle.std.specs.Cmp.{IsTotalOrder}
 use Rattle.std.specs.Ordering.{match_ordering}
 use Rattle.std.specs.List.{AllByRecursion}
@@ -16,6 +16,15 @@ use Rattle.row_table.proofs.Place.{turned, less_from_test}
 pub IsAscending-empty : {K : Type 0} (V : Type 0) (cmp : K → K → Ordering) → IsAscending {V = V} cmp []
 unfolding IsStrictlySortedBy
 IsAscending-empty V cmp = tt
+
+-- what holds of each key holds of each key of a part
+pub each_key-left : {K V : Type 0} (P : K → Type 0) (front back : List (K × V)) → AllByRecursion P (keys_of (front ++ back)) → AllByRecursion P (keys_of front)
+each_key-left P [] back all = tt
+each_key-left P (row ∷ front) back all = (all.0, each_key-left P front back all.1)
+
+pub each_key-right : {K V : Type 0} (P : K → Type 0) (front back : List (K × V)) → AllByRecursion P (keys_of (front ++ back)) → AllByRecursion P (keys_of back)
+each_key-right P [] back all = all
+each_key-right P (row ∷ front) back all = each_key-right P front back all.1
 
 module _ {K V : Type 0} (cmp : K → K → Ordering) where
   -- what holds of the key and of every key of the rows holds of every key after the change
@@ -35,6 +44,22 @@ module _ {K V : Type 0} (cmp : K → K → Ordering) where
         | true ↦ all.1
         | false ↦ (all.0, each_key-without_key P rows key all.1)
       ]
+
+  pub IsAscending-left : (front back : List (K × V)) → IsAscending cmp (front ++ back) → IsAscending cmp front
+  unfolding IsStrictlySortedBy
+  IsAscending-left [] back ascending = tt
+  IsAscending-left (row ∷ front) back ascending = (each_key-left (λ k. cmp row.0 k ≡ Less) front back ascending.0, IsAscending-left front back ascending.1)
+
+  pub IsAscending-right : (front back : List (K × V)) → IsAscending cmp (front ++ back) → IsAscending cmp back
+  unfolding IsStrictlySortedBy
+  IsAscending-right [] back ascending = ascending
+  IsAscending-right (row ∷ front) back ascending = IsAscending-right front back ascending.1
+
+  pub IsAscending-take : (place : ℕ) (rows : List (K × V)) → IsAscending cmp rows → IsAscending cmp (take place rows)
+  IsAscending-take place rows ascending = IsAscending-left (take place rows) (drop place rows) (rw take-append-drop ascending)
+
+  pub IsAscending-drop : (place : ℕ) (rows : List (K × V)) → IsAscending cmp rows → IsAscending cmp (drop place rows)
+  IsAscending-drop place rows ascending = IsAscending-right (take place rows) (drop place rows) (rw take-append-drop ascending)
 
   pub IsAscending-without_key : (rows : List (K × V)) (key : K) → IsAscending cmp rows → IsAscending cmp (without_key cmp rows key)
   unfolding IsStrictlySortedBy

@@ -1,9 +1,9 @@
 -- A sorted table as a list of rows, each a key and a value. The rules are this project's own.
 -- `cmp` is the order of the keys.
-use Rattle.std.specs.Prelude.{◌≡◌, ℕ, ◌<◌, ◌≤◌, suc, List, [], ◌∷◌, length, take, drop, Option}
+use Rattle.std.specs.Prelude.{◌≡◌, ℕ, ◌<◌, ◌≤◌, suc, List, [], ◌∷◌, length, take, drop, Option, Bool, false}
 use Rattle.std.specs.declared.cmp.Ordering.{Ordering}
 use Rattle.std.specs.declared.cmp.Ordering.TheVariants.{Less, Equal, Greater}
-use Rattle.std.specs.Ordering.{is_eq, is_lt, match_ordering}
+use Rattle.std.specs.Ordering.{is_eq, is_le, is_lt, match_ordering}
 use Rattle.std.specs.List.{prefix_len, AllByRecursion, AllZip, HoldsAt}
 use Rattle.std.specs.List.Sorted.{IsStrictlySortedBy}
 use Rattle.std.specs.Map.{keys_of, lookup, remove_entry}
@@ -12,6 +12,11 @@ use Rattle.std.specs.Map.{keys_of, lookup, remove_entry}
 pub record Table (K V : Type 0) : Type 0 where
   pub rows : List (K × V)
   pub spare : ℕ
+
+-- what a run of rows in one vector is seen as: its rows, and for how many it has memory
+pub record Run (K V : Type 0) : Type 0 where
+  pub rows : List (K × V)
+  pub room : ℕ
 
 module _ {K V : Type 0} (cmp : K → K → Ordering) where
   -- each key is below the keys after it, so that no key stands twice
@@ -34,6 +39,11 @@ module _ {K V : Type 0} (cmp : K → K → Ordering) where
   -- the place of the first row whose key is not below this one, or the number of rows
   abbrev pub lower_bound : List (K × V) → K → ℕ
   lower_bound rows key = prefix_len (λ row. is_lt (cmp row.0 key)) rows
+
+-- whether the first row has a key that is not above this one
+abbrev pub begins_by : {K V : Type 0} → (K → K → Ordering) → List (K × V) → K → Bool
+begins_by cmp [] key = false
+begins_by cmp (row ∷ rows) key = is_le (cmp row.0 key)
 
 -- the copies have the same keys in the same order, and a clone of each value
 abbrev pub AreCopies : {K V : Type 0} → (V → V → Type 0) → List (K × V) → List (K × V) → Type 0

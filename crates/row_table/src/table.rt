@@ -1,29 +1,32 @@
-//! The table as one sorted vector.
-ghost use Rattle.std.specs.Prelude.{◌≡◌, false, ◌+◌, ◌-◌, ◌<◌, ◌≤◌, [], length, max, slice_get, Some, IfOk, IfNone, MatchResult, OnOk, OnErr, is_some, IsTrue, ◌↔◌, if◌then◌else◌};
+//! The table in blocks of bounded size: its rows are those of the blocks, one block after another.
+ghost use Rattle.std.specs.Prelude.{◌≡◌, false, ◌+◌, ◌-◌, ◌*◌, ◌<◌, ◌≤◌, [], length, max, slice_get, Some, IfOk, IfNone, OnSome, OnOk, OnErr, is_some, if◌then◌else◌};
 ghost use Rattle.std.specs.Option.{option_copied};
 ghost use Rattle.std.specs.Ordering.{is_gt};
-ghost use Rattle.row_table.specs.Rows.{Table, IsAscending, value_of, with_row, without_key, lower_bound, AreCopies, IsRowAt, IsGapAt};
+ghost use Rattle.row_table.specs.Rows.{Table, IsAscending, value_of, with_row, without_key, lower_bound, AreCopies};
+ghost use Rattle.row_table.specs.Blocks.{joined, block_at, claim_of, halved, IsBlockFor};
 
+use crate::blocks::{BLOCK_ROWS, Blocks, HALF_ROWS};
 use std::alloc::{AllocError, Global};
 use std::marker::Model;
-use std::mem;
 
-/// A sorted table with reserved capacity, as one vector.
+/// A sorted table with reserved capacity, in blocks. A put or a removal moves the rows of one block alone.
 #[derive(Drop)]
 pub struct RowTable<K: Ord, V> {
-    rows: Vec<(K, V)>,
+    blocks: Blocks<K, V>,
+    len: usize,
     spare: usize,
 }
 
 impl<K: Ord, V> Model for RowTable<K, V> {
-    ghost use Rattle.std.specs.Prelude.{◌+◌, ◌≤◌, vec_capacity, vec_len};
+    ghost use Rattle.std.specs.Prelude.{◌≡◌, ◌+◌, ◌^◌, ◌<◌, length};
     ghost use Rattle.row_table.specs.Rows.{Table, IsAscending};
+    ghost use Rattle.row_table.specs.Blocks.{joined, IsCovered};
 
     ghost Value = { Table K V };
 
-    ghost view = { λ t. record { rows = t.rows.items; spare = t.spare } };
+    ghost view = { λ t. record { rows = joined t.blocks.blocks; spare = t.spare } };
 
-    ghost invariant = { λ t. IsAscending K.cmp t.rows.items × (vec_len t.rows + t.spare ≤ vec_capacity t.rows) };
+    ghost invariant = { λ t. IsAscending K.cmp (joined t.blocks.blocks) × (t.len ≡ length (joined t.blocks.blocks)) × (t.len + t.spare < 2 ^ 64) × IsCovered t.blocks.blocks t.blocks.free t.spare };
 }
 
 impl<K: Ord + Drop, V: Drop> RowTable<K, V> {
@@ -33,25 +36,26 @@ impl<K: Ord + Drop, V: Drop> RowTable<K, V> {
         ensures spare { result.spare ≡ 0 }
     {
         RowTable {
-            rows: Vec::new(alloc),
+            blocks: Blocks::make(alloc),
+            len: 0,
             spare: 0,
         }
     }
 
-    /// Whether the keys of the rows ascend, each below the next.
-    pub fn is_ascending(rows: &[(K, V)]) -> bool
-        ensures { IsTrue result ↔ IsAscending K.cmp rows.now }
-    {
-        rows.is_sorted_by(|row, next| row.0.cmp(&next.0).is_lt())
-    }
-
     /// The table of rows whose keys ascend already, in one pass, with no reserved capacity.
-    pub fn from_ascending(_alloc: Global, rows: Vec<(K, V)>) -> Result<RowTable<K, V>, AllocError>
+    pub fn from_ascending(alloc: Global, rows: Vec<(K, V)>) -> Result<RowTable<K, V>, AllocError>
         requires { IsAscending K.cmp rows.items }
         ensures rows { IfOk result (λ t. t.rows ≡ rows.items) }
         ensures spare { IfOk result (λ t. t.spare ≡ 0) }
     {
-        Ok(RowTable { rows, spare: 0 })
+        let mut table = RowTable::make(alloc);
+        let mut left = rows;
+        table.reserve(left.len())?;
+        left.reverse();
+        while let Some((key, value)) = left.pop() {
+            table.put(key, value);
+        }
+        Ok(table)
     }
 
     /// A table of the same keys and of clones of the values, with no reserved capacity.
@@ -62,29 +66,32 @@ impl<K: Ord + Drop, V: Drop> RowTable<K, V> {
         ensures rows { IfOk result (λ t. AreCopies V.is_clone self.now.rows t.rows) }
         ensures spare { IfOk result (λ t. t.spare ≡ 0) }
     {
-        let mut rows = Vec::with_capacity(alloc, self.rows.len())?;
-        for (key, value) in &self.rows {
-            rows.push((*key, value.clone()?))?;
-        }
-        Ok(RowTable { rows, spare: 0 })
+        Ok(RowTable {
+            blocks: self.blocks.copy(alloc)?,
+            len: self.len,
+            spare: 0,
+        })
     }
 
-    /// The number of rows.
+    /// The number of rows. Their keys ascend.
     pub fn len(&self) -> usize
         ensures len { result ≡ length self.now.rows }
         ensures ascending { IsAscending K.cmp self.now.rows }
     {
-        self.rows.len()
+        self.len
     }
 
-    /// Takes memory so that `count` new keys can be put. Only this call takes memory, and a refusal changes nothing.
+    /// Takes memory so that `count` new keys can be put; no put, removal or look-up takes any. A refusal changes nothing.
     pub fn reserve(&mut self, count: usize) -> Result<(), AllocError>
         ensures rows { self.new.rows ≡ self.old.rows }
         ensures ok { OnOk result (self.new.spare ≡ max self.old.spare count) }
         ensures err { OnErr result (self.new.spare ≡ self.old.spare) }
     {
         if self.spare < count {
-            self.rows.reserve(count)?;
+            let _all = self.len.checked_add(count).ok_or(AllocError)?;
+            // A new key cuts one block at most. Beside those that are full, 128 new keys cut one.
+            let halves = self.blocks.len().saturating_add(count / HALF_ROWS + 2);
+            self.blocks.reserve(count.min(halves))?;
             self.spare = count;
         }
         Ok(())
@@ -97,19 +104,19 @@ impl<K: Ord + Drop, V: Drop> RowTable<K, V> {
         ensures old { result ≡ value_of K.cmp self.old.rows key }
         ensures spare { self.new.spare ≡ (if is_some result then self.old.spare else self.old.spare - 1) }
     {
-        match self.search(&key) {
-            Ok(place) => {
-                let (_, old) = mem::replace(&mut self.rows[place], (key, value));
-                Some(old)
-            }
-            Err(place) => {
-                let Ok(()) = self.rows.insert(place, (key, value)) else {
-                    unreachable!()
-                };
-                self.spare -= 1;
-                None
-            }
+        if self.blocks.len() == 0 {
+            self.blocks.put_first(key, value);
+            self.len += 1;
+            self.spare -= 1;
+            return None;
         }
+        let place = room_for(&mut self.blocks, &key);
+        let old = self.blocks.put(place, key, value);
+        if old.is_none() {
+            self.len += 1;
+            self.spare -= 1;
+        }
+        old
     }
 
     /// Removes the key's row and gives its value, if there is one.
@@ -118,23 +125,26 @@ impl<K: Ord + Drop, V: Drop> RowTable<K, V> {
         ensures old { result ≡ value_of K.cmp self.old.rows key.now }
         ensures spare { self.new.spare ≡ self.old.spare }
     {
-        match self.search(key) {
-            Ok(place) => {
-                let (_, value) = self.rows.remove(place);
-                Some(value)
-            }
-            Err(_) => None,
+        if self.blocks.len() == 0 {
+            return None;
         }
+        let place = self.blocks.block_for(key);
+        let old = self.blocks.take(place, key);
+        if old.is_some() {
+            self.len -= 1;
+        }
+        old
     }
 
     /// The value of the key, if there is one.
     pub fn get(&self, key: &K) -> Option<&V>
         ensures { option_copied result ≡ value_of K.cmp self.now.rows key.now }
     {
-        match self.search(key) {
-            Ok(place) => Some(&self.rows[place].1),
-            Err(_) => None,
+        if self.blocks.len() == 0 {
+            return None;
         }
+        let place = self.blocks.block_for(key);
+        self.blocks.run(place).get(key)
     }
 
     /// The row at a place, counted from 0 in ascending order.
@@ -142,8 +152,7 @@ impl<K: Ord + Drop, V: Drop> RowTable<K, V> {
         requires { place < length self.now.rows }
         ensures { slice_get self.now.rows place ≡ Some (result.0.now, result.1.now) }
     {
-        let row = &self.rows[place];
-        (&row.0, &row.1)
+        self.blocks.row(place)
     }
 
     /// The places of the keys that are not below `from` and are below `to`: the first, and the one after the last.
@@ -160,16 +169,52 @@ impl<K: Ord + Drop, V: Drop> RowTable<K, V> {
     fn place_of(&self, key: &K) -> usize
         ensures { result ≡ lower_bound K.cmp self.now.rows key.now }
     {
-        match self.search(key) {
-            Ok(place) => place,
-            Err(place) => place,
+        if self.blocks.len() == 0 {
+            return 0;
         }
+        let place = self.blocks.block_for(key);
+        self.blocks.start(place) + self.blocks.run(place).place_of(key)
     }
+}
 
-    // Where the key's row is, or where it would go.
-    fn search(&self, key: &K) -> Result<usize, usize>
-        ensures { MatchResult result (IsRowAt K.cmp self.now.rows key.now) (IsGapAt K.cmp self.now.rows key.now) }
-    {
-        self.rows.binary_search_by(|row| row.0.cmp(key))
+// The block that has the key, or one with room for it: a full block is cut in two where the key is new.
+fn room_for<K: Ord + Drop, V: Drop>(blocks: &mut Blocks<K, V>, key: &K) -> usize
+    requires ascending { IsAscending K.cmp (joined blocks.old.blocks) }
+    requires some { 0 < length blocks.old.blocks }
+    requires free { IfNone (value_of K.cmp (joined blocks.old.blocks) key.now) (0 < blocks.old.free) }
+    ensures block { IsBlockFor K.cmp blocks.new.blocks key.now result }
+    ensures rows { joined blocks.new.blocks ≡ joined blocks.old.blocks }
+    ensures room { IfNone (value_of K.cmp (joined blocks.old.blocks) key.now) (length (block_at blocks.new.blocks result) < 256) }
+    ensures claim { claim_of blocks.new.blocks + 128 * blocks.old.free ≤ claim_of blocks.old.blocks + 128 * blocks.new.free }
+    ensures free { blocks.old.free ≤ blocks.new.free + 1 }
+    ensures there { OnSome (value_of K.cmp (joined blocks.old.blocks) key.now) (blocks.new.free ≡ blocks.old.free) }
+{
+    let place = blocks.block_for(key);
+    let run = blocks.run(place);
+    if run.len() < BLOCK_ROWS {
+        return place;
+    }
+    if run.get(key).is_some() {
+        return place;
+    }
+    halve_for(blocks, place, key)
+}
+
+// Cuts the full block for a key in two, and gives the half for it.
+fn halve_for<K: Ord + Drop, V: Drop>(blocks: &mut Blocks<K, V>, place: usize, key: &K) -> usize
+    requires ascending { IsAscending K.cmp (joined blocks.old.blocks) }
+    requires block { IsBlockFor K.cmp blocks.old.blocks key.now place }
+    requires full { length (block_at blocks.old.blocks place) ≡ 256 }
+    requires free { 0 < blocks.old.free }
+    ensures block { IsBlockFor K.cmp blocks.new.blocks key.now result }
+    ensures room { length (block_at blocks.new.blocks result) < 256 }
+    ensures blocks { blocks.new.blocks ≡ halved blocks.old.blocks place }
+    ensures free { blocks.new.free + 1 ≡ blocks.old.free }
+{
+    let upper = blocks.halve(place);
+    if blocks.run(upper).begins_by(key) {
+        upper
+    } else {
+        place
     }
 }

@@ -1,16 +1,11 @@
-use Rattle.std.proofs.Common.{arith, refl, take_all}
-use Rattle.std.proofs.lemmas.List.{take_more}
-use Rattle.std.proofs.lemmas.List.Elements.{AllZip-push}
-use Rattle.row_table.proofs.Copies.{IsAscending-copies}
+use Rattle.std.proofs.Common.{arith}
+use Rattle.row_table.proofs.Copies.{IsAscending-copies, length-copies}
 use Rattle.row_table.proofs.table.RowTable.copy.Goals as goal
 
--- one more row, its key as it is and a clone of its value
-pub loop-key-preserved : goal.loop-key-preserved
-loop-key-preserved g c =
-    let row = c.loop-key-item.result in
-    rw (take_more c.deref-key-items.result.now c.loop-key.key-index row c.loop-key-test.true, ← c.loop-key-item.is, c.in_ok-push.ensures.items)
-    (AllZip-push _ _ _ _ _ c.loop-key.invariant (refl, c.in_ok-clone.ensures.cases))
-
 pub invariant_of-result : goal.invariant_of-result
-invariant_of-result g c =
-    (IsAscending-copies g.V.Clone.is_clone g.K.Ord.cmp _ _ c.loop-key.invariant (rw (take_all c.loop-key.key-index c.deref-key-items.result.now c.loop-key-test.false, c.deref-key-items.ensures.value) c.self.invariant.0), omega arith)
+invariant_of-result g c = (
+  IsAscending-copies g.V.Clone.is_clone g.K.Ord.cmp _ _ c.in_ok-copy.ensures c.self.invariant.0,
+  omega (arith, c.self.invariant.1, length-copies g.V.Clone.is_clone _ _ c.in_ok-copy.ensures),
+  omega (arith, c.self.invariant.2),
+  λ fewer. absurd (omega arith),
+)

@@ -1,11 +1,8 @@
-use Rattle.std.proofs.Common.{ap, sym, ◌∙◌, Some}
-use Rattle.row_table.proofs.Place.{value_of_found, value_of_gap}
+use Rattle.std.proofs.Common.{sym, ap, ◌∙◌}
+use Rattle.row_table.specs.Rows.{value_of}
+use Rattle.row_table.proofs.Whole.{value_of-block}
 use Rattle.row_table.proofs.table.RowTable.get.Goals as goal
 
-pub returns-in-Ok : goal.returns-in-Ok
-returns-in-Ok g c =
-    let found = rw (← c.self.view_is) at c.in-Ok.ensures in
-    rw (← c.self.view_is) (ap (λ row. Some row.1) c.index.ensures ∙ sym (value_of_found g.K.Ord.cmp _ _ _ c.index.result.now found))
-
-pub returns-in-Err : goal.returns-in-Err
-returns-in-Err g c = sym (value_of_gap g.K.Ord.cmp _ _ _ c.in-Err.ensures)
+pub returns : goal.returns
+returns g c =
+    rw (← c.self.view_is) (c.get.ensures ∙ ap (λ rows. value_of g.K.Ord.cmp rows c.args.key.now) c.run.ensures.rows ∙ sym (value_of-block g.K.Ord.cmp _ _ _ c.block_for-place.ensures))

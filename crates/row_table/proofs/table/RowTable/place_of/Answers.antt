@@ -1,9 +1,17 @@
-use Rattle.std.proofs.Common.{sym}
-use Rattle.row_table.proofs.Place.{lower_bound_found, lower_bound_gap}
+use Rattle.std.proofs.Common.{sym, ap, ap₂, ◌∙◌, ◌+◌, arith, is_lt}
+use Rattle.std.proofs.lemmas.List.Sums.{prefix_len-le-length}
+use Rattle.row_table.specs.Rows.{lower_bound}
+use Rattle.row_table.specs.Blocks.{joined}
+use Rattle.row_table.proofs.Whole.{lower_bound-block}
 use Rattle.row_table.proofs.table.RowTable.place_of.Goals as goal
 
-pub returns-in-Ok : goal.returns-in-Ok
-returns-in-Ok g c = sym (lower_bound_found g.K.Ord.cmp _ _ _ c.in-Ok.ensures)
+pub overflow_add-result : goal.overflow_add-result
+overflow_add-result g c =
+    let own = c.place_of.ensures ∙ ap (λ rows. lower_bound g.K.Ord.cmp rows c.args.key.now) c.run.ensures.rows in
+    let all = lower_bound-block g.K.Ord.cmp _ _ _ c.block_for-place.ensures in
+    let most = prefix_len-le-length (λ row. is_lt (g.K.Ord.cmp row.0 c.args.key.now)) (joined c.self.inside.blocks.blocks) in
+    omega (arith, c.start.ensures, own, all, most, c.self.invariant.1, c.self.invariant.2)
 
-pub returns-in-Err : goal.returns-in-Err
-returns-in-Err g c = sym (lower_bound_gap g.K.Ord.cmp _ _ _ c.in-Err.ensures)
+pub returns : goal.returns
+returns g c =
+    rw (← c.self.view_is) (ap₂ (λ m n. m + n) c.start.ensures (c.place_of.ensures ∙ ap (λ rows. lower_bound g.K.Ord.cmp rows c.args.key.now) c.run.ensures.rows) ∙ sym (lower_bound-block g.K.Ord.cmp _ _ _ c.block_for-place.ensures))

@@ -1,48 +1,123 @@
-use Rattle.std.proofs.Common.{ap, sym, ◌∙◌, arith, Some}
-use Rattle.row_table.proofs.Place.{value_of_found, value_of_gap, with_row_found, with_row_gap}
-use Rattle.row_table.proofs.Ascending.{IsAscending-with_row}
+use Rattle.std.proofs.Common.{arith, ap, sym, ◌∙◌, ◌<◌, length, is_some, []}
+use Rattle.row_table.specs.Rows.{value_of, with_row}
+use Rattle.row_table.specs.Blocks.{joined}
+use Rattle.row_table.proofs.Ascending.{IsAscending-with_row, IsAscending-empty}
+use Rattle.row_table.proofs.Changes.{length-with_row}
+use Rattle.row_table.proofs.Whole.{value_of-block, with_row-block}
+use Rattle.row_table.proofs.Runs.{none_holds, none_weaker, some_says, nil_from_length}
 use Rattle.row_table.proofs.table.RowTable.put.Goals as goal
 
--- the key was there
+-- the first row
 pub invariant_of-self : goal.invariant_of-self
 invariant_of-self g c =
-    let found = rw (← c.self.view_is) at c.in-Ok.ensures in
-    (rw (c.replace-old.ensures.after, ← with_row_found g.K.Ord.cmp _ _ c.args.value _ found) (IsAscending-with_row g.K.Ord.cmp g.met.K.Ord.total _ _ _ c.self.invariant.0), omega (arith, c.self.invariant.1))
+    let none = nil_from_length c.self.inside.blocks.blocks (sym c.len.ensures.len ∙ c.if-len-eq0.true) in
+    let rows = ap joined none in
+    let covered = rw none at c.self.invariant.3 in
+    let reserved = rw rows at (rw (← c.self.view_is) at c.requires) in
+    rw (c.put_first.ensures.blocks) (
+      IsAscending-with_row g.K.Ord.cmp g.met.K.Ord.total [] c.args.key c.args.value (IsAscending-empty g.row.V.Denot g.K.Ord.cmp),
+      omega (arith, c.self.invariant.1, ap length rows),
+      omega (arith, reserved, c.self.invariant.2),
+      λ fewer. omega (arith, fewer, covered (omega (arith, fewer, c.put_first.ensures.free)), c.put_first.ensures.free),
+    )
 
-pub returns-in-Ok-clause-rows : goal.returns-in-Ok-clause-rows
-returns-in-Ok-clause-rows g c =
-    let found = rw (← c.self.view_is) at c.in-Ok.ensures in
-    rw (← c.self.view_is, c.replace-old.ensures.after) (sym (with_row_found g.K.Ord.cmp _ _ _ _ found))
+pub put-old-requires-clause-room : goal.put-old-requires-clause-room
+put-old-requires-clause-room g c =
+    let found = c.room_for-place.ensures.block in
+    let value = sym (value_of-block g.K.Ord.cmp _ _ _ found) ∙ ap (λ rows. value_of g.K.Ord.cmp rows c.args.key) c.room_for-place.ensures.rows in
+    rw value c.room_for-place.ensures.room
 
-pub returns-in-Ok-clause-old : goal.returns-in-Ok-clause-old
-returns-in-Ok-clause-old g c =
-    let found = rw (← c.self.view_is) at c.in-Ok.ensures in
-    rw (← c.self.view_is, c.replace-old.ensures.value) (ap (λ row. Some row.1) c.index_mut.ensures.value ∙ sym (value_of_found g.K.Ord.cmp _ _ _ c.index_mut.result.now found))
+pub put-old-requires-clause-fits : goal.put-old-requires-clause-fits
+put-old-requires-clause-fits g c =
+    let found = c.room_for-place.ensures.block in
+    let value = sym (value_of-block g.K.Ord.cmp _ _ _ found) ∙ ap (λ rows. value_of g.K.Ord.cmp rows c.args.key) c.room_for-place.ensures.rows in
+    rw (value, c.room_for-place.ensures.rows) (none_weaker (0 < c.self.inside.spare) _ _ (λ reserved. omega (arith, reserved, c.self.invariant.1, c.self.invariant.2)) (rw (← c.self.view_is) at c.requires))
 
--- the key is new, so that there is reserved room
-pub unreachable-requires : goal.unreachable-requires
-unreachable-requires g c =
-    let reserved = rw (value_of_gap g.K.Ord.cmp _ _ _ c.in-Err.ensures) at c.requires in
-    let inside = rw (← c.self.view_is) at reserved in
-    omega (arith, c.self.invariant.1, c.in_default.ensures.full)
+pub overflow_add-self-then-is_none : goal.overflow_add-self-then-is_none
+overflow_add-self-then-is_none g c =
+    let found = c.room_for-place.ensures.block in
+    let value = sym (value_of-block g.K.Ord.cmp _ _ _ found) ∙ ap (λ rows. value_of g.K.Ord.cmp rows c.args.key) c.room_for-place.ensures.rows in
+    let all = ap joined c.put-old.ensures.blocks ∙ with_row-block g.K.Ord.cmp _ _ _ found c.args.value ∙ ap (λ rows. with_row g.K.Ord.cmp rows c.args.key c.args.value) c.room_for-place.ensures.rows in
+    let old = c.put-old.ensures.old ∙ value in
+    let is = ap is_some (sym old) ∙ c.if-is_none.ensures in
+    let reserved = none_holds _ _ is (rw (← c.self.view_is) at c.requires) in
+    omega (arith, reserved, c.self.invariant.2)
 
-pub overflow_sub-self : goal.overflow_sub-self
-overflow_sub-self g c =
-    let reserved = rw (value_of_gap g.K.Ord.cmp _ _ _ c.in-Err.ensures) at c.requires in
-    let inside = rw (← c.self.view_is) at reserved in
-    omega arith
+pub overflow_sub-self-then-is_none : goal.overflow_sub-self-then-is_none
+overflow_sub-self-then-is_none g c =
+    let found = c.room_for-place.ensures.block in
+    let value = sym (value_of-block g.K.Ord.cmp _ _ _ found) ∙ ap (λ rows. value_of g.K.Ord.cmp rows c.args.key) c.room_for-place.ensures.rows in
+    let all = ap joined c.put-old.ensures.blocks ∙ with_row-block g.K.Ord.cmp _ _ _ found c.args.value ∙ ap (λ rows. with_row g.K.Ord.cmp rows c.args.key c.args.value) c.room_for-place.ensures.rows in
+    let old = c.put-old.ensures.old ∙ value in
+    let is = ap is_some (sym old) ∙ c.if-is_none.ensures in
+    let reserved = none_holds _ _ is (rw (← c.self.view_is) at c.requires) in
+    reserved
 
-pub invariant_of-self-in-Err : goal.invariant_of-self-in-Err
-invariant_of-self-in-Err g c =
-    let gap = rw (← c.self.view_is) at c.in-Err.ensures in
-    let reserved = rw (value_of_gap g.K.Ord.cmp _ _ _ c.in-Err.ensures) at c.requires in
-    let inside = rw (← c.self.view_is) at reserved in
-    (rw (c.in-Ok-insert.ensures.items, ← with_row_gap g.K.Ord.cmp _ _ _ gap c.args.value) (IsAscending-with_row g.K.Ord.cmp g.met.K.Ord.total _ _ _ c.self.invariant.0), omega (arith, c.self.invariant.1, c.in-Ok-insert.ensures.len, c.in-Ok-insert.ensures.capacity))
+-- a new key
+pub invariant_of-self-then-is_none : goal.invariant_of-self-then-is_none
+invariant_of-self-then-is_none g c =
+    let found = c.room_for-place.ensures.block in
+    let value = sym (value_of-block g.K.Ord.cmp _ _ _ found) ∙ ap (λ rows. value_of g.K.Ord.cmp rows c.args.key) c.room_for-place.ensures.rows in
+    let all = ap joined c.put-old.ensures.blocks ∙ with_row-block g.K.Ord.cmp _ _ _ found c.args.value ∙ ap (λ rows. with_row g.K.Ord.cmp rows c.args.key c.args.value) c.room_for-place.ensures.rows in
+    let old = c.put-old.ensures.old ∙ value in
+    let is = ap is_some (sym old) ∙ c.if-is_none.ensures in
+    let reserved = none_holds _ _ is (rw (← c.self.view_is) at c.requires) in
+    let len = rw is at (length-with_row g.K.Ord.cmp g.met.K.Ord.total (joined c.self.inside.blocks.blocks) c.args.key c.args.value c.self.invariant.0) in
+    let claim = rw (c.if-is_none.ensures) at c.put-old.ensures.claim in (
+      rw all (IsAscending-with_row g.K.Ord.cmp g.met.K.Ord.total _ _ _ c.self.invariant.0),
+      omega (arith, len, ap length all, c.self.invariant.1),
+      omega (arith, reserved, c.self.invariant.2),
+      λ fewer. omega (arith, fewer, reserved, claim, c.room_for-place.ensures.claim, c.room_for-place.ensures.free, c.put-old.ensures.free, c.self.invariant.3 (omega (arith, fewer, reserved, c.room_for-place.ensures.free, c.put-old.ensures.free))),
+    )
 
-pub returns-in-Ok-insert-clause-rows : goal.returns-in-Ok-insert-clause-rows
-returns-in-Ok-insert-clause-rows g c =
-    let gap = rw (← c.self.view_is) at c.in-Err.ensures in
-    rw (← c.self.view_is) (c.in-Ok-insert.ensures.items ∙ sym (with_row_gap g.K.Ord.cmp _ _ _ gap _))
+-- a key that was there
+pub invariant_of-self-else-is_none : goal.invariant_of-self-else-is_none
+invariant_of-self-else-is_none g c =
+    let found = c.room_for-place.ensures.block in
+    let value = sym (value_of-block g.K.Ord.cmp _ _ _ found) ∙ ap (λ rows. value_of g.K.Ord.cmp rows c.args.key) c.room_for-place.ensures.rows in
+    let all = ap joined c.put-old.ensures.blocks ∙ with_row-block g.K.Ord.cmp _ _ _ found c.args.value ∙ ap (λ rows. with_row g.K.Ord.cmp rows c.args.key c.args.value) c.room_for-place.ensures.rows in
+    let old = c.put-old.ensures.old ∙ value in
+    let is = ap is_some (sym old) ∙ c.if-is_none.ensures in
+    let len = rw is at (length-with_row g.K.Ord.cmp g.met.K.Ord.total (joined c.self.inside.blocks.blocks) c.args.key c.args.value c.self.invariant.0) in
+    let claim = rw (c.if-is_none.ensures) at c.put-old.ensures.claim in (
+      rw all (IsAscending-with_row g.K.Ord.cmp g.met.K.Ord.total _ _ _ c.self.invariant.0),
+      omega (arith, len, ap length all, c.self.invariant.1),
+      c.self.invariant.2,
+      (let kept = some_says _ _ is c.room_for-place.ensures.there in λ fewer. omega (arith, fewer, claim, c.room_for-place.ensures.claim, kept, c.put-old.ensures.free, c.self.invariant.3 (omega (arith, fewer, kept, c.put-old.ensures.free)))),
+    )
 
-pub returns-in-Ok-insert-clause-old : goal.returns-in-Ok-insert-clause-old
-returns-in-Ok-insert-clause-old g c = sym (value_of_gap g.K.Ord.cmp _ _ _ c.in-Err.ensures)
+pub returns-then-is_none-clause-rows : goal.returns-then-is_none-clause-rows
+returns-then-is_none-clause-rows g c =
+    let found = c.room_for-place.ensures.block in
+    let value = sym (value_of-block g.K.Ord.cmp _ _ _ found) ∙ ap (λ rows. value_of g.K.Ord.cmp rows c.args.key) c.room_for-place.ensures.rows in
+    let all = ap joined c.put-old.ensures.blocks ∙ with_row-block g.K.Ord.cmp _ _ _ found c.args.value ∙ ap (λ rows. with_row g.K.Ord.cmp rows c.args.key c.args.value) c.room_for-place.ensures.rows in
+    let old = c.put-old.ensures.old ∙ value in
+    let is = ap is_some (sym old) ∙ c.if-is_none.ensures in
+    rw (← c.self.view_is) all
+
+pub returns-then-is_none-clause-old : goal.returns-then-is_none-clause-old
+returns-then-is_none-clause-old g c =
+    let found = c.room_for-place.ensures.block in
+    let value = sym (value_of-block g.K.Ord.cmp _ _ _ found) ∙ ap (λ rows. value_of g.K.Ord.cmp rows c.args.key) c.room_for-place.ensures.rows in
+    let all = ap joined c.put-old.ensures.blocks ∙ with_row-block g.K.Ord.cmp _ _ _ found c.args.value ∙ ap (λ rows. with_row g.K.Ord.cmp rows c.args.key c.args.value) c.room_for-place.ensures.rows in
+    let old = c.put-old.ensures.old ∙ value in
+    let is = ap is_some (sym old) ∙ c.if-is_none.ensures in
+    rw (← c.self.view_is) old
+
+pub returns-else-is_none-clause-rows : goal.returns-else-is_none-clause-rows
+returns-else-is_none-clause-rows g c =
+    let found = c.room_for-place.ensures.block in
+    let value = sym (value_of-block g.K.Ord.cmp _ _ _ found) ∙ ap (λ rows. value_of g.K.Ord.cmp rows c.args.key) c.room_for-place.ensures.rows in
+    let all = ap joined c.put-old.ensures.blocks ∙ with_row-block g.K.Ord.cmp _ _ _ found c.args.value ∙ ap (λ rows. with_row g.K.Ord.cmp rows c.args.key c.args.value) c.room_for-place.ensures.rows in
+    let old = c.put-old.ensures.old ∙ value in
+    let is = ap is_some (sym old) ∙ c.if-is_none.ensures in
+    rw (← c.self.view_is) all
+
+pub returns-else-is_none-clause-old : goal.returns-else-is_none-clause-old
+returns-else-is_none-clause-old g c =
+    let found = c.room_for-place.ensures.block in
+    let value = sym (value_of-block g.K.Ord.cmp _ _ _ found) ∙ ap (λ rows. value_of g.K.Ord.cmp rows c.args.key) c.room_for-place.ensures.rows in
+    let all = ap joined c.put-old.ensures.blocks ∙ with_row-block g.K.Ord.cmp _ _ _ found c.args.value ∙ ap (λ rows. with_row g.K.Ord.cmp rows c.args.key c.args.value) c.room_for-place.ensures.rows in
+    let old = c.put-old.ensures.old ∙ value in
+    let is = ap is_some (sym old) ∙ c.if-is_none.ensures in
+    rw (← c.self.view_is) old

@@ -1,7 +1,7 @@
 use Rattle.std.proofs.Common.{rules, is_lt}
 use Rattle.std.proofs.lemmas.Fn.{always_returns_same}
 use Rattle.row_table.proofs.Ascending.{ascending_from_neighbours, neighbours_from_ascending}
-use Rattle.row_table.proofs.table.RowTable.is_ascending.Goals as goal
+use Rattle.row_table.proofs.run.is_ascending.Goals as goal
 
 -- the closure compares the keys of two rows
 pub returns : goal.returns
