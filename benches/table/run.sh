@@ -2,7 +2,8 @@
 # Times the sorted table beside Rust's BTreeMap and a sorted Vec: benches/table/run.sh [SIZE] [RUNS]
 #
 # Each figure is the least of RUNS runs, in milliseconds, with the programs in turn. `gets` and `changes` fill their
-# table in ascending order first: the column `net` takes the time of that filling off.
+# table in ascending order first: the column `net` takes the time of that filling off. The random puts of the sorted
+# Vec, which move half of it each, run once.
 set -eu
 here=$(cd "$(dirname "$0")" && pwd)
 size=${1:-262144}
@@ -10,7 +11,7 @@ runs=${2:-7}
 built=$(mktemp -d)
 trap 'rm -rf "$built"' EXIT
 
-(cd "$here/../../crates/measure" && rt run >/dev/null)
+(cd "$here/../../crates/measure" && rt run -- baseline 1 >/dev/null 2>&1)
 cp "$here/../../crates/measure/out/measure" "$built/measure"
 rustc -O -o "$built/table" "$here/table.rs"
 
@@ -41,8 +42,13 @@ map_fill=$(least "$built/table" ascending)
 vec_fill=$(least "$built/table" vec_ascending)
 row 'ascending: table in blocks' 0 "$built/measure" table_ascending
 row 'ascending: BTreeMap' 0 "$built/table" ascending
+row 'ascending: sorted Vec' 0 "$built/table" vec_ascending
 row 'random puts: table in blocks' 0 "$built/measure" table_puts
 row 'random puts: BTreeMap' 0 "$built/table" puts
+several=$runs
+runs=1
+row 'random puts: sorted Vec (one run)' 0 "$built/table" vec_puts
+runs=$several
 row '1,000,000 gets: table in blocks' "$table_fill" "$built/measure" table_gets
 row '1,000,000 gets: table in one vector' "$vec_fill" "$built/measure" table_flat_gets
 row '1,000,000 gets: BTreeMap' "$map_fill" "$built/table" gets

@@ -13,8 +13,8 @@ fn next_number(seed: u64) -> u64 {
 }
 
 fn random_key(seed: u64, size: u32) -> u32 {
-    let keys = u64::from(size) * 2 + 2;
-    ((seed >> 20) % keys) as u32
+    let keys = size.saturating_mul(2).saturating_add(2);
+    ((seed >> 20) % u64::from(keys)) as u32
 }
 
 fn ascending_rows(size: u32) -> Vec<(u32, u64)> {
@@ -37,6 +37,20 @@ fn random_puts(size: u32) -> u64 {
         map.insert(random_key(seed, size), u64::from(place));
     }
     sum_of_rows(map.iter())
+}
+
+fn random_vec_puts(size: u32) -> u64 {
+    let mut rows: Vec<(u32, u64)> = Vec::new();
+    let mut seed = 1;
+    for place in 0..size {
+        seed = next_number(seed);
+        let key = random_key(seed, size);
+        match rows.binary_search_by(|row| row.0.cmp(&key)) {
+            Ok(at) => rows[at].1 = u64::from(place),
+            Err(at) => rows.insert(at, (key, u64::from(place))),
+        }
+    }
+    sum_of_rows(rows.iter().map(|(key, value)| (key, value)))
 }
 
 fn sum_of_gets(size: u32, get: impl Fn(u32) -> Option<u64>) -> u64 {
@@ -72,11 +86,12 @@ fn outcome(work: &str, size: u32) -> u64 {
         }
         "changes" => sum_of_changes(size),
         "vec_ascending" => sum_of_rows(ascending_rows(size).iter().map(|(key, value)| (key, value))),
+        "vec_puts" => random_vec_puts(size),
         "vec_gets" => {
             let rows = ascending_rows(size);
             sum_of_gets(size, |key| rows.binary_search_by(|row| row.0.cmp(&key)).ok().map(|place| rows[place].1))
         }
-        _ => panic!("work: ascending, puts, gets, changes, vec_ascending or vec_gets"),
+        _ => panic!("work: ascending, puts, gets, changes, vec_ascending, vec_puts or vec_gets"),
     }
 }
 

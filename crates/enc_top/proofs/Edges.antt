@@ -1,12 +1,11 @@
 -- The vector records of a list.
-use Rattle.std.proofs.Common.{◌≡◌, ℕ, ◌+◌, ◌<◌, List, [], ◌∷◌, ◌++◌, length, get_or, take, map, All, Bor, refl, sym, ap, ◌∙◌, subst, arith}
-use Rattle.std.proofs.lemmas.List.{take_more, length-map, get_or-map}
-use Rattle.s57_types.specs.declared.record.Vector.{Vector}
+use Rattle.std.proofs.Common.{◌≡◌, ℕ, ◌+◌, ◌<◌, List, [], ◌∷◌, ◌++◌, length, get_or, take, refl, sym, ap, ◌∙◌}
+use Rattle.std.proofs.lemmas.List.{take_more}
 use Rattle.s57_types.specs.declared.record.Rec.{Rec}
 use Rattle.s57_types.specs.declared.record.Rec.TheVariants.{V, F}
 use Rattle.enc_top.specs.Ends.{vectors_of}
 
-vectors_of-append : (xs ys : List Rec) → vectors_of (xs ++ ys) ≡ vectors_of xs ++ vectors_of ys
+pub vectors_of-append : (xs ys : List Rec) → vectors_of (xs ++ ys) ≡ vectors_of xs ++ vectors_of ys
 vectors_of-append [] ys = refl
 vectors_of-append (V v ∷ xs) ys = ap (λ vs. v ∷ vs) (vectors_of-append xs ys)
 vectors_of-append (F f ∷ xs) ys = vectors_of-append xs ys

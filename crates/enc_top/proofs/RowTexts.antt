@@ -54,11 +54,3 @@ text_with-findings c rows findings is =
     ap (λ (fs : List SubjectFinding). (count_line c ++ total_line (length fs)) ++ flat_map line_of fs ++ codes "end\n") is
     ∙ ap (λ n. (count_line c ++ total_line n) ++ flat_map line_of (findings_of_rows rows) ++ codes "end\n") (row_counts rows)
     ∙ ap (λ text. (count_line c ++ total_line (total_of rows)) ++ text ++ codes "end\n") (row_texts_all rows)
-
--- each finding as a row of its own
-abbrev pub row_of : SubjectFinding → Subject × List Finding
-row_of f = (f.subject, f.finding ∷ [])
-
-pub rows_of_findings : (findings : List SubjectFinding) → findings ≡ findings_of_rows (map row_of findings)
-rows_of_findings [] = refl
-rows_of_findings (f ∷ findings) = ap (λ fs. f ∷ fs) (rows_of_findings findings)

@@ -3,9 +3,8 @@ use Rattle.std.specs.Prelude.{◌≡◌, ◌⊎◌, ℕ, ◌≤◌, ◌<◌, ◌
 use Rattle.enc_outside.specs.Count.{Rose}
 use Rattle.enc_outside.specs.Files.{Files, Told}
 use Rattle.file_spec.specs.MinimalFile.{minimal_cell}
-use Rattle.cell_spec.specs.declared.finding.Finding.{Finding}
-use Rattle.cell_spec.specs.declared.key.Subject.{Subject}
-use Rattle.text_spec.specs.CellText.{text_with}
+use Rattle.rule_spec.specs.Kinds.{built_kinds}
+use Rattle.text_spec.specs.CellText.{cell_text}
 use Rattle.s57_types.specs.declared.cell.Cell.{Cell}
 use Rattle.enc_top.specs.Output.{Adds, AddsFront}
 use Rattle.enc_top.specs.Words.{is_word, is_later_form}
@@ -51,12 +50,12 @@ abbrev pub IsSilent : Outside → Outside → Type 0
 IsSilent before after = after.written ≡ before.written
 
 abbrev pub IsCause : List (List ℕ) → Outside → Outside → Status → Type 0
-IsCause words before after Done = (name : List ℕ) × (cell : Cell) × IsCheck words name × HasCell before name cell × ((rows : List (Subject × List Finding)) × Told (Adds (text_with cell rows)) before.written after.written)
+IsCause words before after Done = (name : List ℕ) × (cell : Cell) × IsCheck words name × HasCell before name cell × Told (Adds (cell_text built_kinds cell)) before.written after.written
 IsCause words before after Usage = (has_form words ≡ false) × IsSilent before after
 IsCause words before after (Absent name) = IsCheck words name × IsSilent before after × IfSome before.files (λ files. files name ≡ None)
 IsCause words before after (ReadFault name) = IsCheck words name × IsSilent before after × Rose before.read_faults after.read_faults
 IsCause words before after WriteFault = (name : List ℕ) × (cell : Cell) × IsCheck words name × HasCell before name cell
-    × Rose before.write_faults after.write_faults × ((rows : List (Subject × List Finding)) × Told (AddsFront (text_with cell rows)) before.written after.written)
+    × Rose before.write_faults after.write_faults × Told (AddsFront (cell_text built_kinds cell)) before.written after.written
 IsCause words before after (TooLarge name) = IsCheck words name × IsSilent before after × IfSome before.files (λ files. IsSomeAnd (files name) (λ content. cell_limit < length content))
 IsCause words before after NoMemory = ((name : List ℕ) × IsCheck words name) × IsSilent before after
 IsCause words before after NotYet = ((is_later_form words ≡ true) ⊎ ((name : List ℕ) × IsCheck words name × HasContent before name (λ content. minimal_cell content ≡ None))) × IsSilent before after

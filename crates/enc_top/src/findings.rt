@@ -1,9 +1,19 @@
 //! The findings of a cell: edges whose ends are wrong in number, and ends that lead to no connected node.
 
-ghost use Rattle.std.specs.Prelude.{◌≡◌, ◌<◌, ◌≤◌, ◌^◌, ◌++◌, ◌∷◌, [], All, IfOk, OnOk, length, map, IsPermutation};
+ghost use Rattle.std.specs.Prelude.{◌≡◌, ℕ, ◌<◌, ◌≤◌, ◌^◌, ◌==◌, ◌||◌, [], ◌∷◌, ◌++◌, All, IfOk, IsPermutation, OnOk, count_by, length, map};
+ghost use Rattle.std.specs.BTreeSet.{contains};
 ghost use Rattle.std.specs.List.Sorted.{IsNonDecreasingBy};
+ghost use Rattle.std.specs.Ordering.{nat_cmp};
+ghost use Rattle.s57_types.specs.declared.cell.Cell.{Cell as SpecCell};
+ghost use Rattle.s57_types.specs.declared.name.RecName.{RecName as SpecRecName};
+ghost use Rattle.cell_spec.specs.declared.key.Subject.TheVariants.{Rec as SubjectRec};
+ghost use Rattle.rule_spec.specs.EdgeEnds.{end_count};
+ghost use Rattle.rule_spec.specs.Findings.{all_findings};
+ghost use Rattle.rule_spec.specs.Kinds.{built_kinds};
+ghost use Rattle.enc_top.specs.EdgeFindings.{dangling_rows, edge_findings, edge_rows, is_node_of, is_numbered, names_node};
 ghost use Rattle.enc_top.specs.Ends.{vectors_of};
-ghost use Rattle.enc_top.specs.Rows.{HasKnownKind};
+ghost use Rattle.enc_top.specs.MinimalCell.{IsMinimalCell};
+ghost use Rattle.enc_top.specs.Rows.{HasKnownKind, findings_of_rows, with_subject};
 
 use cell_spec::{Finding, Subject};
 use s57_types::{Cell, End, Kind, Rec, RecName, Vector};
@@ -23,13 +33,27 @@ pub struct SubjectFinding {
     pub finding: Finding,
 }
 
+/// Adds the identification number of a vector record.
+fn add_number(numbers: &mut BTreeSet<u32>, rec: &Rec) -> Result<(), AllocError>
+    ensures { OnOk result ((q : ℕ) → contains nat_cmp numbers.new q ≡ (contains nat_cmp numbers.old q || is_numbered q rec.now)) }
+{
+    match rec {
+        Rec::V(node) => {
+            numbers.insert(node.name.id)?;
+            Ok(())
+        }
+        Rec::F(_) => Ok(()),
+    }
+}
+
 /// The identification numbers of a cell's connected nodes.
-fn node_numbers(alloc: Global, cell: &Cell) -> Result<BTreeSet<u32>, AllocError> {
+fn node_numbers(alloc: Global, cell: &Cell) -> Result<BTreeSet<u32>, AllocError>
+    requires { IsMinimalCell cell.now }
+    ensures { IfOk result (λ numbers. (n : SpecRecName) → names_node numbers n ≡ is_node_of cell.now n) }
+{
     let mut numbers = BTreeSet::new(alloc);
     for rec in cell.vc.as_slice() {
-        if let Rec::V(node) = rec {
-            numbers.insert(node.name.id)?;
-        }
+        add_number(&mut numbers, rec)?;
     }
     Ok(numbers)
 }
@@ -72,18 +96,21 @@ fn edges_in_order(alloc: Global, cell: &Cell) -> Result<Vec<&Vector>, AllocError
 /// How many ends have a topology indicator.
 fn count_topi(ends: &[End], topi: u8) -> usize
     ensures within { result ≤ length ends.now }
+    ensures count { result ≡ count_by (λ end. end.topi == topi) ends.now }
 {
     ends.iter().filter(|end| end.topi == topi).count()
 }
 
 /// Whether a name is that of a connected node.
-fn is_node(nodes: &BTreeSet<u32>, name: RecName) -> bool {
+fn is_node(nodes: &BTreeSet<u32>, name: RecName) -> bool
+    ensures { result ≡ names_node nodes.now name }
+{
     name.kind == Kind::Vc && nodes.contains(&name.id)
 }
 
 /// A finding about an edge.
 fn edge_finding(edge: RecName, kind: u8, nums: [u32; 4]) -> SubjectFinding
-    ensures { result.finding.kind ≡ kind }
+    ensures { result ≡ with_subject (SubjectRec edge) (record { kind = kind; nums = nums }) }
 {
     SubjectFinding {
         subject: Subject::Rec(edge),
@@ -95,7 +122,8 @@ fn edge_finding(edge: RecName, kind: u8, nums: [u32; 4]) -> SubjectFinding
 fn push_end_count(findings: &mut Vec<SubjectFinding>, edge: &Vector) -> Result<(), AllocError>
     requires few { length edge.now.ends < 2 ^ 32 }
     requires known { All HasKnownKind findings.old.items }
-    ensures { All HasKnownKind findings.new.items }
+    ensures known { All HasKnownKind findings.new.items }
+    ensures rows { (c : SpecCell) → OnOk result (findings.new.items ≡ findings.old.items ++ edge_rows 2 edge.now (end_count c edge.now)) }
 {
     let ends = edge.ends.as_slice();
     let begins = count_topi(ends, 1) as u32;
@@ -115,7 +143,8 @@ fn push_dangling_ends(
 ) -> Result<(), AllocError>
     requires few { length edge.now.ends < 2 ^ 32 }
     requires known { All HasKnownKind findings.old.items }
-    ensures { All HasKnownKind findings.new.items }
+    ensures known { All HasKnownKind findings.new.items }
+    ensures rows { OnOk result (findings.new.items ≡ findings.old.items ++ dangling_rows (names_node nodes.now) edge.now 1 edge.now.ends) }
 {
     for (k, end) in edge.ends.as_slice().iter().enumerate() {
         if !is_node(nodes, end.to) {
@@ -132,7 +161,8 @@ fn push_edge(
     edge: &Vector,
 ) -> Result<(), AllocError>
     requires known { All HasKnownKind findings.old.items }
-    ensures { All HasKnownKind findings.new.items }
+    ensures known { All HasKnownKind findings.new.items }
+    ensures rows { (c : SpecCell) → OnOk result (findings.new.items ≡ findings.old.items ++ edge_findings c (names_node nodes.now) edge.now) }
 {
     // No file within its limit has so many ends.
     if edge.ends.len() > u32::MAX as usize {
@@ -142,9 +172,13 @@ fn push_edge(
     push_dangling_ends(findings, nodes, edge)
 }
 
-/// The findings of a cell, ascending by edge, kind and numbers.
+/// The findings of a minimal cell of the kinds that are built, ascending by edge, kind and numbers.
+///
+/// An `Err` is want of memory.
 pub fn find_all(alloc: Global, cell: &Cell) -> Result<Vec<SubjectFinding>, AllocError>
+    requires minimal { IsMinimalCell cell.now }
     ensures known { IfOk result (λ findings. All HasKnownKind findings.items) }
+    ensures all { IfOk result (λ findings. findings.items ≡ findings_of_rows (all_findings built_kinds cell.now)) }
 {
     let nodes = node_numbers(alloc, cell)?;
     let edges = edges_in_order(alloc, cell)?;

@@ -1,11 +1,10 @@
 //! The program as one call.
 
-ghost use Rattle.std.specs.Prelude.{◌≡◌, ◌↔◌, ◌∷◌, [], codes, map, string_bytes, true, false, None, Some, List, IfOk, IfErr};
+ghost use Rattle.std.specs.Prelude.{◌≡◌, ◌↔◌, ◌∷◌, [], codes, map, string_bytes, true, false, None, Some, IfOk, IfErr};
 ghost use Rattle.file_spec.specs.MinimalFile.{minimal_cell};
-ghost use Rattle.cell_spec.specs.declared.finding.Finding.{Finding as SpecFinding};
-ghost use Rattle.cell_spec.specs.declared.key.Subject.{Subject as SpecSubject};
 ghost use Rattle.s57_types.specs.declared.cell.Cell.{Cell as SpecCell};
-ghost use Rattle.text_spec.specs.CellText.{text_with};
+ghost use Rattle.rule_spec.specs.Kinds.{built_kinds};
+ghost use Rattle.text_spec.specs.CellText.{cell_text as cell_text_lem};
 ghost use Rattle.cell_read.specs.declared.refusal.MinimalRefusal.TheVariants.{NotMinimal};
 ghost use Rattle.enc_top.specs.Refused.{IsRefusal};
 ghost use Rattle.enc_top.specs.Outcome.{outside, has_form, IsCause, IsExact};
@@ -123,7 +122,7 @@ fn check<H: Shelf, O: Sink>(alloc: Global, name: &str, shelf: &mut H, out: &mut 
 
 /// The text of the cell of a minimal file.
 fn checked_text(alloc: Global, bytes: &[u8]) -> Result<Vec<u8>, MinimalRefusal>
-    ensures ok { IfOk result (λ text. (cell : SpecCell) × (minimal_cell bytes.now ≡ Some cell) × ((rows : List (SpecSubject × List SpecFinding)) × (text.items ≡ text_with cell rows))) }
+    ensures ok { IfOk result (λ text. (cell : SpecCell) × (minimal_cell bytes.now ≡ Some cell) × (text.items ≡ cell_text_lem built_kinds cell)) }
     ensures err { IfErr result (λ e. e ≡ NotMinimal → minimal_cell bytes.now ≡ None) }
 {
     let cell = match read_minimal_cell(alloc, bytes) {

@@ -56,8 +56,8 @@ fn next_number(seed: u64) -> u64 {
 
 /// A key below twice the number of rows: the even ones are there.
 fn random_key(seed: u64, size: u32) -> u32 {
-    let keys = u64::from(size) * 2 + 2;
-    ((seed >> 20) % keys) as u32
+    let keys = size.saturating_mul(2).saturating_add(2);
+    ((seed >> 20) % u64::from(keys)) as u32
 }
 
 /// Rows with the even keys from 0, each with its place as its value.
