@@ -240,3 +240,23 @@ fn one_byte_at_a_time_gives_the_same(rt: HostRuntime) -> Result<(), Fail> {
     assert_eq!(rt; out.inner.bytes(), REPORT);
     Ok(())
 }
+
+#[test]
+fn a_failed_write_leaves_a_beginning(rt: HostRuntime) -> Result<(), Fail> {
+    let alloc = rt.alloc();
+    let mut shelf = shelf_of(alloc, &minimal_file(alloc)?)?;
+    let mut out = SlowSink {
+        inner: MemSink::make(alloc),
+    };
+    out.inner.fail_at(3);
+    let status = run_plain(
+        &rt,
+        alloc,
+        &words(alloc, "check CELL")?,
+        &mut shelf,
+        &mut out,
+    );
+    assert_eq!(rt; status.number(), 7);
+    assert_eq!(rt; out.inner.bytes(), b"ce");
+    Ok(())
+}
