@@ -257,6 +257,6 @@ fn a_failed_write_leaves_a_beginning(rt: HostRuntime) -> Result<(), Fail> {
         &mut out,
     );
     assert_eq!(rt; status.number(), 7);
-    assert_eq!(rt; out.inner.bytes(), b"ce");
+    assert_eq!(rt; out.inner.bytes(), b"ce".as_slice());
     Ok(())
 }

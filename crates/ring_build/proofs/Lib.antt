@@ -1,0 +1,3 @@
+pub mod Cutting
+pub mod FrontLoop
+pub mod TurnSteps

@@ -1,0 +1,13 @@
+//! The closed loops that an area's boundary is made of, and the way that a loop turns.
+#![tactic(auto)]
+
+mod partition;
+mod ring;
+mod turn;
+
+pub use partition::cut;
+pub use ring::{Block, Blocks, RingCut};
+pub use turn::turn_of;
+
+#[cfg(test)]
+mod tests;
