@@ -1,7 +1,12 @@
 //! How a call ends.
 
+ghost use Rattle.std.specs.Prelude.{◌≡◌, ◌++◌, ◌∷◌, [], OnOk};
+ghost use Rattle.text_spec.specs.Lines.{line as line_lem};
+ghost use Rattle.enc_top.specs.StatusText.{status_line, status_number};
+
 use s57_types::{CellFault, Text};
 use std::alloc::{AllocError, Global};
+use text_lines::{push_numbered, push_text};
 
 /// How a call of the program ended.
 #[derive(Debug, Drop)]
@@ -36,7 +41,9 @@ pub enum Status {
 
 impl Status {
     /// The number of the status, which is the program's exit status.
-    pub fn number(&self) -> u8 {
+    pub fn number(&self) -> u8
+        ensures { result ≡ status_number self.now }
+    {
         match self {
             Status::Done => 0,
             Status::Usage => 2,
@@ -55,38 +62,75 @@ impl Status {
     }
 }
 
-/// Appends the line of a status, or nothing where all is done.
-pub fn print_status(alloc: Global, status: &Status, out: &mut Vec<u8>) -> Result<(), AllocError> {
-    let text = match status {
-        Status::Done => String::new(alloc),
-        Status::Usage => format!(in alloc; "enc_cell: usage\n")?,
-        Status::BadCell(fault) => {
-            let (number, offset, code) = (fault.number, fault.offset, fault.code);
-            format!(in alloc; "enc_cell: bad cell record {number} offset {offset} code {code}\n")?
-        }
-        Status::BadScript(session, line, code) => {
-            format!(in alloc; "enc_cell: bad script session {session} line {line} code {code}\n")?
-        }
-        Status::WriteFault => format!(in alloc; "enc_cell: write fault\n")?,
-        Status::NoMemory => format!(in alloc; "enc_cell: no memory\n")?,
-        Status::BadOrder(place) => format!(in alloc; "enc_cell: bad order place {place}\n")?,
-        Status::Stuck(desk, serial) => {
-            format!(in alloc; "enc_cell: stuck desk {desk} serial {serial}\n")?
-        }
-        Status::TooManyFindings => format!(in alloc; "enc_cell: too many findings\n")?,
-        Status::NotYet => format!(in alloc; "enc_cell: not yet\n")?,
-        Status::Absent(name) => return push_named(out, "enc_cell: absent ", name),
-        Status::ReadFault(name) => return push_named(out, "enc_cell: read fault ", name),
-        Status::TooLarge(name) => return push_named(out, "enc_cell: too large ", name),
-    };
-    out.extend_from_slice(text.as_bytes())?;
-    Ok(())
+/// Appends the line of a status, with its line feed, or nothing where all is done.
+pub fn print_status(_alloc: Global, status: &Status, out: &mut Vec<u8>) -> Result<(), AllocError>
+    ensures { OnOk result (out.new.items ≡ out.old.items ++ status_line status.now) }
+{
+    match status {
+        Status::Done => Ok(()),
+        Status::Usage => push_text(out, "enc_cell: usage\n"),
+        Status::Absent(name) => push_named(out, "enc_cell: absent", name),
+        Status::BadCell(fault) => push_bad_cell(out, *fault),
+        Status::BadScript(session, line, code) => push_bad_script(out, *session, *line, *code),
+        Status::ReadFault(name) => push_named(out, "enc_cell: read fault", name),
+        Status::WriteFault => push_text(out, "enc_cell: write fault\n"),
+        Status::TooLarge(name) => push_named(out, "enc_cell: too large", name),
+        Status::NoMemory => push_text(out, "enc_cell: no memory\n"),
+        Status::BadOrder(place) => push_bad_order(out, *place),
+        Status::Stuck(desk, serial) => push_stuck(out, *desk, *serial),
+        Status::TooManyFindings => push_text(out, "enc_cell: too many findings\n"),
+        Status::NotYet => push_text(out, "enc_cell: not yet\n"),
+    }
 }
 
 /// Appends a line that ends with a file's name.
-fn push_named(out: &mut Vec<u8>, text: &str, name: &Text) -> Result<(), AllocError> {
-    out.extend_from_slice(text.as_bytes())?;
+fn push_named(out: &mut Vec<u8>, text: &str, name: &Text) -> Result<(), AllocError>
+    ensures { OnOk result (out.new.items ≡ out.old.items ++ line_lem text.now (name.now ∷ [])) }
+{
+    push_text(out, text)?;
+    out.push(b' ')?;
     out.extend_from_slice(name.as_slice())?;
     out.push(b'\n')?;
     Ok(())
+}
+
+/// Appends the line of a bad cell.
+fn push_bad_cell(out: &mut Vec<u8>, fault: CellFault) -> Result<(), AllocError>
+    ensures { OnOk result (out.new.items ≡ out.old.items ++ status_line (Status.BadCell fault)) }
+{
+    push_text(out, "enc_cell: bad cell")?;
+    push_numbered(out, "record", fault.number)?;
+    push_numbered(out, "offset", fault.offset)?;
+    push_numbered(out, "code", u32::from(fault.code))?;
+    push_text(out, "\n")
+}
+
+/// Appends the line of a bad script.
+fn push_bad_script(out: &mut Vec<u8>, session: u32, line: u32, code: u8) -> Result<(), AllocError>
+    ensures { OnOk result (out.new.items ≡ out.old.items ++ status_line (Status.BadScript session line code)) }
+{
+    push_text(out, "enc_cell: bad script")?;
+    push_numbered(out, "session", session)?;
+    push_numbered(out, "line", line)?;
+    push_numbered(out, "code", u32::from(code))?;
+    push_text(out, "\n")
+}
+
+/// Appends the line of a bad order.
+fn push_bad_order(out: &mut Vec<u8>, place: u32) -> Result<(), AllocError>
+    ensures { OnOk result (out.new.items ≡ out.old.items ++ status_line (Status.BadOrder place)) }
+{
+    push_text(out, "enc_cell: bad order")?;
+    push_numbered(out, "place", place)?;
+    push_text(out, "\n")
+}
+
+/// Appends the line of a rendezvous that gave up.
+fn push_stuck(out: &mut Vec<u8>, desk: u32, serial: u32) -> Result<(), AllocError>
+    ensures { OnOk result (out.new.items ≡ out.old.items ++ status_line (Status.Stuck desk serial)) }
+{
+    push_text(out, "enc_cell: stuck")?;
+    push_numbered(out, "desk", desk)?;
+    push_numbered(out, "serial", serial)?;
+    push_text(out, "\n")
 }

@@ -4,53 +4,17 @@ ghost use Rattle.std.specs.Prelude.{◌≡◌, ◌++◌, ◌∷◌, [], All, Lis
 ghost use Rattle.std.specs.List.{flat_map};
 ghost use Rattle.cell_spec.specs.declared.finding.Finding.{Finding as SpecFinding};
 ghost use Rattle.cell_spec.specs.declared.key.Subject.{Subject as SpecSubject};
-ghost use Rattle.text_spec.specs.Lines.{spaced, spaced_words};
-ghost use Rattle.text_spec.specs.CellText.{kind_word, name_words, subject_word, subject_words, count_line, total_line, text_with};
+ghost use Rattle.text_spec.specs.Lines.{spaced_words};
+ghost use Rattle.text_spec.specs.CellText.{subject_word, subject_words, count_line, total_line, text_with};
 ghost use Rattle.enc_top.specs.Rows.{findings_of_rows, line_of, HasKnownKind};
 
 use crate::findings::SubjectFinding;
 use cell_spec::Subject;
 use itoa::Buffer;
 use rule_spec::{kind_name, number_count};
-use s57_types::{Cell, Kind, Lnam, RecName};
+use s57_types::{Cell, Lnam};
 use std::alloc::{AllocError, Global};
-
-/// The word of a kind of record.
-fn word_of(kind: Kind) -> &'static str
-    ensures { result.now ≡ kind_word kind }
-{
-    match kind {
-        Kind::Vi => "vi",
-        Kind::Vc => "vc",
-        Kind::Ve => "ve",
-        Kind::Fe => "fe",
-    }
-}
-
-/// Appends a word behind a space.
-fn push_word(out: &mut Vec<u8>, word: &str) -> Result<(), AllocError>
-    ensures { OnOk result (out.new.items ≡ out.old.items ++ spaced word.now) }
-{
-    out.push(b' ')?;
-    out.extend_from_slice(word.as_bytes())?;
-    Ok(())
-}
-
-/// Appends a number behind a space.
-fn push_number(out: &mut Vec<u8>, number: u32) -> Result<(), AllocError>
-    ensures { OnOk result (out.new.items ≡ out.old.items ++ spaced (decimal number)) }
-{
-    let mut buffer = Buffer::new();
-    push_word(out, buffer.format(number))
-}
-
-/// Appends the words of a record's name.
-fn push_name(out: &mut Vec<u8>, name: RecName) -> Result<(), AllocError>
-    ensures { OnOk result (out.new.items ≡ out.old.items ++ spaced_words (name_words name)) }
-{
-    push_word(out, word_of(name.kind))?;
-    push_number(out, name.id)
-}
+use text_lines::{push_name, push_number, push_text, push_word};
 
 /// Appends the words of a feature object identifier.
 fn push_identity(out: &mut Vec<u8>, lnam: Lnam) -> Result<(), AllocError>
@@ -59,14 +23,6 @@ fn push_identity(out: &mut Vec<u8>, lnam: Lnam) -> Result<(), AllocError>
     push_number(out, u32::from(lnam.agen))?;
     push_number(out, lnam.fidn)?;
     push_number(out, u32::from(lnam.fids))
-}
-
-/// Appends a text as it is.
-fn push_text(out: &mut Vec<u8>, text: &str) -> Result<(), AllocError>
-    ensures { OnOk result (out.new.items ≡ out.old.items ++ text.now) }
-{
-    out.extend_from_slice(text.as_bytes())?;
-    Ok(())
 }
 
 /// Appends a subject.

@@ -7,8 +7,8 @@ use Rattle.cell_spec.specs.Edits.{apply_edits, is_applicable, touched_keys}
 use Rattle.cell_spec.specs.Lookup.{name_of}
 use Rattle.rule_spec.specs.Affected.{change_by, affected_list, lookup_budget}
 use Rattle.rule_spec.specs.Reads.{read_set}
-use Rattle.plain_findings.specs.Parts.{vc, ve, fe, lnam, at, node, edge}
-use Rattle.plain_findings.specs.Samples.{grid, closed_edge, used_by_line, self_named, node_on_line}
+use Rattle.sample_cells.specs.Parts.{vc, ve, fe, lnam, at, node, edge}
+use Rattle.sample_cells.specs.Samples.{grid, closed_edge, used_by_line, self_named, node_on_line}
 
 -- a new node goes last, a replaced one keeps its place, and the list closes up where one is deleted
 abbrev pub EditsKeepPlaces : Type 0

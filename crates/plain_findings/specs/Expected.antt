@@ -7,8 +7,8 @@ use Rattle.cell_spec.specs.declared.key.Subject.{Subject}
 use Rattle.cell_spec.specs.declared.key.Subject.TheVariants.{Rec, Side, Pair, Ident}
 use Rattle.rule_spec.specs.Findings.{all_findings, finding, finding_total}
 use Rattle.rule_spec.specs.Kinds.{all_kinds}
-use Rattle.plain_findings.specs.Parts.{vi, vc, ve, fe, lnam, at, node, outer, inner, feature, depth_area, square}
-use Rattle.plain_findings.specs.Samples.{empty_cell, grid, grid_after, dangling, closed_edge, used_by_line, stacked_edge, diagonals, node_on_line, touching_edges, overlapping_edges, self_named, knotted_edges, misshapen, nodes_at_one_place, two_squares, ring_area, eight, faulty_features, truncated_square}
+use Rattle.sample_cells.specs.Parts.{vi, vc, ve, fe, lnam, at, node, outer, inner, feature, depth_area, square}
+use Rattle.sample_cells.specs.Samples.{empty_cell, grid, grid_after, dangling, closed_edge, used_by_line, stacked_edge, diagonals, node_on_line, touching_edges, overlapping_edges, self_named, knotted_edges, misshapen, nodes_at_one_place, two_squares, ring_area, eight, faulty_features, truncated_square}
 use Rattle.cell_spec.specs.Edits.{apply_edits}
 
 -- a subject with its findings

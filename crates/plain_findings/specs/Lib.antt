@@ -1,5 +1,3 @@
 pub mod Changes
 pub mod Expected
-pub mod Parts
-pub mod Samples
 pub mod Tables

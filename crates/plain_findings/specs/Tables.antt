@@ -9,8 +9,8 @@ use Rattle.geometry_spec.specs.Tiles.{is_oversized}
 use Rattle.rule_spec.specs.Candidates.{are_candidates, candidates_of}
 use Rattle.rule_spec.specs.Features.{has_its_codes, is_coverage_area}
 use Rattle.rule_spec.specs.Loops.{Arc, loop_lengths, first_open_place}
-use Rattle.plain_findings.specs.Parts.{vc, ve, lnam, fe, at, node, spot, catcov}
-use Rattle.plain_findings.specs.Samples.{cell, diagonals, grid}
+use Rattle.sample_cells.specs.Parts.{vc, ve, lnam, fe, at, node, spot, catcov}
+use Rattle.sample_cells.specs.Samples.{cell, diagonals, grid}
 
 -- the orientation, usage and mask of a spatial pointer
 abbrev pub codes_of : Spot → ℕ × ℕ × ℕ

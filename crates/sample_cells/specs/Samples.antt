@@ -6,7 +6,7 @@ use Rattle.s57_types.specs.declared.record.Spot.{Spot}
 use Rattle.cell_spec.specs.declared.edit.Edit.{Edit}
 use Rattle.cell_spec.specs.declared.edit.Edit.TheVariants.{Add}
 use Rattle.cell_spec.specs.Edits.{apply_edits}
-use Rattle.plain_findings.specs.Parts.{head, vi, vc, ve, at, node, edge, end_of, vector, spot, outer, feature, depth_area, coverage_area, partnered, named_alike, square}
+use Rattle.sample_cells.specs.Parts.{head, vi, vc, ve, at, node, edge, end_of, vector, spot, outer, feature, depth_area, coverage_area, partnered, named_alike, square}
 
 abbrev pub cell : List Rec → List Rec → List Rec → Cell
 cell nodes edges features = record { head = head; vi = []; vc = nodes; ve = edges; fe = features }

@@ -1,0 +1,128 @@
+-- One step of the editing history of a cell: a view, a commit with a fault of form, or a commit. This project's own rules.
+use Rattle.std.specs.Prelude.{ℕ, zero, suc, ◌+◌, ◌==◌, Bool, nat_lt, List, [], ◌∷◌, ◌++◌, length, map, take, drop, filter, filter_map, find, fold, is_some, Option, None, Some, if◌then◌else◌}
+use Rattle.std.specs.List.{list_any, enumerate_from}
+use Rattle.std.specs.Option.{option_map, option_map_or, option_and_then}
+use Rattle.s57_types.specs.declared.name.RecName.{RecName}
+use Rattle.s57_types.specs.declared.cell.Cell.{Cell}
+use Rattle.cell_spec.specs.Ascending.{ascending}
+use Rattle.cell_spec.specs.Edits.{name_of_edit, apply_edits}
+use Rattle.cell_spec.specs.Lookup.{all_records, name_of, lookup_record}
+use Rattle.cell_spec.specs.Names.{name_order, same_name}
+use Rattle.cell_spec.specs.declared.edit.Edit.{Edit}
+use Rattle.cell_spec.specs.declared.edit.Edit.TheVariants.{Add, Set, Del}
+use Rattle.rule_spec.specs.Findings.{finding_total}
+use Rattle.edit_sets.specs.declared.fault.FormFault.{FormFault}
+use Rattle.history_spec.specs.declared.refusal.StateRefusal.{StateRefusal}
+use Rattle.history_spec.specs.declared.refusal.StateRefusal.TheVariants.{AddExists, SetMissing, DelMissing, CellFull, FindingsFull}
+use Rattle.history_spec.specs.declared.reply.Reply.{Reply}
+use Rattle.history_spec.specs.declared.reply.Reply.TheVariants.{Viewed, Formed, Newer, Refused, Accepted}
+
+-- how many records and findings a cell may have
+abbrev pub record_limit : ℕ
+record_limit = 262144
+
+abbrev pub finding_limit : ℕ
+finding_limit = 262144
+
+-- an accepted commit: the desk that made it, and its edits
+pub record AcceptedCommit : Type 0 where
+  pub desk : ℕ
+  pub edits : List Edit
+
+-- the state: the cell, the accepted commits, which count from 1, and the base of each desk: the number of the accepted commit at which the
+-- desk's copy of the cell stands
+pub record History : Type 0 where
+  pub cell : Cell
+  pub commits : List AcceptedCommit
+  pub bases : ℕ → ℕ
+
+-- at first there is no commit
+abbrev pub opening : Cell → History
+opening c = record { cell = c; commits = []; bases = λ desk. 0 }
+
+-- what a desk may ask: to see the newest state, or to commit edits on a base; a draft with a fault of form is told with its fault
+pub data Event : Type 0 where
+  view : Event
+  faulty : FormFault → Event
+  commit : ℕ → List Edit → Event
+
+-- the first of a list
+abbrev pub first_of : {X : Type 0} → List X → Option X
+first_of [] = None
+first_of (x ∷ xs) = Some x
+
+-- the names that both of two lists of edits have
+abbrev pub shared_names : List Edit → List Edit → List RecName
+shared_names edits others = filter (λ n. list_any (λ other. same_name n (name_of_edit other)) others) (map name_of_edit edits)
+
+abbrev pub edit_named : RecName → List Edit → Option Edit
+edit_named n = find (λ edit. same_name n (name_of_edit edit))
+
+-- the answer where an accepted commit names a record that the edits name: the least such name in it, and its edit of that name
+abbrev pub clash_with : List Edit → ℕ × AcceptedCommit → Option Reply
+clash_with edits (number, accepted) =
+    option_and_then (λ n. option_map (Newer number n accepted.desk) (edit_named n accepted.edits)) (first_of (ascending name_order (shared_names edits accepted.edits)))
+
+-- the answer where a commit above the base does: the one with the least number
+abbrev pub newer_answer : List AcceptedCommit → ℕ → List Edit → Option Reply
+newer_answer commits base edits = first_of (filter_map (clash_with edits) (drop base (enumerate_from 1 commits)))
+
+-- why a cell doesn't take an edit
+abbrev pub edit_refusal : Cell → Edit → Option StateRefusal
+edit_refusal c (Add r) = if is_some (lookup_record c (name_of r)) then Some (AddExists (name_of r)) else None
+edit_refusal c (Set r) = if is_some (lookup_record c (name_of r)) then None else Some (SetMissing (name_of r))
+edit_refusal c (Del n) = if is_some (lookup_record c n) then None else Some (DelMissing n)
+
+-- why the cell that edits would leave is too large
+abbrev pub size_refusal : List ℕ → Cell → Option StateRefusal
+size_refusal asked edited =
+    if nat_lt record_limit (length (all_records edited)) then Some (CellFull (length (all_records edited))) else
+    (if nat_lt finding_limit (finding_total asked edited) then Some FindingsFull else None)
+
+-- why a cell doesn't take edits: the first edit that it doesn't take, then the size of the edited cell
+abbrev pub state_refusal : List ℕ → Cell → List Edit → Option StateRefusal
+state_refusal asked c edits = option_map_or Some (first_of (filter_map (edit_refusal c) edits)) (size_refusal asked (apply_edits edits c))
+
+-- the answer to a commit: a newer commit goes before a refusal of the cell
+abbrev pub commit_answer : List ℕ → History → ℕ → List Edit → Reply
+commit_answer asked h base edits = option_map_or (λ reply. reply) (newer_answer h.commits base edits)
+    (option_map_or Refused (state_refusal asked h.cell edits) (Accepted (length h.commits + 1) (finding_total asked (apply_edits edits h.cell))))
+
+-- the answer to what a desk asks; findings are of the kinds asked for
+abbrev pub answer : List ℕ → History → Event → Reply
+answer asked h view = Viewed (length h.commits) (finding_total asked h.cell)
+answer asked h (faulty fault) = Formed fault
+answer asked h (commit base edits) = commit_answer asked h base edits
+
+-- the base of one desk is now another
+abbrev pub with_base : ℕ → ℕ → (ℕ → ℕ) → ℕ → ℕ
+with_base desk base bases other = if other == desk then base else bases other
+
+-- what an accepted commit leaves
+abbrev pub with_commit : ℕ → List Edit → History → History
+with_commit desk edits h = record {
+  cell = apply_edits edits h.cell;
+  commits = h.commits ++ (record { desk = desk; edits = edits } ∷ []);
+  bases = with_base desk (length h.commits + 1) h.bases;
+}
+
+abbrev pub edits_asked : Event → List Edit
+edits_asked view = []
+edits_asked (faulty fault) = []
+edits_asked (commit base edits) = edits
+
+-- what an answer leaves: only an accepted commit changes the cell, and a view moves the desk's base
+abbrev pub left_after : ℕ → Event → Reply → History → History
+left_after desk event (Viewed number findings) h = record h { bases = with_base desk number h.bases }
+left_after desk event (Formed fault) h = h
+left_after desk event (Newer number name other edit) h = h
+left_after desk event (Refused refusal) h = h
+left_after desk event (Accepted number findings) h = with_commit desk (edits_asked event) h
+
+-- one step: the answer, and the state after it
+abbrev pub step : List ℕ → History → ℕ → Event → Reply × History
+step asked h desk event = (answer asked h event, left_after desk event (answer asked h event) h)
+
+-- a cell after some of the accepted commits
+abbrev pub cell_after : ℕ → List AcceptedCommit → Cell → Cell
+cell_after n commits c = fold (λ d (accepted : AcceptedCommit). apply_edits accepted.edits d) c (take n commits)

@@ -1,0 +1,8 @@
+//! The editing history of a cell and its report, as definitions, with the answers that they speak of.
+#![tactic(auto)]
+
+mod refusal;
+mod reply;
+
+pub use refusal::StateRefusal;
+pub use reply::{Brief, Reply};

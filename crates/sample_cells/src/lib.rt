@@ -1,0 +1,2 @@
+//! Small cells, as definitions, on which other crates evaluate theirs.
+#![tactic(auto)]

@@ -1,0 +1,100 @@
+//! The line of an edit.
+
+ghost use Rattle.std.specs.Prelude.{◌≡◌, ◌++◌, ◌∷◌, [], codes, decimal, map, true, OnOk};
+ghost use Rattle.text_spec.specs.CellText.{name_words};
+ghost use Rattle.text_spec.specs.EditLine.{attribute_item, edit_line, feature_words, has_line, partner_item, place_item, record_words, vector_words};
+ghost use Rattle.text_spec.specs.Lines.{spaced, spaced_words};
+
+use crate::item::{push_attributes, push_deep, push_ends, push_partners, push_places, push_plane};
+use crate::words::{push_name, push_number, push_text};
+use cell_spec::Edit;
+use s57_types::{Feature, Lnam, Rec, Vector};
+use std::alloc::{AllocError, Global};
+
+/// Appends the line of an edit. The record has a name of its own sort.
+///
+/// An `Err` is want of memory.
+pub fn write_edit(_alloc: Global, edit: &Edit, out: &mut Vec<u8>) -> Result<(), AllocError>
+    requires { has_line edit.now ≡ true }
+    ensures { OnOk result (out.new.items ≡ out.old.items ++ edit_line edit.now) }
+{
+    match edit {
+        Edit::Add(rec) => {
+            push_text(out, "add")?;
+            push_record(out, rec)?;
+        }
+        Edit::Set(rec) => {
+            push_text(out, "set")?;
+            push_record(out, rec)?;
+        }
+        Edit::Del(name) => {
+            push_text(out, "del")?;
+            push_name(out, *name)?;
+        }
+    }
+    push_text(out, "\n")
+}
+
+/// Appends the words of a record.
+fn push_record(out: &mut Vec<u8>, rec: &Rec) -> Result<(), AllocError>
+    ensures { OnOk result (out.new.items ≡ out.old.items ++ spaced_words (record_words rec.now)) }
+{
+    match rec {
+        Rec::V(vector) => push_vector(out, vector),
+        Rec::F(feature) => push_feature(out, feature),
+    }
+}
+
+/// Appends the words of a vector record.
+fn push_vector(out: &mut Vec<u8>, vector: &Vector) -> Result<(), AllocError>
+    ensures { OnOk result (out.new.items ≡ out.old.items ++ spaced_words (vector_words vector.now)) }
+{
+    push_name(out, vector.name)?;
+    push_number(out, u32::from(vector.rver))?;
+    push_attributes(out, "a", vector.attrs.as_slice())?;
+    push_ends(out, vector.ends.as_slice())?;
+    push_plane(out, vector.plane.as_slice())?;
+    push_deep(out, vector.deep.as_slice())
+}
+
+/// Appends the words of a feature record before its items.
+fn push_feature_head(out: &mut Vec<u8>, feature: &Feature) -> Result<(), AllocError>
+    ensures { OnOk result (out.new.items ≡ out.old.items ++ spaced_words (name_words feature.now.name
+        ++ (decimal feature.now.rver ∷ decimal feature.now.prim ∷ decimal feature.now.grup ∷ decimal feature.now.objl ∷ []))) }
+{
+    push_name(out, feature.name)?;
+    push_number(out, u32::from(feature.rver))?;
+    push_number(out, u32::from(feature.prim))?;
+    push_number(out, u32::from(feature.grup))?;
+    push_number(out, u32::from(feature.objl))
+}
+
+/// Appends a feature object identifier.
+fn push_identity(out: &mut Vec<u8>, foid: Lnam) -> Result<(), AllocError>
+    ensures { OnOk result (out.new.items ≡ out.old.items ++ spaced_words (decimal foid.agen ∷ decimal foid.fidn ∷ decimal foid.fids ∷ [])) }
+{
+    push_number(out, u32::from(foid.agen))?;
+    push_number(out, foid.fidn)?;
+    push_number(out, u32::from(foid.fids))
+}
+
+/// Appends the items of a feature record.
+fn push_feature_items(out: &mut Vec<u8>, feature: &Feature) -> Result<(), AllocError>
+    ensures { OnOk result (out.new.items ≡ out.old.items ++ spaced_words (
+        map (attribute_item (codes "a")) feature.now.attf ++ map (attribute_item (codes "n")) feature.now.natf
+        ++ map partner_item feature.now.partners ++ map place_item feature.now.places)) }
+{
+    push_attributes(out, "a", feature.attf.as_slice())?;
+    push_attributes(out, "n", feature.natf.as_slice())?;
+    push_partners(out, feature.partners.as_slice())?;
+    push_places(out, feature.places.as_slice())
+}
+
+/// Appends the words of a feature record.
+fn push_feature(out: &mut Vec<u8>, feature: &Feature) -> Result<(), AllocError>
+    ensures { OnOk result (out.new.items ≡ out.old.items ++ spaced_words (feature_words feature.now)) }
+{
+    push_feature_head(out, feature)?;
+    push_identity(out, feature.foid)?;
+    push_feature_items(out, feature)
+}

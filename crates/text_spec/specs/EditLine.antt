@@ -1,0 +1,119 @@
+-- The line of a record edit in a script and in a report. This project's own text.
+use Rattle.std.specs.Prelude.{ℕ, ℤ, ◌+◌, ◌/◌, ◌%◌, ◌==◌, ◌&&◌, Bool, true, false, not, nat_le, nat_lt, List, [], ◌∷◌, ◌++◌, length, map, codes, if◌then◌else◌}
+use Rattle.std.specs.Fmt.{decimal, signed_decimal}
+use Rattle.std.specs.List.{flat_map}
+use Rattle.s57_types.specs.declared.name.Kind.{Kind}
+use Rattle.s57_types.specs.declared.name.Kind.TheVariants.{Vi, Vc, Ve, Fe}
+use Rattle.s57_types.specs.declared.name.RecName.{RecName}
+use Rattle.s57_types.specs.declared.name.Lnam.{Lnam}
+use Rattle.s57_types.specs.declared.record.Attr.{Attr}
+use Rattle.s57_types.specs.declared.record.End.{End}
+use Rattle.s57_types.specs.declared.record.Spot.{Spot}
+use Rattle.s57_types.specs.declared.record.Partner.{Partner}
+use Rattle.s57_types.specs.declared.record.Vector.{Vector}
+use Rattle.s57_types.specs.declared.record.Feature.{Feature}
+use Rattle.s57_types.specs.declared.record.Rec.{Rec}
+use Rattle.s57_types.specs.declared.record.Rec.TheVariants.{V, F}
+use Rattle.cell_spec.specs.declared.edit.Edit.{Edit}
+use Rattle.cell_spec.specs.declared.edit.Edit.TheVariants.{Add, Set, Del}
+use Rattle.text_spec.specs.Lines.{line}
+use Rattle.text_spec.specs.CellText.{kind_word, name_words}
+
+-- a byte that stands for itself in a text: printing ASCII, neither a space nor the percent sign
+abbrev pub stands_for_itself : ℕ → Bool
+stands_for_itself b = nat_le 33 b && nat_le b 126 && not (b == 37)
+
+-- an upper-case hexadecimal digit
+abbrev pub hexadecimal : ℕ → ℕ
+hexadecimal digit = if nat_lt digit 10 then 48 + digit else 55 + digit
+
+-- another byte is a percent sign and its two digits
+abbrev pub text_byte : ℕ → List ℕ
+text_byte b = if stands_for_itself b then b ∷ [] else 37 ∷ hexadecimal (b / 16) ∷ hexadecimal (b % 16) ∷ []
+
+abbrev pub text_word : List ℕ → List ℕ
+text_word = flat_map text_byte
+
+-- parts with a mark between them
+abbrev pub parted : ℕ → List ℕ → List (List ℕ) → List ℕ
+parted mark first others = first ++ flat_map (λ part. mark ∷ part) others
+
+-- an item: a letter, an equals sign, and parts
+abbrev pub item : List ℕ → ℕ → List ℕ → List (List ℕ) → List ℕ
+item letter mark first others = letter ++ (61 ∷ parted mark first others)
+
+-- attributes: ATTL and the value ATVL
+abbrev pub attribute_item : List ℕ → Attr → List ℕ
+attribute_item letter a = item letter 58 (decimal a.code) (text_word a.value ∷ [])
+
+-- pointers of a vector record: the name, ORNT, USAG, TOPI and MASK
+abbrev pub end_item : End → List ℕ
+end_item e = item (codes "e") 58 (kind_word e.to.kind) (decimal e.to.id ∷ decimal e.ornt ∷ decimal e.usag ∷ decimal e.topi ∷ decimal e.mask ∷ [])
+
+-- 2-D coordinates, latitude first
+abbrev pub plane_item : ℤ × ℤ → List ℕ
+plane_item p = item (codes "p") 44 (signed_decimal p.0) (signed_decimal p.1 ∷ [])
+
+-- soundings: latitude, longitude, depth
+abbrev pub deep_item : ℤ × ℤ × ℤ → List ℕ
+deep_item p = item (codes "d") 44 (signed_decimal p.0) (signed_decimal p.1 ∷ signed_decimal p.2 ∷ [])
+
+-- pointers to features: LNAM, RIND and the comment
+abbrev pub partner_item : Partner → List ℕ
+partner_item p = item (codes "f") 58 (decimal p.to.agen) (decimal p.to.fidn ∷ decimal p.to.fids ∷ decimal p.rind ∷ text_word p.comt ∷ [])
+
+-- pointers of a feature to vector records: the name, ORNT, USAG and MASK
+abbrev pub place_item : Spot → List ℕ
+place_item s = item (codes "s") 58 (kind_word s.to.kind) (decimal s.to.id ∷ decimal s.ornt ∷ decimal s.usag ∷ decimal s.mask ∷ [])
+
+-- a vector record: its name, its version, then its items
+abbrev pub vector_words : Vector → List (List ℕ)
+vector_words v = name_words v.name ++ (decimal v.rver ∷ []) ++ map (attribute_item (codes "a")) v.attrs ++ map end_item v.ends ++ map plane_item v.plane ++ map deep_item v.deep
+
+-- a feature record: its name, RVER, PRIM, GRUP, OBJL and FOID, then its items
+abbrev pub feature_words : Feature → List (List ℕ)
+feature_words f = name_words f.name
+    ++ (decimal f.rver ∷ decimal f.prim ∷ decimal f.grup ∷ decimal f.objl ∷ decimal f.foid.agen ∷ decimal f.foid.fidn ∷ decimal f.foid.fids ∷ [])
+    ++ map (attribute_item (codes "a")) f.attf ++ map (attribute_item (codes "n")) f.natf ++ map partner_item f.partners ++ map place_item f.places
+
+abbrev pub record_words : Rec → List (List ℕ)
+record_words (V v) = vector_words v
+record_words (F f) = feature_words f
+
+-- an edit: what it does, and its record or its name
+abbrev pub edit_line : Edit → List ℕ
+edit_line (Add r) = line (codes "add") (record_words r)
+edit_line (Set r) = line (codes "set") (record_words r)
+edit_line (Del n) = line (codes "del") (name_words n)
+
+-- an edit has a line where its record is of the sort that its kind says
+abbrev pub is_feature : Kind → Bool
+is_feature Vi = false
+is_feature Vc = false
+is_feature Ve = false
+is_feature Fe = true
+
+abbrev pub record_has_line : Rec → Bool
+record_has_line (V v) = not (is_feature v.name.kind)
+record_has_line (F f) = is_feature f.name.kind
+
+abbrev pub has_line : Edit → Bool
+has_line (Add r) = record_has_line r
+has_line (Set r) = record_has_line r
+has_line (Del n) = true
+
+-- minimal edits are of connected nodes and edges without attributes and soundings
+abbrev pub is_node_or_edge : Kind → Bool
+is_node_or_edge Vi = false
+is_node_or_edge Vc = true
+is_node_or_edge Ve = true
+is_node_or_edge Fe = false
+
+abbrev pub is_minimal_record : Rec → Bool
+is_minimal_record (V v) = is_node_or_edge v.name.kind && (length v.attrs == 0) && (length v.deep == 0)
+is_minimal_record (F f) = false
+
+abbrev pub is_minimal_edit : Edit → Bool
+is_minimal_edit (Add r) = is_minimal_record r
+is_minimal_edit (Set r) = is_minimal_record r
+is_minimal_edit (Del n) = is_node_or_edge n.kind
