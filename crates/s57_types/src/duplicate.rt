@@ -25,12 +25,7 @@ impl<T: Copy> Duplicate for T {
 
 impl<T: Duplicate + Drop> Duplicate for Items<T> {
     fn copy(&self, alloc: Global) -> Result<Items<T>, AllocError> {
-        let from = self.as_slice();
-        let mut items = Vec::with_capacity(alloc, from.len())?;
-        for item in from {
-            items.push(item.copy(alloc)?)?;
-        }
-        Ok(Items::of_vec(items))
+        Items::copy_of(alloc, self.as_slice())
     }
 }
 
