@@ -9,3 +9,6 @@ mod text;
 
 pub use fit::fits;
 pub use head::head_fits;
+
+#[cfg(test)]
+mod tests;
