@@ -8,3 +8,6 @@ mod form;
 pub use cell_spec::Edit;
 pub use edit_set::EditSet;
 pub use fault::{FormFault, FormRefusal};
+
+#[cfg(test)]
+mod tests;
