@@ -1,6 +1,11 @@
 //! A record edit.
 
-use s57_types::{Rec, RecName};
+ghost use Rattle.std.specs.Prelude.{◌≡◌};
+ghost use Rattle.std.specs.Option.{option_copied};
+ghost use Rattle.cell_spec.specs.Lookup.{name_of as name_of_record};
+
+use s57_types::{Duplicate, Rec, RecName};
+use std::alloc::{AllocError, Global};
 
 /// One edit of a cell: a new record, a record in place of the one that has its name, or the end of a record.
 #[derive(Debug, Drop)]
@@ -8,4 +13,47 @@ pub enum Edit {
     Add(Rec),
     Set(Rec),
     Del(RecName),
+}
+
+impl Edit {
+    ghost use Rattle.cell_spec.specs.Edits.{name_of_edit, left_by};
+
+    /// The name of the record that the edit is about.
+    pub fn name(&self) -> RecName
+        ensures { result ≡ name_of_edit self.now }
+    {
+        match self {
+            Edit::Add(rec) | Edit::Set(rec) => name_of(rec),
+            Edit::Del(name) => *name,
+        }
+    }
+
+    /// The record that the edit leaves under its name. A deletion leaves none.
+    pub fn record(&self) -> Option<&Rec>
+        ensures { option_copied result ≡ left_by self.now }
+    {
+        match self {
+            Edit::Add(rec) | Edit::Set(rec) => Some(rec),
+            Edit::Del(_) => None,
+        }
+    }
+}
+
+fn name_of(rec: &Rec) -> RecName
+    ensures { result ≡ name_of_record rec.now }
+{
+    match rec {
+        Rec::V(vector) => vector.name,
+        Rec::F(feature) => feature.name,
+    }
+}
+
+impl Duplicate for Edit {
+    fn copy(&self, alloc: Global) -> Result<Edit, AllocError> {
+        Ok(match self {
+            Edit::Add(rec) => Edit::Add(rec.copy(alloc)?),
+            Edit::Set(rec) => Edit::Set(rec.copy(alloc)?),
+            Edit::Del(name) => Edit::Del(*name),
+        })
+    }
 }

@@ -1,7 +1,7 @@
 -- The fields of a cell: for each tag the forms of its subfields, and the subfields of a value (S-57 Part 3, 7.3, 7.6 and
 -- 7.7). The record name is RCNM; it isn't kept where the field fixes it.
 use Rattle.std.specs.Prelude.{ℕ, List, [], ◌∷◌, ◌++◌, map, ◌==◌, if◌then◌else◌}
-use Rattle.s57_types.specs.Subfield.{Form, Subfield, unsigned, signed, text, wide_text, fixed, b11, b12, b14, unsigned_of, signed_of, text_of, wide_text_of, fixed_of}
+use Rattle.s57_types.specs.Subfield.{Form, Subfield, signed, text, wide_text, fixed, b11, b12, b14, unsigned_of, signed_of, text_of, wide_text_of, fixed_of}
 use Rattle.s57_types.specs.declared.name.Kind.{Kind}
 use Rattle.s57_types.specs.declared.name.Kind.TheVariants.{Vi, Vc, Ve, Fe}
 use Rattle.s57_types.specs.declared.name.RecName.{RecName}

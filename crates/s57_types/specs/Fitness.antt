@@ -1,13 +1,12 @@
 -- Which records and heads can be written, and why not.
-use Rattle.std.specs.Prelude.{◌≡◌, ℕ, ◌==◌, ◌&&◌, ◌||◌, Bool, true, false, not, nat_le, nat_lt, List, [], ◌∷◌, ◌++◌, map, Option, Some, None, if◌then◌else◌}
-use Rattle.std.specs.List.{list_all, list_any, flat_map}
+use Rattle.std.specs.Prelude.{ℕ, ◌&&◌, Bool, true, false, not, nat_le, nat_lt, List, [], ◌∷◌, ◌++◌, Option, Some, None, if◌then◌else◌}
+use Rattle.std.specs.List.{list_all, flat_map}
 use Rattle.frame_spec.specs.WrittenRecord.{record_length, field_lengths}
 use Rattle.s57_types.specs.Subfield.{Subfield, is_plain}
 use Rattle.s57_types.specs.FieldRows.{dsid_row, dspm_row, attribute_row, partner_row}
 use Rattle.s57_types.specs.RecordFields.{written_length, length_limit, identification_fields, parameter_fields, dsid_of_head, dspm_of_head}
 use Rattle.s57_types.specs.declared.name.Kind.{Kind}
 use Rattle.s57_types.specs.declared.name.Kind.TheVariants.{Vi, Vc, Ve, Fe}
-use Rattle.s57_types.specs.declared.name.RecName.{RecName}
 use Rattle.s57_types.specs.declared.record.Attr.{Attr}
 use Rattle.s57_types.specs.declared.record.Rec.{Rec}
 use Rattle.s57_types.specs.declared.record.Rec.TheVariants.{V, F}

@@ -1,6 +1,6 @@
 -- The fields that a record is written with, in the order of S-57 Part 3, 7.3, 7.6 and 7.7. A field of rows that has none
 -- is left out.
-use Rattle.std.specs.Prelude.{ℕ, ◌+◌, ◌*◌, ◌==◌, ◌&&◌, Bool, nat_le, nat_lt, List, [], ◌∷◌, ◌++◌, length, map, count_by, codes, if◌then◌else◌, cond}
+use Rattle.std.specs.Prelude.{ℕ, ◌==◌, List, [], ◌∷◌, ◌++◌, codes, if◌then◌else◌}
 use Rattle.std.specs.List.{flat_map}
 use Rattle.frame_spec.specs.RecordFrame.{Field}
 use Rattle.frame_spec.specs.WrittenRecord.{record_length, field_lengths}
@@ -11,13 +11,9 @@ use Rattle.s57_types.specs.declared.record.Vector.{Vector}
 use Rattle.s57_types.specs.declared.record.Feature.{Feature}
 use Rattle.s57_types.specs.declared.record.Rec.{Rec}
 use Rattle.s57_types.specs.declared.record.Rec.TheVariants.{V, F}
-use Rattle.s57_types.specs.declared.name.RecName.{RecName}
-use Rattle.s57_types.specs.declared.name.Kind.{Kind}
 use Rattle.s57_types.specs.declared.field.Dsid.{Dsid}
 use Rattle.s57_types.specs.declared.field.Dssi.{Dssi}
 use Rattle.s57_types.specs.declared.field.Dspm.{Dspm}
-use Rattle.s57_types.specs.declared.field.Frid.{Frid}
-use Rattle.s57_types.specs.declared.field.Vrid.{Vrid}
 
 -- the field terminator, of two bytes behind two-byte texts
 abbrev pub terminator_of : ℕ → List ℕ

@@ -1,7 +1,8 @@
 //! The small lists that records are made of.
 
-ghost use Rattle.std.specs.Prelude.{◌≡◌, ◌<◌, ◌++◌, ◌==◌, [], ◌∷◌, length, slice_get, Some, OnOk, OnErr};
+ghost use Rattle.std.specs.Prelude.{◌≡◌, ◌<◌, ◌++◌, ◌==◌, [], ◌∷◌, length, slice_get, Some, OnOk, OnErr, IfOk};
 
+use crate::duplicate::Duplicate;
 use crate::record::{Attr, End, Partner, Rec, Spot};
 use std::alloc::{AllocError, Global};
 use std::marker::Model;
@@ -35,6 +36,21 @@ impl<T> Items<T> {
         ensures { result ≡ items.items }
     {
         Items { items }
+    }
+
+    /// A list of copies of these items.
+    ///
+    /// An `Err` is want of memory.
+    pub fn copy_of(alloc: Global, items: &[T]) -> Result<Items<T>, AllocError>
+    where
+        T: Duplicate + Drop,
+        ensures { IfOk result (λ list. list ≡ items.now) }
+    {
+        let mut copies = Vec::with_capacity(alloc, items.len())?;
+        for item in items {
+            copies.push(item.copy(alloc)?)?;
+        }
+        Ok(Items { items: copies })
     }
 
     /// The items. It takes no memory.

@@ -2,6 +2,7 @@
 #![tactic(auto)]
 
 mod cell;
+mod duplicate;
 mod fault;
 mod field;
 mod head;
@@ -10,6 +11,7 @@ mod name;
 mod record;
 
 pub use cell::Cell;
+pub use duplicate::Duplicate;
 pub use fault::{CellFault, Unfit};
 pub use field::{Dsid, Dspm, Dssi, Frid, Vrid};
 pub use head::Head;

@@ -33,3 +33,34 @@ fn names_are_ordered_by_kind_then_number(rt: HostRuntime) {
         }
     }
 }
+
+#[test]
+fn a_copy_is_equal_and_apart(rt: HostRuntime) -> Result<(), Fail> {
+    let alloc = rt.alloc();
+    let value = Text::of_vec(b"12".to_vec(alloc)?);
+    let mut attrs = Attrs::make(alloc);
+    attrs.push(Attr { code: 87, value })?;
+    let node = Rec::V(Vector {
+        name: RecName {
+            kind: Kind::Vi,
+            id: 7,
+        },
+        rver: 1,
+        attrs,
+        ends: Ends::make(alloc),
+        plane: Plane::make(alloc),
+        deep: Deep::make(alloc),
+    });
+    let mut vi = Recs::make(alloc);
+    vi.push(node)?;
+    let twin = vi.copy(alloc)?;
+    drop(vi);
+    assert_eq!(rt; twin.len(), 1);
+    let Rec::V(vector) = twin.at(0) else {
+        return Err(Fail::from("a feature"));
+    };
+    assert_eq!(rt; vector.name.id, 7);
+    assert_eq!(rt; vector.attrs.len(), 1);
+    assert_eq!(rt; vector.attrs.at(0).value.as_slice(), b"12".as_slice());
+    Ok(())
+}

@@ -1,0 +1,68 @@
+-- Whether a record is within the limit, from what the program counts.
+use Rattle.std.proofs.Common.{◌≡◌, ℕ, zero, suc, ◌+◌, ◌-◌, ◌*◌, ◌^◌, ◌<◌, ◌≤◌, ◌==◌, ◌⊎◌, Bool, false, not, List, [], ◌∷◌, length, take, map, fold, sum, max, refl, sym, ◌∙◌, ap, inl, inr, arith, leb}
+use Rattle.std.proofs.lemmas.List.{length-take}
+use Rattle.std.proofs.lemmas.List.Sums.{sum_by-cons, sum_by-take-le, length-filter, count_by-le-length}
+use Rattle.std.proofs.lemmas.Bool.Decides.{nat_tests}
+use Rattle.std.proofs.lemmas.Bool.{cases_lt}
+use Rattle.frame_spec.specs.WrittenRecord.{digit_count}
+use Rattle.s57_types.specs.RecordFields.{length_limit}
+use Rattle.record_fit.proofs.PresentFields.{present-some}
+use Rattle.record_fit.specs.Lengths.{saturated, present, is_within_limit, IsSizesOf}
+use Rattle.record_fit.specs.declared.length.Sizes.{Sizes}
+
+sum-present-cons : (n : ℕ) (ns : List ℕ) → sum (present (n ∷ ns)) ≡ n + sum (present ns)
+sum-present-cons zero ns = omega arith
+sum-present-cons (suc n) ns = ap sum (present-some (suc n) ns (omega arith)) ∙ sum_by-cons (λ m. m) (suc n) (present ns)
+
+-- fields of more bytes than a record may have
+pub too_long : (ns : List ℕ) → length_limit < sum (present ns) → is_within_limit ns ≡ false
+too_long ns h = grind (arith, nat_tests)
+
+record IsBoth (ns : List ℕ) : Type 0 where
+  long : length_limit < sum (present ns)
+  counted_long : length_limit < sum (present (map saturated ns))
+
+same_or_long : (ns : List ℕ) → (map saturated ns ≡ ns) ⊎ IsBoth ns
+same_or_long [] = inl refl
+same_or_long (n ∷ ns) = elim (cases_lt (2 ^ 64 - 1) n) [
+  | inl large ↦ inr (record {
+    long = omega (arith, sum-present-cons n ns);
+    counted_long = omega (arith, sum-present-cons (saturated n) (map saturated ns));
+  })
+  | inr small ↦ elim (same_or_long ns) [
+    | inl same ↦ let head : saturated n ≡ n = omega arith in inl (cc)
+    | inr both ↦ inr (record {
+      long = omega (arith, sum-present-cons n ns, both.long);
+      counted_long = omega (arith, sum-present-cons (saturated n) (map saturated ns), both.counted_long);
+    })
+  ]
+]
+
+-- counting in machine words decides the same
+pub within_limit-saturated : (ns : List ℕ) → is_within_limit (map saturated ns) ≡ is_within_limit ns
+within_limit-saturated ns = elim (same_or_long ns) [ inl same ↦ ap is_within_limit same | inr both ↦ too_long (map saturated ns) both.counted_long ∙ sym (too_long ns both.long) ]
+
+pub present_count_le : (ns : List ℕ) → length (present ns) ≤ length ns
+present_count_le ns = omega (arith, length-filter (λ n. not (n == 0)) ns, count_by-le-length (λ n. not (n == 0)) ns)
+
+decide : ℕ → ℕ → ℕ → ℕ → Bool
+decide count longest last_begins total = leb (25 + count * (4 + digit_count longest + digit_count last_begins) + total) length_limit
+
+decide_same : (c d l m b e t u : ℕ) → c ≡ d → l ≡ m → b ≡ e → t ≡ u → decide c l b t ≡ decide d m e u
+decide_same c d l m b e t u p q r s = cc
+
+-- the sizes decide, where the fields alone don't
+pub sizes_decide : (lengths : List ℕ) (sizes : Sizes) → IsSizesOf lengths sizes → sizes.total ≤ length_limit
+    → leb (25 + sizes.count * (4 + digit_count sizes.longest + digit_count sizes.last_begins) + sizes.total) length_limit ≡ is_within_limit lengths
+unfolding decide
+sizes_decide lengths sizes is small =
+    let fields = present lengths in
+    decide_same sizes.count (length fields) sizes.longest (fold max 0 fields) sizes.last_begins (sum (take (length fields - 1) fields)) sizes.total (sum fields)
+    is.count is.longest (omega (arith, is.total, is.last_begins, sum_by-take-le (λ n. n) fields (length fields - 1))) (omega (arith, is.total))
+
+pub sizes_too_long : (lengths : List ℕ) (sizes : Sizes) → IsSizesOf lengths sizes → length_limit < sizes.total → is_within_limit lengths ≡ false
+sizes_too_long lengths sizes is long = too_long lengths (omega (arith, is.total))
+
+-- there are at most as many fields as lengths
+pub count_within : (lengths : List ℕ) (i : ℕ) (sizes : Sizes) → IsSizesOf (take i lengths) sizes → sizes.count ≤ length lengths
+count_within lengths i sizes is = omega (arith, is.count, present_count_le (take i lengths), length-take i lengths)

@@ -1,0 +1,6 @@
+use Rattle.std.proofs.Common.{◌∙◌}
+use Rattle.record_fit.proofs.HeadLengths.{parameters_are_short}
+use Rattle.record_fit.proofs.head.are_parameters_short.Goals as goal
+
+pub returns : goal.returns
+returns c = c.is_within_limit.ensures ∙ parameters_are_short c.args.head.now c.parameters_length.result c.parameters_length.ensures

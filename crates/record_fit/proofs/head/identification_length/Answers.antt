@@ -1,0 +1,6 @@
+use Rattle.std.proofs.Common.{arith}
+use Rattle.record_fit.proofs.HeadLengths.{dsid_length}
+use Rattle.record_fit.proofs.head.identification_length.Goals as goal
+
+pub returns : goal.returns
+returns c = omega (arith, dsid_length c.args.head.now)

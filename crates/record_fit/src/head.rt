@@ -1,0 +1,108 @@
+//! Whether a head can be written.
+
+ghost use Rattle.std.specs.Prelude.{◌≡◌, ◌+◌, ◌&&◌, ◌∷◌, [], nat_le, length};
+ghost use Rattle.std.specs.List.{list_all};
+ghost use Rattle.frame_spec.specs.WrittenRecord.{record_length, field_lengths};
+ghost use Rattle.s57_types.specs.Subfield.{is_plain, text_of, fixed_of, row_bytes};
+ghost use Rattle.s57_types.specs.FieldRows.{dsid_row, dspm_row};
+ghost use Rattle.s57_types.specs.RecordFields.{dsid_of_head, dspm_of_head, identification_fields, parameter_fields, length_limit};
+ghost use Rattle.s57_types.specs.Fitness.{is_fit_head};
+ghost use Rattle.record_fit.specs.Lengths.{saturated};
+
+use crate::length::{NUMBER_FIELD, is_within_limit};
+use crate::text::is_text_plain;
+use s57_types::Head;
+
+/// Whether the two head records can be written: the lexical levels AALL and NALL are in range (S-57 Part 3, 2.4), no
+/// text holds a control byte of the format, and neither record has more than 99,999 bytes.
+#[tactic(auto, unfolding(s57_types::specs::Fitness::is_fit_head))]
+pub fn head_fits(head: &Head) -> bool
+    ensures { result ≡ is_fit_head head.now }
+{
+    head.aall <= 1
+        && head.nall <= 2
+        && are_identification_texts_plain(head)
+        && is_text_plain(head.dspm_comt.as_slice())
+        && is_identification_short(head)
+        && are_parameters_short(head)
+}
+
+fn are_identification_texts_plain(head: &Head) -> bool
+    ensures { result ≡ list_all is_plain (dsid_row (dsid_of_head head.now)) }
+{
+    are_number_texts_plain(head) && are_date_texts_plain(head) && are_description_texts_plain(head)
+}
+
+fn are_number_texts_plain(head: &Head) -> bool
+    ensures { result ≡ (is_plain (text_of head.now.dsnm) && is_plain (text_of head.now.edtn) && is_plain (text_of head.now.updn)) }
+{
+    is_text_plain(head.dsnm.as_slice())
+        && is_text_plain(head.edtn.as_slice())
+        && is_text_plain(head.updn.as_slice())
+}
+
+fn are_date_texts_plain(head: &Head) -> bool
+    ensures { result ≡ (is_plain (fixed_of head.now.uadt) && is_plain (fixed_of head.now.isdt) && is_plain (fixed_of head.now.sted)) }
+{
+    is_text_plain(&head.uadt) && is_text_plain(&head.isdt) && is_text_plain(&head.sted)
+}
+
+fn are_description_texts_plain(head: &Head) -> bool
+    ensures { result ≡ (is_plain (text_of head.now.psdn) && is_plain (text_of head.now.pred) && is_plain (text_of head.now.dsid_comt)) }
+{
+    is_text_plain(head.psdn.as_slice())
+        && is_text_plain(head.pred.as_slice())
+        && is_text_plain(head.dsid_comt.as_slice())
+}
+
+fn is_identification_short(head: &Head) -> bool
+    ensures { result ≡ nat_le (record_length (field_lengths (identification_fields 0 head.now (0 ∷ 0 ∷ 0 ∷ 0 ∷ 0 ∷ 0 ∷ 0 ∷ 0 ∷ [])))) length_limit }
+{
+    let structure = 36; // DSSI
+    is_within_limit(&[NUMBER_FIELD, identification_length(head), structure])
+}
+
+fn are_parameters_short(head: &Head) -> bool
+    ensures { result ≡ nat_le (record_length (field_lengths (parameter_fields 0 head.now))) length_limit }
+{
+    is_within_limit(&[NUMBER_FIELD, parameters_length(head)])
+}
+
+/// The length of the field DSID.
+fn identification_length(head: &Head) -> usize
+    ensures { result ≡ saturated (length (row_bytes (dsid_row (dsid_of_head head.now))) + 1) }
+{
+    let numbered = texts_length(head.dsnm.len(), head.edtn.len(), head.updn.len());
+    let described = texts_length(head.psdn.len(), head.pred.len(), head.dsid_comt.len());
+    let dated = fixed_texts_length(&head.uadt, &head.isdt, &head.sted);
+    numbered
+        .saturating_add(described)
+        .saturating_add(dated)
+        .saturating_add(12)
+}
+
+/// The length of three texts with their terminators.
+fn texts_length(first: usize, second: usize, third: usize) -> usize
+    ensures { result ≡ saturated (first + second + third + 3) }
+{
+    first
+        .saturating_add(second)
+        .saturating_add(third)
+        .saturating_add(3)
+}
+
+fn fixed_texts_length(first: &[u8], second: &[u8], third: &[u8]) -> usize
+    ensures { result ≡ saturated (length first.now + length second.now + length third.now) }
+{
+    first
+        .len()
+        .saturating_add(second.len())
+        .saturating_add(third.len())
+}
+
+/// The length of the field DSPM.
+fn parameters_length(head: &Head) -> usize
+    ensures { result ≡ saturated (length (row_bytes (dspm_row (dspm_of_head head.now))) + 1) }
+{
+    head.dspm_comt.len().saturating_add(26)
+}
