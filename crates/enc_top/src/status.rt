@@ -1,6 +1,6 @@
 //! How a call ends.
 
-ghost use Rattle.std.specs.Prelude.{◌≡◌, ◌++◌, ◌∷◌, [], OnOk};
+ghost use Rattle.std.specs.Prelude.{◌≡◌, ◌++◌, ◌∷◌, [], OnOk, decimal};
 ghost use Rattle.text_spec.specs.Lines.{line as line_lem};
 ghost use Rattle.enc_top.specs.StatusText.{status_line, status_number};
 
@@ -94,43 +94,94 @@ fn push_named(out: &mut Vec<u8>, text: &str, name: &Text) -> Result<(), AllocErr
     Ok(())
 }
 
+/// A word and its number.
+#[derive(Clone, Copy)]
+struct Part {
+    word: &'static str,
+    number: u32,
+}
+
+/// A word with its number.
+fn numbered(word: &'static str, number: u32) -> Part
+    ensures word { result.word.now ≡ word.now }
+    ensures number { result.number ≡ number }
+{
+    Part { word, number }
+}
+
+/// Appends a line of a text and one number.
+fn push_one(out: &mut Vec<u8>, text: &str, first: &Part) -> Result<(), AllocError>
+    ensures { OnOk result (out.new.items ≡ out.old.items ++ line_lem text.now (first.now.word.now ∷ decimal first.now.number ∷ [])) }
+{
+    push_text(out, text)?;
+    push_numbered(out, first.word, first.number)?;
+    push_text(out, "\n")
+}
+
+/// Appends a line of a text and two numbers.
+fn push_two(out: &mut Vec<u8>, text: &str, first: &Part, second: &Part) -> Result<(), AllocError>
+    ensures { OnOk result (out.new.items ≡ out.old.items ++ line_lem text.now
+        (first.now.word.now ∷ decimal first.now.number ∷ second.now.word.now ∷ decimal second.now.number ∷ [])) }
+{
+    push_text(out, text)?;
+    push_numbered(out, first.word, first.number)?;
+    push_numbered(out, second.word, second.number)?;
+    push_text(out, "\n")
+}
+
+/// Appends a line of a text and three numbers.
+fn push_three(
+    out: &mut Vec<u8>,
+    text: &str,
+    first: &Part,
+    second: &Part,
+    third: &Part,
+) -> Result<(), AllocError>
+    ensures { OnOk result (out.new.items ≡ out.old.items ++ line_lem text.now
+        (first.now.word.now ∷ decimal first.now.number ∷ second.now.word.now ∷ decimal second.now.number ∷ third.now.word.now ∷ decimal third.now.number ∷ [])) }
+{
+    push_text(out, text)?;
+    push_numbered(out, first.word, first.number)?;
+    push_numbered(out, second.word, second.number)?;
+    push_numbered(out, third.word, third.number)?;
+    push_text(out, "\n")
+}
+
 /// Appends the line of a bad cell.
 fn push_bad_cell(out: &mut Vec<u8>, fault: CellFault) -> Result<(), AllocError>
     ensures { OnOk result (out.new.items ≡ out.old.items ++ status_line (Status.BadCell fault)) }
 {
-    push_text(out, "enc_cell: bad cell")?;
-    push_numbered(out, "record", fault.number)?;
-    push_numbered(out, "offset", fault.offset)?;
-    push_numbered(out, "code", u32::from(fault.code))?;
-    push_text(out, "\n")
+    let record = numbered("record", fault.number);
+    let offset = numbered("offset", fault.offset);
+    let code = numbered("code", u32::from(fault.code));
+    push_three(out, "enc_cell: bad cell", &record, &offset, &code)
 }
 
 /// Appends the line of a bad script.
 fn push_bad_script(out: &mut Vec<u8>, session: u32, line: u32, code: u8) -> Result<(), AllocError>
     ensures { OnOk result (out.new.items ≡ out.old.items ++ status_line (Status.BadScript session line code)) }
 {
-    push_text(out, "enc_cell: bad script")?;
-    push_numbered(out, "session", session)?;
-    push_numbered(out, "line", line)?;
-    push_numbered(out, "code", u32::from(code))?;
-    push_text(out, "\n")
+    let session = numbered("session", session);
+    let line = numbered("line", line);
+    let code = numbered("code", u32::from(code));
+    push_three(out, "enc_cell: bad script", &session, &line, &code)
 }
 
 /// Appends the line of a bad order.
 fn push_bad_order(out: &mut Vec<u8>, place: u32) -> Result<(), AllocError>
     ensures { OnOk result (out.new.items ≡ out.old.items ++ status_line (Status.BadOrder place)) }
 {
-    push_text(out, "enc_cell: bad order")?;
-    push_numbered(out, "place", place)?;
-    push_text(out, "\n")
+    push_one(out, "enc_cell: bad order", &numbered("place", place))
 }
 
 /// Appends the line of a rendezvous that gave up.
 fn push_stuck(out: &mut Vec<u8>, desk: u32, serial: u32) -> Result<(), AllocError>
     ensures { OnOk result (out.new.items ≡ out.old.items ++ status_line (Status.Stuck desk serial)) }
 {
-    push_text(out, "enc_cell: stuck")?;
-    push_numbered(out, "desk", desk)?;
-    push_numbered(out, "serial", serial)?;
-    push_text(out, "\n")
+    push_two(
+        out,
+        "enc_cell: stuck",
+        &numbered("desk", desk),
+        &numbered("serial", serial),
+    )
 }

@@ -1,7 +1,7 @@
 -- The order line of a report: of which session each shared command was. This project's own text.
-use Rattle.std.specs.Prelude.{◌≡◌, ℕ, ◌<◌, ◌≤◌, ◌+◌, ◌-◌, ◌==◌, ◌&&◌, ◌||◌, Bool, true, false, not, nat_eq, nat_le, nat_lt, List, [], ◌∷◌, map, length, take, drop, find, sum, codes, count_by, slice_index, slice_index_or, All, Option, None, Some, Result, Ok, Err, if◌then◌else◌}
+use Rattle.std.specs.Prelude.{◌≡◌, ℕ, ◌<◌, ◌≤◌, ◌+◌, ◌-◌, ◌==◌, ◌&&◌, Bool, true, nat_eq, nat_le, List, [], ◌∷◌, map, length, take, drop, find, codes, count_by, slice_index, slice_index_or, All, Option, None, Some, Result, Ok, Err, if◌then◌else◌}
 use Rattle.std.specs.Fmt.{decimal}
-use Rattle.std.specs.List.{range_with_len, filter_map}
+use Rattle.std.specs.List.{range_with_len, filter_map, list_all, position_or_len}
 use Rattle.std.specs.Option.{option_map_or}
 use Rattle.std.specs.Cmp.Lexicographic.{pointwise}
 use Rattle.text_spec.specs.Lines.{line}
@@ -30,11 +30,10 @@ pieces (c ∷ text) = if c == 32 then [] ∷ pieces text else with_byte c (piece
 
 -- the bytes before the first line feed, or all, and those from it on
 abbrev pub before_feed : List ℕ → List ℕ
-before_feed [] = []
-before_feed (c ∷ text) = if c == 10 then [] else c ∷ before_feed text
+before_feed text = take (position_or_len (λ c. c == 10) text) text
 
 abbrev pub from_feed : List ℕ → List ℕ
-from_feed text = drop (length (before_feed text)) text
+from_feed text = drop (position_or_len (λ c. c == 10) text) text
 
 -- the items behind `order`: the first directly follows it
 abbrev pub items_among : List (List ℕ) → List (List ℕ)
@@ -63,10 +62,17 @@ first_bad_item quotas items = find (is_bad_item quotas items) (range_with_len 1 
 abbrev pub ends_well : List ℕ → List (List ℕ) → Bool
 ends_well behind items = pointwise nat_eq (10 ∷ []) (if length items == 0 then behind else from_feed behind)
 
+-- whether sessions have used all shared commands
+abbrev pub are_all_used : List ℕ → List ℕ → Bool
+are_all_used quotas sessions = list_all (λ i. nat_le (quota_of quotas i) (count_by (λ other. other == i) sessions)) (range_with_len 1 (length quotas))
+
+-- the order of these sessions, or the place behind its end
+abbrev pub ended_order : List ℕ → List ℕ → List (List ℕ) → List ℕ → Result (List ℕ) ℕ
+ended_order quotas behind items sessions = if are_all_used quotas sessions && ends_well behind items then Ok sessions else Err (length items + 1)
+
 -- the order that the items are, or their first bad place
 abbrev pub order_among : List ℕ → List ℕ → List (List ℕ) → Result (List ℕ) ℕ
-order_among quotas behind items = option_map_or Err (first_bad_item quotas items)
-    (if nat_lt (length items) (sum quotas) || not (ends_well behind items) then Err (length items + 1) else Ok (filter_map (session_of quotas) items))
+order_among quotas behind items = option_map_or Err (first_bad_item quotas items) (ended_order quotas behind items (filter_map (session_of quotas) items))
 
 -- the order that a text is, or its first bad place: 0 where it doesn't begin with `order`
 unfoldable pub order_of : List ℕ → List ℕ → Result (List ℕ) ℕ

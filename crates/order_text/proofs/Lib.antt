@@ -1,0 +1,4 @@
+mod Pieces
+mod Ranges
+mod SessionNames
+mod Judged
