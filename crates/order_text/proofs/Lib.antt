@@ -2,3 +2,4 @@ mod Pieces
 mod Ranges
 mod SessionNames
 mod Judged
+mod Whole

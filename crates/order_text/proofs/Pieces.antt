@@ -1,5 +1,6 @@
 -- A text cut at its first space.
-use Rattle.std.proofs.Common.{◌≡◌, ◌<◌, ◌≤◌, ◌+◌, ◌==◌, ℕ, suc, Bool, true, false, List, [], ◌∷◌, length, take, drop, arith, refl, sym, Option, Some, None, cond, nat_lt}
+use Rattle.std.proofs.Common.{◌≡◌, ◌<◌, ◌≤◌, ◌+◌, ◌==◌, ℕ, suc, Bool, true, false, List, [], ◌∷◌, length, take, drop, arith, refl, Some, None, cond, nat_lt, ◌++◌, map, ap, Bor}
+use Rattle.std.proofs.lemmas.List.{length-map, length-append}
 use Rattle.std.proofs.lemmas.Bool.{ltb-false}
 use Rattle.std.specs.List.{position, position_or_len}
 use Rattle.text_spec.specs.OrderLine.{pieces, with_byte}
@@ -48,16 +49,51 @@ missed_in false n e = refl
 pub position-found : (p : ℕ → Bool) (text : List ℕ) (i : ℕ) → Some i ≡ position p text → i ≡ position_or_len p text
 position-found p text i e = found_in (nat_lt (position_or_len p text) (length text)) (position_or_len p text) i e
 
+le_step : (p : ℕ → Bool) (c : ℕ) (text : List ℕ) (b : Bool) → p c ≡ b → position_or_len p text ≤ length text → position_or_len p (c ∷ text) ≤ length (c ∷ text)
+le_step p c text true is inner = rw is (omega arith)
+le_step p c text false is inner = rw is (omega (arith, inner))
+
 position_le : (p : ℕ → Bool) (text : List ℕ) → position_or_len p text ≤ length text
 position_le p [] = omega arith
-position_le p (c ∷ text) = by_test (p c) refl
-  where
-    by_test : (b : Bool) → p c ≡ b → position_or_len p (c ∷ text) ≤ length (c ∷ text)
-    by_test true is = rw is (omega arith)
-    by_test false is = let inner = position_le p text in rw is (omega (arith, inner))
+position_le p (c ∷ text) = le_step p c text (p c) refl (position_le p text)
 
 pub position-missed : (p : ℕ → Bool) (text : List ℕ) → None ≡ position p text → length text ≡ position_or_len p text
 position-missed p text e =
     let above = ltb-false (position_or_len p text) (length text) (missed_in (nat_lt (position_or_len p text) (length text)) (position_or_len p text) e) in
     let below = position_le p text in
     omega (arith, above, below)
+
+length-with_byte : (c : ℕ) (ps : List (List ℕ)) (n : ℕ) → length ps ≤ n + 1 → length (with_byte c ps) ≤ n + 1
+length-with_byte c [] n few = omega arith
+length-with_byte c (p ∷ ps) n few = omega (arith, few)
+
+some_step : (c : ℕ) (text : List ℕ) (b : Bool) → (c == 32) ≡ b → 0 < length (pieces (c ∷ text))
+some_step c text true is = rw is (omega arith)
+some_step c text false is = rw is (some_with c (pieces text))
+  where
+    some_with : (d : ℕ) (ps : List (List ℕ)) → 0 < length (with_byte d ps)
+    some_with d [] = omega arith
+    some_with d (p ∷ ps) = omega arith
+
+-- and at least one
+pub pieces-some : (text : List ℕ) → 0 < length (pieces text)
+pieces-some [] = omega arith
+pieces-some (c ∷ text) = some_step c text (c == 32) refl
+
+few_step : (c : ℕ) (text : List ℕ) (b : Bool) → (c == 32) ≡ b → length (pieces text) ≤ length text + 1 → length (pieces (c ∷ text)) ≤ length (c ∷ text) + 1
+few_step c text true is inner = rw is (omega (arith, inner))
+few_step c text false is inner = let same = length-with_byte c (pieces text) (length text) inner in rw is (omega (arith, same))
+
+-- there is at most one piece more than bytes
+pub pieces-few : (text : List ℕ) → length (pieces text) ≤ length text + 1
+pieces-few [] = omega arith
+pieces-few (c ∷ text) = few_step c text (c == 32) refl (pieces-few text)
+
+-- pieces that were found, with those behind them
+pub few_found : (found : List (Bor (List ℕ))) (more : List (List ℕ)) (text : List ℕ) → map (λ piece. piece.now) found ++ more ≡ pieces text → length found ≤ length text + 1
+few_found found more text are =
+    let all = ap length are in
+    let parts : length (map (λ (piece : Bor (List ℕ)). piece.now) found ++ more) ≡ length (map (λ (piece : Bor (List ℕ)). piece.now) found) + length more = length-append (map (λ (piece : Bor (List ℕ)). piece.now) found) more in
+    let same : length (map (λ (piece : Bor (List ℕ)). piece.now) found) ≡ length found = length-map found (λ piece. piece.now) in
+    let few = pieces-few text in
+    omega (arith, all, parts, same, few)

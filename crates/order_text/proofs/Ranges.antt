@@ -1,5 +1,5 @@
 -- The first number of a range that passes a test.
-use Rattle.std.proofs.Common.{◌≡◌, ◌<◌, ◌+◌, ◌-◌, ◌&&◌, ℕ, zero, suc, Bool, true, false, List, Option, Some, None, arith, refl, sym, ◌∙◌, ap, cond}
+use Rattle.std.proofs.Common.{◌≡◌, ◌<◌, ◌+◌, ◌-◌, ◌&&◌, ℕ, zero, suc, Bool, true, false, Some, None, arith, refl, sym, ◌∙◌, ap, cond}
 use Rattle.std.specs.List.{find, list_all, range_with_len}
 
 pub find-range_from : (f : ℕ → Bool) (a b : ℕ) → a < b → find f (range_with_len a (b - a)) ≡ cond (f a) (Some a) (find f (range_with_len (a + 1) (b - (a + 1))))

@@ -1,9 +1,9 @@
 //! The items of an order's text.
 
-ghost use Rattle.std.specs.Prelude.{◌≡◌, ◌<◌, ◌≤◌, ◌==◌, ◌∷◌, [], map, length, nat_eq, take, drop, IfOk, MatchOption, codes, true, false, if◌then◌else◌};
+ghost use Rattle.std.specs.Prelude.{◌≡◌, ◌<◌, ◌≤◌, ◌+◌, ◌==◌, ◌∷◌, [], map, length, nat_eq, take, drop, IfOk, MatchOption, codes, true, false};
 ghost use Rattle.std.specs.Cmp.Lexicographic.{pointwise};
 ghost use Rattle.std.specs.List.{position, position_or_len};
-ghost use Rattle.text_spec.specs.OrderLine.{before_feed, from_feed, order_items as order_items_lem, pieces};
+ghost use Rattle.text_spec.specs.OrderLine.{before_feed, ends_well as ends_well_lem, from_feed, order_items as order_items_lem, pieces};
 
 use std::alloc::{AllocError, Global};
 
@@ -44,7 +44,8 @@ fn place_of(text: &[u8], mark: u8) -> usize
 
 /// The bytes before the first line feed, or all.
 fn before_line_feed(text: &[u8]) -> &[u8]
-    ensures { result.now ≡ before_feed text.now }
+    ensures before { result.now ≡ before_feed text.now }
+    ensures within { length result.now ≤ length text.now }
 {
     let (before, _) = text.split_at(place_of(text, b'\n'));
     before
@@ -73,7 +74,8 @@ fn cut_piece(text: &[u8]) -> (&[u8], Option<&[u8]>)
 
 /// The pieces between spaces.
 fn cut_pieces(alloc: Global, text: &[u8]) -> Result<Vec<&[u8]>, AllocError>
-    ensures { IfOk result (λ found. map (λ piece. piece.now) found.items ≡ pieces text.now) }
+    ensures pieces { IfOk result (λ found. map (λ piece. piece.now) found.items ≡ pieces text.now) }
+    ensures few { IfOk result (λ found. length found.items ≤ length text.now + 1) }
 {
     let mut found = Vec::new(alloc);
     let mut rest = Some(text);
@@ -87,7 +89,8 @@ fn cut_pieces(alloc: Global, text: &[u8]) -> Result<Vec<&[u8]>, AllocError>
 
 /// The items behind `order`.
 pub fn order_items(alloc: Global, behind: &[u8]) -> Result<Vec<&[u8]>, AllocError>
-    ensures { IfOk result (λ items. map (λ item. item.now) items.items ≡ order_items_lem behind.now) }
+    ensures items { IfOk result (λ items. map (λ item. item.now) items.items ≡ order_items_lem behind.now) }
+    ensures few { IfOk result (λ items. length items.items ≤ length behind.now) }
 {
     let mut found = cut_pieces(alloc, before_line_feed(behind))?;
     let first = found.remove(0);
@@ -99,7 +102,7 @@ pub fn order_items(alloc: Global, behind: &[u8]) -> Result<Vec<&[u8]>, AllocErro
 
 /// Whether exactly one line feed follows the last item, or `order` where there is none.
 pub fn ends_well(behind: &[u8], items: usize) -> bool
-    ensures { result ≡ pointwise nat_eq (10 ∷ []) (if items == 0 then behind.now else from_feed behind.now) }
+    ensures { result ≡ ends_well_lem behind.now items }
 {
     let tail = if items == 0 {
         behind

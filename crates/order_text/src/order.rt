@@ -1,8 +1,8 @@
 //! Orders.
 
-ghost use Rattle.std.specs.Prelude.{◌≡◌, ◌<◌, ◌^◌, length, MatchResult, Ok};
-ghost use Rattle.text_spec.specs.OrderLine.{order_of};
-ghost use Rattle.order_text.specs.Counts.{IsOrderRefusal};
+ghost use Rattle.std.specs.Prelude.{◌≡◌, ℕ, ◌<◌, ◌^◌, ◌&&◌, List, length, MatchResult, Ok};
+ghost use Rattle.text_spec.specs.OrderLine.{are_all_used as are_all_used_lem, ends_well as ends_well_lem, order_of};
+ghost use Rattle.order_text.specs.Counts.{AreCounts, IsOrderRefusal};
 
 use crate::items::{behind_order, ends_well, order_items};
 use crate::sessions::{are_all_used, read_sessions};
@@ -32,6 +32,14 @@ impl From<AllocError> for OrderRefusal {
     }
 }
 
+/// Whether an order of so many items ends where it should.
+fn is_ended(behind: &[u8], items: usize, quotas: &[u32], used: &[u32]) -> bool
+    requires { length used.now ≡ length quotas.now }
+    ensures { (order : List ℕ) → AreCounts order used.now → result ≡ (are_all_used_lem quotas.now order && ends_well_lem behind.now items) }
+{
+    are_all_used(quotas, used) && ends_well(behind, items)
+}
+
 /// The order that a text is, where each session has so many shared commands.
 ///
 /// An `Err` is its first bad place, or want of memory.
@@ -44,8 +52,11 @@ pub fn read_order(alloc: Global, bytes: &[u8], quotas: &[u32]) -> Result<Order, 
         return Err(OrderRefusal::BadPlace(0));
     };
     let items = order_items(alloc, behind)?;
-    let (order, used) = read_sessions(alloc, &items, quotas)?;
-    if are_all_used(quotas, &used) && ends_well(behind, items.len()) {
+    let (order, used) = match read_sessions(alloc, &items, quotas) {
+        Ok(found) => found,
+        Err(refusal) => return Err(refusal),
+    };
+    if is_ended(behind, items.len(), quotas, &used) {
         Ok(Order::of_vec(order))
     } else {
         Err(OrderRefusal::BadPlace(items.len() as u32 + 1))

@@ -58,9 +58,9 @@ is_bad_item quotas items place = is_bad_session quotas (filter_map (session_of q
 abbrev pub first_bad_item : List ℕ → List (List ℕ) → Option ℕ
 first_bad_item quotas items = find (is_bad_item quotas items) (range_with_len 1 (length items))
 
--- what follows the last item, or `order` where there is none, is exactly one line feed
-abbrev pub ends_well : List ℕ → List (List ℕ) → Bool
-ends_well behind items = pointwise nat_eq (10 ∷ []) (if length items == 0 then behind else from_feed behind)
+-- what follows the last of so many items, or `order` where there is none, is exactly one line feed
+abbrev pub ends_well : List ℕ → ℕ → Bool
+ends_well behind count = pointwise nat_eq (10 ∷ []) (if count == 0 then behind else from_feed behind)
 
 -- whether sessions have used all shared commands
 abbrev pub are_all_used : List ℕ → List ℕ → Bool
@@ -68,7 +68,7 @@ are_all_used quotas sessions = list_all (λ i. nat_le (quota_of quotas i) (count
 
 -- the order of these sessions, or the place behind its end
 abbrev pub ended_order : List ℕ → List ℕ → List (List ℕ) → List ℕ → Result (List ℕ) ℕ
-ended_order quotas behind items sessions = if are_all_used quotas sessions && ends_well behind items then Ok sessions else Err (length items + 1)
+ended_order quotas behind items sessions = if are_all_used quotas sessions && ends_well behind (length items) then Ok sessions else Err (length items + 1)
 
 -- the order that the items are, or their first bad place
 abbrev pub order_among : List ℕ → List ℕ → List (List ℕ) → Result (List ℕ) ℕ

@@ -1,4 +1,3 @@
-use Rattle.std.proofs.Common.{sym, ◌∙◌}
 use Rattle.order_text.proofs.Pieces.{position-found, position-missed}
 use Rattle.order_text.proofs.items.place_of.Goals as goal
 
