@@ -1,13 +1,18 @@
 -- What a cell answers, read off lists of its records, pointers and identities.
-use Rattle.std.proofs.Common.{◌≡◌, ℕ, zero, suc, ◌+◌, ◌<◌, ◌&&◌, ◌||◌, Bool, true, false, List, [], ◌∷◌, ◌++◌, length, map, filter, find, get_or, Option, None, Some, true≢false, refl, sym, ap, ◌∙◌, arith}
-use Rattle.std.specs.Prelude.{cond, flat_map}
+use Rattle.std.proofs.Common.{◌≡◌, ℕ, zero, suc, ◌+◌, ◌<◌, ◌≤◌, ◌⊎◌, inl, inr, ◌&&◌, ◌||◌, Bool, true, false, List, [], ◌∷◌, ◌++◌, length, map, filter, find, get_or, Option, None, Some, true≢false, refl, sym, ap, ◌∙◌, arith}
+use Rattle.std.specs.Prelude.{cond, flat_map, ◌==◌}
 use Rattle.std.specs.declared.cmp.Ordering.{Ordering}
+use Rattle.std.specs.declared.cmp.Ordering.TheVariants.{Less, Equal, Greater}
 use Rattle.std.specs.Ordering.{is_eq}
 use Rattle.std.specs.List.{Contains, IsDistinct, AllByRecursion, enumerate_from, list_any}
-use Rattle.std.specs.List.Sorted.{IsPermutation}
-use Rattle.std.proofs.lemmas.List.{map-append}
-use Rattle.std.proofs.lemmas.List.Elements.{filter-append}
-use Rattle.std.proofs.lemmas.List.Sorted.{Contains-permutation, list_any-IsPermutation}
+use Rattle.std.specs.Borrow.{Bor}
+use Rattle.std.specs.List.Sorted.{IsPermutation, IsPartitionPoint}
+use Rattle.std.proofs.lemmas.List.{map-append, length-map, get_or-map}
+use Rattle.std.proofs.lemmas.Bool.Decides.{nat_tests}
+use Rattle.std.proofs.lemmas.List.Elements.{filter-append, All-map}
+use Rattle.std.proofs.lemmas.List.Folds.{Any-from_list_any, list_any_none}
+use Rattle.std.proofs.lemmas.Map.Keys.{IsDistinct-IsPermutation}
+use Rattle.std.proofs.lemmas.List.Sorted.{Contains-permutation, list_any-IsPermutation, IsPermutation-map}
 use Rattle.s57_types.specs.declared.name.RecName.{RecName}
 use Rattle.s57_types.specs.declared.name.Lnam.{Lnam}
 use Rattle.s57_types.specs.declared.record.Rec.{Rec}
@@ -15,7 +20,7 @@ use Rattle.s57_types.specs.declared.record.Rec.TheVariants.{V, F}
 use Rattle.cell_spec.specs.declared.key.Ref.{Ref}
 use Rattle.cell_spec.specs.Ascending.{order_by}
 use Rattle.cell_spec.specs.Lookup.{name_of, is_named, targets_of, identities_of, bears, pointers_at, pointers_in}
-use Rattle.cell_spec.specs.Names.{name_order, identity_parts, same_name, same_identity}
+use Rattle.cell_spec.specs.Names.{kind_rank, name_order, identity_parts, same_name, same_identity}
 use Rattle.chain_topo.specs.Listed.{values_at, pointers_from, pointers_of, pointers_listed, identity_of, identities_listed}
 use Rattle.chain_topo.proofs.Orders.{names_tie, identities_tie, one_when_same}
 
@@ -49,6 +54,51 @@ none_by r later false others e h = h e
 pub found-none : (n : RecName) (rs : List Rec) → list_any (is_named n) rs ≡ false → find (is_named n) rs ≡ None
 found-none n [] h = refl
 found-none n (r ∷ rs) h = none_by r (find (is_named n) rs) (is_named n r) (list_any (is_named n) rs) h (λ e. found-none n rs e)
+
+any_moved : (n : RecName) (rs ss : List Rec) (found : Bool) → list_any (is_named n) rs ≡ found → IsPermutation rs ss → IsDistinct same_name (map name_of rs) → IsDistinct same_name (map name_of ss) → find (is_named n) ss ≡ find (is_named n) rs
+any_moved n rs ss false e moved apart others =
+    found-none n ss (sym (list_any-IsPermutation (is_named n) rs ss moved) ∙ e) ∙ sym (found-none n rs e)
+any_moved n rs ss true e moved apart others =
+    let some = Any-from_list_any (is_named n) rs e in
+    let among : Contains rs some.1 = (some.0, some.2, some.3) in
+    found-distinct n ss some.1 others (Contains-permutation rs ss some.1 moved among) some.4 ∙ sym (found-distinct n rs some.1 apart among some.4)
+
+-- in another order the same record is found
+pub found-moved : (n : RecName) (rs ss : List Rec) → IsPermutation rs ss → IsDistinct same_name (map name_of rs) → IsDistinct same_name (map name_of ss) → find (is_named n) ss ≡ find (is_named n) rs
+found-moved n rs ss moved apart others = any_moved n rs ss (list_any (is_named n) rs) refl moved apart others
+
+numbers_flip : (x y : ℕ) → (x == y) ≡ (y == x)
+numbers_flip x y = grind (arith, nat_tests)
+
+names_flip : (n m : RecName) → same_name n m ≡ same_name m n
+names_flip n m = λ i. numbers_flip (kind_rank n.kind) (kind_rank m.kind) i && numbers_flip n.id m.id i
+
+-- distinct names are distinct in another order
+pub distinct-moved : (rs ss : List Rec) → IsPermutation rs ss → IsDistinct same_name (map name_of rs) → IsDistinct same_name (map name_of ss)
+distinct-moved rs ss moved apart = IsDistinct-IsPermutation same_name names_flip (map name_of rs) (map name_of ss) (IsPermutation-map name_of rs ss moved) apart
+
+lower_or_upper : (k i : ℕ) → (k < i) ⊎ (i ≤ k)
+lower_or_upper k zero = inr (omega arith)
+lower_or_upper zero (suc i) = inl (omega arith)
+lower_or_upper (suc k) (suc i) = elim (lower_or_upper k i) [ inl h ↦ inl (omega arith) | inr h ↦ inr (omega arith) ]
+
+-- where all names before a place are below the name and all others above it, no record has it
+pub none-between : (n : RecName) (rs : List (Bor Rec)) (i : ℕ) → IsPartitionPoint (λ (r : Bor Rec). name_order (name_of r.now) n ≡ Less) (λ (r : Bor Rec). name_order (name_of r.now) n ≡ Greater) rs i
+    → list_any (is_named n) (map (λ (r : Bor Rec). r.now) rs) ≡ false
+none-between n rs i point =
+    list_any_none (is_named n) (map (λ (r : Bor Rec). r.now) rs) (All-map (λ r. is_named n r ≡ false) (λ (r : Bor Rec). r.now) rs (λ k d l.
+        elim (lower_or_upper k i) [
+          | inl h ↦ sym (names_tie (name_of (get_or rs k d).now) n) ∙ ap is_eq (point.0 k d (omega arith) h)
+          | inr h ↦ sym (names_tie (name_of (get_or rs k d).now) n) ∙ ap is_eq (point.1 k d h l)
+        ]))
+
+-- the record at a place whose name ties with the name
+pub found-there : (n : RecName) (rs : List (Bor Rec)) (k : ℕ) (r : Bor Rec) → IsDistinct same_name (map name_of (map (λ (r : Bor Rec). r.now) rs)) → k < length rs → r ≡ get_or rs k r
+    → name_order (name_of (get_or rs k r).now) n ≡ Equal → find (is_named n) (map (λ (r : Bor Rec). r.now) rs) ≡ Some r.now
+found-there n rs k r apart in_range at ties =
+    let record_at : get_or (map (λ (r : Bor Rec). r.now) rs) k r.now ≡ r.now = get_or-map (λ (r : Bor Rec). r.now) rs k r r.now in_range ∙ ap (λ (r : Bor Rec). r.now) (sym at) in
+    let named : same_name n (name_of r.now) ≡ true = sym (names_tie (name_of r.now) n) ∙ ap (λ (z : Bor Rec). is_eq (name_order (name_of z.now) n)) at ∙ ap is_eq ties in
+    found-distinct n (map (λ (r : Bor Rec). r.now) rs) r.now apart (k, omega (arith, length-map rs (λ (r : Bor Rec). r.now)), record_at) named
 
 values-append : {K V : Type 0} (by_key : K → K → Ordering) (ps qs : List (K × V)) (key : K) → values_at by_key (ps ++ qs) key ≡ values_at by_key ps key ++ values_at by_key qs key
 values-append {K} {V} by_key ps qs key =

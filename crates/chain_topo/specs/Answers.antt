@@ -1,5 +1,6 @@
 -- What the sorted lists of a cell answer. This project's own.
-use Rattle.std.specs.Prelude.{◌≡◌, List, map, find, Bor}
+use Rattle.std.specs.Prelude.{◌≡◌, List, map, find}
+use Rattle.std.specs.Borrow.{Bor}
 use Rattle.std.specs.List.{IsDistinct}
 use Rattle.std.specs.List.Sorted.{IsSortedByKey}
 use Rattle.s57_types.specs.declared.name.RecName.{RecName}

@@ -1,6 +1,7 @@
 //! A look over a cell with sorted lists.
 
-ghost use Rattle.std.specs.Prelude.{◌≡◌, ◌+◌, IfOk, map, filter, find, flat_map, Bor};
+ghost use Rattle.std.specs.Prelude.{◌≡◌, ◌+◌, IfOk, map, filter, find, flat_map};
+ghost use Rattle.std.specs.Borrow.{Bor};
 ghost use Rattle.std.specs.Option.{option_copied};
 ghost use Rattle.std.specs.List.Sorted.{IsPermutation, IsSortedByKey};
 ghost use Rattle.s57_types.specs.declared.name.RecName.{RecName as SpecRecName};
@@ -53,13 +54,12 @@ impl<'a> ListLook<'a> {
         requires { IsReadable cell.now }
         ensures { IfOk result (λ look. look ≡ cell.now) }
     {
-        let mut records = records_of(alloc, cell)?;
+        let records = records_of(alloc, cell)?;
         let pointers = group_pointers(alloc, &records)?;
         let identities = group_identities(alloc, &records)?;
-        sort_by_name(&mut records);
         Ok(ListLook {
             cell,
-            records,
+            records: sorted_by_name(records),
             pointers,
             identities,
         })
@@ -94,12 +94,13 @@ fn identities_are_by_parts()
     ensures { (a b : SpecLnam) → ⟦<Lnam as Ord>⟧.cmp a b ≡ order_by identity_parts a b }
 {}
 
-fn sort_by_name(records: &mut [&Rec])
-    ensures same { IsPermutation records.old records.new }
-    ensures rises { IsSortedByKey (λ (r : Bor SpecRec). spec_name r.now) name_order records.new }
+fn sorted_by_name<'a>(mut records: Vec<&'a Rec>) -> Vec<&'a Rec>
+    ensures same { IsPermutation records.entry.items result.items }
+    ensures rises { IsSortedByKey (λ (r : Bor SpecRec). spec_name r.now) name_order result.items }
 {
     orders_are_by_parts();
     records.sort_unstable_by_key(|rec| name_of(rec));
+    records
 }
 
 fn find_sorted<'a>(records: &[&'a Rec], name: RecName) -> Option<&'a Rec>

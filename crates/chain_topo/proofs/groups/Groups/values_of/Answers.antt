@@ -24,8 +24,8 @@ slice_bounds-result-count g c =
     let key = c.args.key.now in
     let first = c.partition_point-from.ensures.partitioned (λ k. is_lt (g.K.Ord.cmp k key)) (always_returns_same _ _ _ (λ a r after called. search rules)) in
     let last = c.partition_point-to.ensures.partitioned (λ k. is_le (g.K.Ord.cmp k key)) (always_returns_same _ _ _ (λ a r after called. search rules)) in
-    let parts = parted g.K.Ord.cmp key g.met.K.Ord.total c.self.inside.keys.items _ _ _ _ c.self.invariant.1 c.deref.ensures.value c.deref-2.ensures.value first last in
-    parted_rises g.K.Ord.cmp key c.self.inside.keys.items _ _ (rw (← c.deref.ensures.value) c.partition_point-from.ensures.bound) parts
+    let parts = parted g.K.Ord.cmp key g.met.K.Ord.total c.self.inside.keys.items c.deref.result.now c.deref-2.result.now c.partition_point-from.result c.partition_point-to.result c.self.invariant.1 c.deref.ensures.value c.deref-2.ensures.value first last in
+    parted_rises g.K.Ord.cmp key c.self.inside.keys.items c.partition_point-from.result c.partition_point-to.result (rw (← c.deref.ensures.value) c.partition_point-from.ensures.bound) parts
 
 pub slice_bounds-result-start : goal.slice_bounds-result-start
 slice_bounds-result-start g c =
@@ -39,5 +39,5 @@ returns g c =
     let key = c.args.key.now in
     let first = c.partition_point-from.ensures.partitioned (λ k. is_lt (g.K.Ord.cmp k key)) (always_returns_same _ _ _ (λ a r after called. search rules)) in
     let last = c.partition_point-to.ensures.partitioned (λ k. is_le (g.K.Ord.cmp k key)) (always_returns_same _ _ _ (λ a r after called. search rules)) in
-    let parts = parted g.K.Ord.cmp key g.met.K.Ord.total c.self.inside.keys.items _ _ _ _ c.self.invariant.1 c.deref.ensures.value c.deref-2.ensures.value first last in
-    rw (← c.self.view_is, c.deref-3.ensures.value) (group-between g.K.Ord.cmp key c.self.inside.keys.items c.self.inside.values.items _ _ c.self.invariant.0 parts)
+    let parts = parted g.K.Ord.cmp key g.met.K.Ord.total c.self.inside.keys.items c.deref.result.now c.deref-2.result.now c.partition_point-from.result c.partition_point-to.result c.self.invariant.1 c.deref.ensures.value c.deref-2.ensures.value first last in
+    rw (← c.self.view_is, c.deref-3.ensures.value) (group-between g.K.Ord.cmp key c.self.inside.keys.items c.self.inside.values.items c.partition_point-from.result c.partition_point-to.result c.self.invariant.0 parts)
