@@ -19,7 +19,7 @@ use Rattle.s57_types.specs.declared.record.Rec.{Rec}
 use Rattle.s57_types.specs.declared.record.Rec.TheVariants.{V, F}
 use Rattle.cell_spec.specs.declared.key.Ref.{Ref}
 use Rattle.cell_spec.specs.Ascending.{order_by}
-use Rattle.cell_spec.specs.Lookup.{name_of, is_named, targets_of, identities_of, bears, pointers_at, pointers_in}
+use Rattle.cell_spec.specs.Lookup.{name_of, is_named, targets_of, bears, pointers_in}
 use Rattle.cell_spec.specs.Names.{kind_rank, name_order, identity_parts, same_name, same_identity}
 use Rattle.chain_topo.specs.Listed.{values_at, pointers_from, pointers_of, pointers_listed, identity_of, identities_listed}
 use Rattle.chain_topo.proofs.Orders.{names_tie, identities_tie, one_when_same}
@@ -87,10 +87,10 @@ pub none-between : (n : RecName) (rs : List (Bor Rec)) (i : ℕ) → IsPartition
     → list_any (is_named n) (map (λ (r : Bor Rec). r.now) rs) ≡ false
 none-between n rs i point =
     list_any_none (is_named n) (map (λ (r : Bor Rec). r.now) rs) (All-map (λ r. is_named n r ≡ false) (λ (r : Bor Rec). r.now) rs (λ k d l.
-        elim (lower_or_upper k i) [
-          | inl h ↦ sym (names_tie (name_of (get_or rs k d).now) n) ∙ ap is_eq (point.0 k d (omega arith) h)
-          | inr h ↦ sym (names_tie (name_of (get_or rs k d).now) n) ∙ ap is_eq (point.1 k d h l)
-        ]))
+    elim (lower_or_upper k i) [
+      | inl h ↦ sym (names_tie (name_of (get_or rs k d).now) n) ∙ ap is_eq (point.0 k d (omega arith) h)
+      | inr h ↦ sym (names_tie (name_of (get_or rs k d).now) n) ∙ ap is_eq (point.1 k d h l)
+    ]))
 
 -- the record at a place whose name ties with the name
 pub found-there : (n : RecName) (rs : List (Bor Rec)) (k : ℕ) (r : Bor Rec) → IsDistinct same_name (map name_of (map (λ (r : Bor Rec). r.now) rs)) → k < length rs → r ≡ get_or rs k r

@@ -5,13 +5,14 @@ use Rattle.std.specs.declared.cmp.Ordering.{Ordering}
 use Rattle.std.specs.declared.cmp.Ordering.TheVariants.{Less, Equal, Greater}
 use Rattle.std.specs.Ordering.{is_eq, is_lt, is_le, eq_by_cmp, ordering_index, ordering_reverse, ordering_then}
 use Rattle.std.specs.Cmp.{IsTotalOrder}
-use Rattle.std.specs.List.{zip, dedup, dedup_from, list_any}
+use Rattle.std.specs.List.{zip, dedup, dedup_from}
 use Rattle.std.specs.List.Sorted.{IsSorted, IsStrictlySortedBy, IsPermutation, IsPartitionedBy, IsPartitionPoint}
 use Rattle.std.proofs.lemmas.List.Kept.{IsStrictlySortedBy-dedup}
 use Rattle.std.proofs.lemmas.List.Sorted.{list_any-IsPermutation, searchable_from_sorted}
 use Rattle.std.proofs.lemmas.Map.Lookups.{CmpEqualImpliesEq}
 use Rattle.cell_spec.specs.Ascending.{ascending}
 use Rattle.chain_topo.specs.Listed.{values_at, pair_order}
+use Rattle.chain_topo.specs.Span.{IsSpan}
 use Rattle.chain_topo.proofs.Ascending.{holds, holds-ascending, sorted-ascending, same_when_sorted}
 
 -- firsts beside seconds are the pairs
@@ -100,14 +101,7 @@ cut_nothing V (suc n) zero = refl
 cut_nothing V (suc n) (suc from) = refl
 
 module _ {K : Type 0} (by_key : K → K → Ordering) (key : K) where
-  -- keys below the key, then those that tie with it, then those above it
-  pub record Parted (keys : List K) (from to : ℕ) : Type 0 where
-    pub below : (i : ℕ) (d : K) → i < from → is_lt (by_key (get_or keys i d) key) ≡ true
-    pub not_below : (i : ℕ) (d : K) → from ≤ i → i < length keys → is_lt (by_key (get_or keys i d) key) ≡ false
-    pub not_above : (i : ℕ) (d : K) → i < to → is_le (by_key (get_or keys i d) key) ≡ true
-    pub above : (i : ℕ) (d : K) → to ≤ i → i < length keys → is_le (by_key (get_or keys i d) key) ≡ false
-
-  both_later : (k : K) (ks : List K) (from to : ℕ) → Parted (k ∷ ks) (suc from) (suc to) → Parted ks from to
+  both_later : (k : K) (ks : List K) (from to : ℕ) → IsSpan by_key key (k ∷ ks) (suc from) (suc to) → IsSpan by_key key ks from to
   both_later k ks from to p = record {
     below = λ i d h. p.below (suc i) d (omega arith);
     not_below = λ i d h l. p.not_below (suc i) d (omega arith) (omega arith);
@@ -115,7 +109,7 @@ module _ {K : Type 0} (by_key : K → K → Ordering) (key : K) where
     above = λ i d h l. p.above (suc i) d (omega arith) (omega arith);
   }
 
-  end_later : (k : K) (ks : List K) (to : ℕ) → Parted (k ∷ ks) zero (suc to) → Parted ks zero to
+  end_later : (k : K) (ks : List K) (to : ℕ) → IsSpan by_key key (k ∷ ks) zero (suc to) → IsSpan by_key key ks zero to
   end_later k ks to p = record {
     below = λ i d h. absurd (omega arith);
     not_below = λ i d h l. p.not_below (suc i) d (omega arith) (omega arith);
@@ -123,7 +117,7 @@ module _ {K : Type 0} (by_key : K → K → Ordering) (key : K) where
     above = λ i d h l. p.above (suc i) d (omega arith) (omega arith);
   }
 
-  none_later : (k : K) (ks : List K) → Parted (k ∷ ks) zero zero → Parted ks zero zero
+  none_later : (k : K) (ks : List K) → IsSpan by_key key (k ∷ ks) zero zero → IsSpan by_key key ks zero zero
   none_later k ks p = record {
     below = λ i d h. absurd (omega arith);
     not_below = λ i d h l. p.not_below (suc i) d (omega arith) (omega arith);
@@ -132,18 +126,18 @@ module _ {K : Type 0} (by_key : K → K → Ordering) (key : K) where
   }
 
   -- the keys that tie begin no later than they end
-  pub parted_rises : (keys : List K) (from to : ℕ) → from ≤ length keys → Parted keys from to → from ≤ to
-  parted_rises [] from to in_range p = omega arith
-  parted_rises (k ∷ ks) zero to in_range p = omega arith
-  parted_rises (k ∷ ks) (suc from) zero in_range p = absurd (true≢false (not_above_below (by_key k key) (p.below zero k (omega arith)) (p.above zero k (omega arith) (omega arith))))
-  parted_rises (k ∷ ks) (suc from) (suc to) in_range p = let rest = parted_rises ks from to (omega arith) (both_later k ks from to p) in omega arith
+  pub span_rises : (keys : List K) (from to : ℕ) → from ≤ length keys → IsSpan by_key key keys from to → from ≤ to
+  span_rises [] from to in_range p = omega arith
+  span_rises (k ∷ ks) zero to in_range p = omega arith
+  span_rises (k ∷ ks) (suc from) zero in_range p = absurd (true≢false (not_above_below (by_key k key) (p.below zero k (omega arith)) (p.above zero k (omega arith) (omega arith))))
+  span_rises (k ∷ ks) (suc from) (suc to) in_range p = let rest = span_rises ks from to (omega arith) (both_later k ks from to p) in omega arith
 
   -- what two searches among sorted keys answer
-  pub parted-from_searches : IsTotalOrder by_key → (keys : List K) (from to : ℕ) → IsSorted by_key keys
+  pub span-from_searches : IsTotalOrder by_key → (keys : List K) (from to : ℕ) → IsSorted by_key keys
       → (IsPartitionedBy (λ k. is_lt (by_key k key)) keys → IsPartitionPoint (λ k. is_lt (by_key k key) ≡ true) (λ k. is_lt (by_key k key) ≡ false) keys from)
       → (IsPartitionedBy (λ k. is_le (by_key k key)) keys → IsPartitionPoint (λ k. is_le (by_key k key) ≡ true) (λ k. is_le (by_key k key) ≡ false) keys to)
-      → Parted keys from to
-  parted-from_searches total keys from to rising first last =
+      → IsSpan by_key key keys from to
+  span-from_searches total keys from to rising first last =
       let rises = searchable_from_sorted total (λ (k : K). k) keys key rising in
       let lower = first (λ i j d h l. less_earlier (by_key (get_or keys i d) key) (by_key (get_or keys j d) key) (rises i j d h l)) in
       let upper = last (λ i j d h l. at_most_earlier (by_key (get_or keys i d) key) (by_key (get_or keys j d) key) (rises i j d h l)) in
@@ -162,7 +156,7 @@ module _ {K V : Type 0} (by_key : K → K → Ordering) (key : K) where
   taken k v ps e = ap (λ b. map (λ (p : K × V). p.1) (cond b ((k, v) ∷ filter (λ (p : K × V). is_eq (by_key p.0 key)) ps) (filter (λ (p : K × V). is_eq (by_key p.0 key)) ps))) e
 
   -- the values beside the keys that tie
-  pub group-between : (keys : List K) (values : List V) (from to : ℕ) → length keys ≡ length values → Parted by_key key keys from to → take (to - from) (drop from values) ≡ values_at by_key (zip keys values) key
+  pub group-between : (keys : List K) (values : List V) (from to : ℕ) → length keys ≡ length values → IsSpan by_key key keys from to → take (to - from) (drop from values) ≡ values_at by_key (zip keys values) key
   group-between [] [] from to long p = cut_nothing V (to - from) from
   group-between [] (v ∷ vs) from to long p = absurd (omega arith)
   group-between (k ∷ ks) [] from to long p = absurd (omega arith)

@@ -1,5 +1,5 @@
 -- The pointers and the identities of a cell as lists of pairs, and the values of one key in such a list. This project's own.
-use Rattle.std.specs.Prelude.{ℕ, List, [], ◌∷◌, map, filter, flat_map}
+use Rattle.std.specs.Prelude.{ℕ, List, map, filter, flat_map}
 use Rattle.std.specs.List.{enumerate_from}
 use Rattle.std.specs.declared.cmp.Ordering.{Ordering}
 use Rattle.std.specs.Ordering.{is_eq, ordering_then}

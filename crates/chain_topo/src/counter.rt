@@ -2,8 +2,8 @@
 
 ghost use Rattle.std.specs.Prelude.{◌≡◌, ◌+◌, ◌<◌};
 
-use std::sync::ledger::{Blank, Book, Ledger, Share};
 use std::marker::Model;
+use std::sync::ledger::{Blank, Book, Ledger, Share};
 
 /// How many look-ups were made. It takes no bytes and no time when the program runs.
 #[derive(Drop)]

@@ -32,9 +32,7 @@ fn count_at(topi: u8, ends: &[End]) -> usize
 fn first_at(topi: u8, ends: &[End]) -> Option<RecName>
     ensures { result ≡ option_map (λ (e : SpecEnd). e.to) (find (λ (e : SpecEnd). e.topi == topi) ends.now) }
 {
-    ends.iter()
-        .find(|end| end.topi == topi)
-        .map(|end| end.to)
+    ends.iter().find(|end| end.topi == topi).map(|end| end.to)
 }
 
 // The node that an edge names at its one end with a topology indicator.
@@ -48,7 +46,11 @@ fn node_at(topi: u8, edge: &Vector) -> Option<RecName>
     first_at(topi, ends)
 }
 
-fn edge_named<'a, B: Look, L: Ledger>(look: &'a B, name: RecName, steps: &mut Steps<L>) -> Option<&'a Vector>
+fn edge_named<'a, B: Look, L: Ledger>(
+    look: &'a B,
+    name: RecName,
+    steps: &mut Steps<L>,
+) -> Option<&'a Vector>
     ensures found { option_copied result ≡ spec_edge (B.cell look.now) name }
     ensures step { steps.new ≡ steps.old + 1 }
 {

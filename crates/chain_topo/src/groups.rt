@@ -1,9 +1,11 @@
 //! Values in groups by key.
 
-ghost use Rattle.std.specs.Prelude.{◌≡◌, IfOk, map};
+ghost use Rattle.std.specs.Prelude.{◌≡◌, ◌≤◌, IfOk, length, map};
 ghost use Rattle.std.specs.declared.cmp.Ordering.TheVariants.{Equal};
+ghost use Rattle.std.specs.List.Sorted.{IsPermutation, IsSorted};
 ghost use Rattle.cell_spec.specs.Ascending.{ascending};
 ghost use Rattle.chain_topo.specs.Listed.{pair_order, values_at};
+ghost use Rattle.chain_topo.specs.Span.{IsSpan};
 
 use std::alloc::{AllocError, Global};
 use std::marker::Model;
@@ -28,12 +30,12 @@ impl<K: Ord, V> Model for Groups<K, V> {
 
 impl<K: Ord + Copy, V: Ord + Copy> Groups<K, V> {
     /// The pairs in ascending order, each once.
-    pub(crate) fn make(alloc: Global, mut pairs: Vec<(K, V)>) -> Result<Groups<K, V>, AllocError>
+    pub(crate) fn make(alloc: Global, pairs: Vec<(K, V)>) -> Result<Groups<K, V>, AllocError>
         requires exact_keys { (a b : K) → K.cmp a b ≡ Equal → a ≡ b }
         requires exact_values { (a b : V) → V.cmp a b ≡ Equal → a ≡ b }
         ensures { IfOk result (λ groups. groups ≡ ascending (pair_order K.cmp V.cmp) pairs.items) }
     {
-        pairs.sort_unstable();
+        let mut pairs = sorted(pairs);
         pairs.dedup();
         let keys = keys_of(alloc, &pairs)?;
         let values = values_of(alloc, &pairs)?;
@@ -44,10 +46,29 @@ impl<K: Ord + Copy, V: Ord + Copy> Groups<K, V> {
     pub(crate) fn values_of(&self, key: &K) -> &[V]
         ensures { result.now ≡ values_at K.cmp self.now key.now }
     {
-        let from = self.keys.partition_point(|k| k.cmp(key).is_lt());
-        let to = self.keys.partition_point(|k| k.cmp(key).is_le());
+        let (from, to) = span_of(&self.keys, key);
         &self.values[from..to]
     }
+}
+
+// The places of a key among sorted keys: the first, and the one after the last.
+fn span_of<K: Ord>(keys: &[K], key: &K) -> (usize, usize)
+    requires { IsSorted K.cmp keys.now }
+    ensures span { IsSpan K.cmp key.now keys.now result.0 result.1 }
+    ensures ordered { result.0 ≤ result.1 }
+    ensures within { result.1 ≤ length keys.now }
+{
+    let from = keys.partition_point(|k| k.cmp(key).is_lt());
+    let to = keys.partition_point(|k| k.cmp(key).is_le());
+    (from, to)
+}
+
+fn sorted<T: Ord>(mut items: Vec<T>) -> Vec<T>
+    ensures same { IsPermutation items.items result.items }
+    ensures rises { IsSorted T.cmp result.items }
+{
+    items.sort_unstable();
+    items
 }
 
 fn keys_of<K: Copy, V>(alloc: Global, pairs: &[(K, V)]) -> Result<Vec<K>, AllocError>

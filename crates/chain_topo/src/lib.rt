@@ -9,12 +9,7 @@ mod listed;
 mod sorted;
 
 pub use answers::Look;
-pub use cell_spec::{
-    Finding, Findings, Key, Keys, Names, Ref, Refs, Row, Rows, Subject, Subjects,
-};
+pub use cell_spec::{Finding, Findings, Key, Keys, Names, Ref, Refs, Row, Rows, Subject, Subjects};
 pub use counter::Steps;
 pub use edge::{edge_line, edge_points};
 pub use sorted::ListLook;
-
-
-

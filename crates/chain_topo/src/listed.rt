@@ -49,11 +49,7 @@ fn number(n: usize) -> Result<u32, AllocError>
     u32::try_from(n).map_err(|_| AllocError)
 }
 
-fn add_ends(
-    list: &mut Vec<(RecName, Ref)>,
-    from: RecName,
-    ends: &[End],
-) -> Result<(), AllocError>
+fn add_ends(list: &mut Vec<(RecName, Ref)>, from: RecName, ends: &[End]) -> Result<(), AllocError>
     ensures { OnOk result (list.new.items ≡ list.old.items ++ pointers_from from 1 (map (λ (e : SpecEnd). e.to) ends.now)) }
 {
     for (k, end) in ends.iter().enumerate() {

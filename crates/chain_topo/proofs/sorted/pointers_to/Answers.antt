@@ -1,4 +1,4 @@
-use Rattle.std.proofs.Common.{◌≡◌, ◌∙◌}
+use Rattle.std.proofs.Common.{◌∙◌}
 use Rattle.chain_topo.specs.Listed.{values_at}
 use Rattle.chain_topo.proofs.sorted.pointers_to.Goals as goal
 

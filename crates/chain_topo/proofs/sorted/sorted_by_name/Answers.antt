@@ -1,11 +1,9 @@
-
-use Rattle.std.proofs.Common.{◌≡◌, rules, subst}
+use Rattle.std.proofs.Common.{rules, subst}
 use Rattle.std.specs.declared.cmp.Ordering.{Ordering}
 use Rattle.std.specs.List.Sorted.{IsSortedByKey}
 use Rattle.std.proofs.lemmas.Fn.{always_returns_same}
 use Rattle.s57_types.specs.declared.name.RecName.{RecName}
 use Rattle.cell_spec.specs.Lookup.{name_of}
-use Rattle.cell_spec.specs.Names.{name_order}
 use Rattle.chain_topo.proofs.sorted.sorted_by_name.Goals as goal
 
 pub returns-clause-rises : goal.returns-clause-rises

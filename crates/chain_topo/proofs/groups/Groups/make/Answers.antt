@@ -1,15 +1,8 @@
 use Rattle.std.proofs.Common.{◌≡◌, List, map, length, sym, ap, subst, ◌∙◌}
-use Rattle.std.specs.declared.cmp.Ordering.{Ordering}
-use Rattle.std.specs.declared.cmp.Ordering.TheVariants.{Equal}
-use Rattle.std.specs.Cmp.{IsTotalOrder}
-use Rattle.std.specs.List.{zip, dedup}
-use Rattle.std.specs.List.Retain.{IsFiltered, DiffersFromLast}
-use Rattle.std.specs.List.Sorted.{IsSorted, IsPermutation, IsStrictlySortedBy}
-use Rattle.std.specs.Ordering.{eq_by_cmp}
+use Rattle.std.specs.List.{zip}
+use Rattle.std.specs.List.Sorted.{IsSorted, IsStrictlySortedBy}
 use Rattle.std.proofs.lemmas.List.{length-map}
 use Rattle.std.proofs.lemmas.List.Filters.{dedup_is}
-use Rattle.std.proofs.lemmas.Map.Lookups.{CmpEqualImpliesEq}
-use Rattle.cell_spec.specs.Ascending.{ascending}
 use Rattle.chain_topo.specs.Listed.{pair_order}
 use Rattle.chain_topo.proofs.Ascending.{sorted-ascending}
 use Rattle.chain_topo.proofs.Orders.{total_pairs, exact_pairs, pairs_tie}
@@ -28,7 +21,7 @@ returns g c =
     let exact = exact_pairs keys values c.requires.exact_keys c.requires.exact_values in
     let ties = pairs_tie keys values g.K.PartialEq.eq g.V.PartialEq.eq g.met.K.Ord.matches_eq g.met.V.Ord.matches_eq in
     let once = dedup_is _ _ _ c.dedup.ensures.filtered in
-    let rising = dedup-ascending (pair_order keys values) total exact _ ties c.args.pairs.items _ c.sort_unstable.ensures.permutation c.sort_unstable.ensures.sorted in
+    let rising = dedup-ascending (pair_order keys values) total exact _ ties c.args.pairs.items _ c.sorted-pairs.ensures.same c.sorted-pairs.ensures.rises in
     (λ i. zip (keys_are (λ p. p.0) _ _ c.dedup.new.self.items c.in_ok-keys.ensures c.deref.ensures.value i) (keys_are (λ p. p.1) _ _ c.dedup.new.self.items c.in_ok-values.ensures c.deref-2.ensures.value i))
     ∙ zip-parts c.dedup.new.self.items ∙ once ∙ rising
 
@@ -40,9 +33,10 @@ invariant_of-result g c =
     let exact = exact_pairs keys values c.requires.exact_keys c.requires.exact_values in
     let ties = pairs_tie keys values g.K.PartialEq.eq g.V.PartialEq.eq g.met.K.Ord.matches_eq g.met.V.Ord.matches_eq in
     let once = dedup_is _ _ _ c.dedup.ensures.filtered in
-    let rising = dedup-ascending (pair_order keys values) total exact _ ties c.args.pairs.items _ c.sort_unstable.ensures.permutation c.sort_unstable.ensures.sorted in
+    let rising = dedup-ascending (pair_order keys values) total exact _ ties c.args.pairs.items _ c.sorted-pairs.ensures.same c.sorted-pairs.ensures.rises in
     let are = keys_are (λ p. p.0) _ _ c.dedup.new.self.items c.in_ok-keys.ensures c.deref.ensures.value in
     let others = keys_are (λ p. p.1) _ _ c.dedup.new.self.items c.in_ok-values.ensures c.deref-2.ensures.value in
-    let sorted = subst (IsStrictlySortedBy (pair_order keys values)) (sym (once ∙ rising)) (sorted-ascending (pair_order keys values) total c.args.pairs.items) in
-    (ap length are ∙ length-map c.dedup.new.self.items _ ∙ sym (ap length others ∙ length-map c.dedup.new.self.items _),
-     subst (IsSorted keys) (sym are) (keys-rise keys values g.met.K.Ord.total c.dedup.new.self.items sorted))
+    let sorted = subst (IsStrictlySortedBy (pair_order keys values)) (sym (once ∙ rising)) (sorted-ascending (pair_order keys values) total c.args.pairs.items) in (
+      ap length are ∙ length-map c.dedup.new.self.items _ ∙ sym (ap length others ∙ length-map c.dedup.new.self.items _),
+      subst (IsSorted keys) (sym are) (keys-rise keys values g.met.K.Ord.total c.dedup.new.self.items sorted),
+    )

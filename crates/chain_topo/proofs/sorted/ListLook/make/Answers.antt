@@ -1,6 +1,5 @@
-use Rattle.std.proofs.Common.{◌≡◌, List, map, filter, flat_map, sym, subst, ap, ◌∙◌}
+use Rattle.std.proofs.Common.{◌≡◌, List, map, filter, flat_map, subst, ap, ◌∙◌}
 use Rattle.std.specs.Borrow.{Bor}
-use Rattle.std.specs.List.{IsDistinct}
 use Rattle.std.specs.List.Sorted.{IsPermutation, IsSortedByKey}
 use Rattle.std.proofs.lemmas.List.Sorted.{IsPermutation-map}
 use Rattle.s57_types.specs.declared.name.RecName.{RecName}
@@ -10,7 +9,7 @@ use Rattle.s57_types.specs.declared.cell.Cell.{Cell}
 use Rattle.cell_spec.specs.declared.key.Ref.{Ref}
 use Rattle.cell_spec.specs.Ascending.{ascending, order_by}
 use Rattle.cell_spec.specs.Lookup.{all_records, name_of, bears, pointers_in}
-use Rattle.cell_spec.specs.Names.{name_order, ref_order, identity_parts, same_name}
+use Rattle.cell_spec.specs.Names.{name_order, ref_order, identity_parts}
 use Rattle.chain_topo.specs.Answers.{Answers}
 use Rattle.chain_topo.specs.Listed.{values_at}
 use Rattle.chain_topo.specs.Readable.{IsReadable}
@@ -25,7 +24,7 @@ answers : (c : Cell) (held moved : List (Bor Rec)) (pointers : List (RecName × 
     → Answers c moved pointers identities
 answers c held moved pointers identities readable all same rises refs bearers =
     let same_records : IsPermutation (all_records c) (map (λ (r : Bor Rec). r.now) moved) =
-        subst (λ rs. IsPermutation rs (map (λ (r : Bor Rec). r.now) moved)) all (IsPermutation-map (λ (r : Bor Rec). r.now) held moved same) in
+    subst (λ rs. IsPermutation rs (map (λ (r : Bor Rec). r.now) moved)) all (IsPermutation-map (λ (r : Bor Rec). r.now) held moved same) in
     let distinct = distinct-moved (all_records c) (map (λ (r : Bor Rec). r.now) moved) same_records readable.distinct in
     record {
       readable = readable;
