@@ -4,3 +4,4 @@ pub mod Only
 pub mod Orders
 pub mod Parts
 pub mod Selected
+pub mod SmallRecords

@@ -13,3 +13,6 @@ pub use cell_spec::{Finding, Findings, Key, Keys, Names, Ref, Refs, Row, Rows, S
 pub use counter::Steps;
 pub use edge::{edge_line, edge_points};
 pub use sorted::ListLook;
+
+#[cfg(test)]
+mod tests;
