@@ -1,4 +1,4 @@
-use Rattle.std.proofs.Common.{◌≡◌, List, [], ◌∷◌, map, refl, sym, ap, subst, ◌∙◌, arith}
+use Rattle.std.proofs.Common.{[], ◌∷◌, map, refl, sym, ap, subst, ◌∙◌, arith}
 use Rattle.std.specs.List.{All}
 use Rattle.chain_topo.proofs.SmallRecords.{FitsAnywhere, parts_of, readable-from_parts}
 use Rattle.chain_topo.proofs.tests.sample.Goals as goal
