@@ -1,0 +1,4 @@
+pub mod Answers
+pub mod Listed
+pub mod Readable
+pub mod Span

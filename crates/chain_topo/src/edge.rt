@@ -1,0 +1,157 @@
+//! The points of an edge.
+
+ghost use Rattle.std.specs.Prelude.{◌≡◌, ◌≤◌, ◌+◌, ◌∷◌, ◌++◌, ◌==◌, [], IfOk, count_by, find, option_map};
+ghost use Rattle.s57_types.specs.declared.record.End.{End as SpecEnd};
+ghost use Rattle.std.specs.Option.{option_copied};
+ghost use Rattle.rule_spec.specs.EdgePoints.{node_at as spec_node_at, node_position as spec_position, line_of as spec_line_of, edge_line_of, edge_points_of};
+ghost use Rattle.rule_spec.specs.Records.{edge_named as spec_edge, node_named as spec_node, the_only as spec_the_only};
+
+use crate::answers::Look;
+use crate::counter::Steps;
+use geometry_spec::Point;
+use rule_spec::EdgeLine;
+use s57_types::{End, Items, Kind, Plane, Rec, RecName, Vector};
+use std::alloc::{AllocError, Global};
+use std::sync::ledger::Ledger;
+
+fn the_only<T: Copy>(items: &[T]) -> Option<T>
+    ensures { result ≡ spec_the_only items.now }
+{
+    match items {
+        [item] => Some(*item),
+        _ => None,
+    }
+}
+
+fn count_at(topi: u8, ends: &[End]) -> usize
+    ensures { result ≡ count_by (λ (e : SpecEnd). e.topi == topi) ends.now }
+{
+    ends.iter().filter(|end| end.topi == topi).count()
+}
+
+fn first_at(topi: u8, ends: &[End]) -> Option<RecName>
+    ensures { result ≡ option_map (λ (e : SpecEnd). e.to) (find (λ (e : SpecEnd). e.topi == topi) ends.now) }
+{
+    ends.iter().find(|end| end.topi == topi).map(|end| end.to)
+}
+
+// The node that an edge names at its one end with a topology indicator.
+fn node_at(topi: u8, edge: &Vector) -> Option<RecName>
+    ensures { result ≡ spec_node_at topi edge.now }
+{
+    let ends = edge.ends.as_slice();
+    if count_at(topi, ends) != 1 {
+        return None;
+    }
+    first_at(topi, ends)
+}
+
+fn edge_named<'a, B: Look, L: Ledger>(
+    look: &'a B,
+    name: RecName,
+    steps: &mut Steps<L>,
+) -> Option<&'a Vector>
+    ensures found { option_copied result ≡ spec_edge (B.cell look.now) name }
+    ensures step { steps.new ≡ steps.old + 1 }
+{
+    match look.get(name, steps) {
+        Some(Rec::V(edge)) if edge.name.kind == Kind::Ve => Some(edge),
+        _ => None,
+    }
+}
+
+fn node_position<B: Look, L: Ledger>(look: &B, name: RecName, steps: &mut Steps<L>) -> Option<Point>
+    ensures found { result ≡ spec_position (B.cell look.now) name }
+    ensures step { steps.new ≡ steps.old + 1 }
+{
+    match look.get(name, steps) {
+        Some(Rec::V(node)) if node.name.kind == Kind::Vc => the_only(node.plane.as_slice()),
+        _ => None,
+    }
+}
+
+fn points_between(
+    alloc: Global,
+    first: Point,
+    plane: &[Point],
+    last: Point,
+) -> Result<Vec<Point>, AllocError>
+    ensures { IfOk result (λ points. points.items ≡ first ∷ (plane.now ++ last ∷ [])) }
+{
+    let mut points = Vec::new(alloc);
+    points.push(first)?;
+    points.extend_from_slice(plane)?;
+    points.push(last)?;
+    Ok(points)
+}
+
+fn line_of<B: Look, L: Ledger>(
+    alloc: Global,
+    look: &B,
+    edge: &Vector,
+    steps: &mut Steps<L>,
+) -> Result<Option<EdgeLine>, AllocError>
+    ensures line { IfOk result (λ line. line ≡ spec_line_of (B.cell look.now) edge.now) }
+    ensures steps { steps.new ≤ steps.old + 2 }
+    ensures counted { steps.old ≤ steps.new }
+{
+    let Some(begins) = node_at(1, edge) else {
+        return Ok(None);
+    };
+    let Some(ends) = node_at(2, edge) else {
+        return Ok(None);
+    };
+    let Some(first) = node_position(look, begins, steps) else {
+        return Ok(None);
+    };
+    let Some(last) = node_position(look, ends, steps) else {
+        return Ok(None);
+    };
+    let points = points_between(alloc, first, edge.plane.as_slice(), last)?;
+    Ok(Some(EdgeLine {
+        begins,
+        ends,
+        points: Items::of_vec(points),
+    }))
+}
+
+/// The line of the edge of a name (S-57 Part 2, 2.2.1.2; Part 3, 7.7.1.4): its nodes, and its points from the one to
+/// the other. There is none where the name isn't an edge's, where it hasn't exactly one beginning node and one end
+/// node, or where one of these isn't a connected node with exactly one position.
+///
+/// It makes at most three look-ups. An `Err` is want of memory.
+#[tactic(auto, unfolding(rule_spec::specs::EdgePoints::edge_line_of))]
+pub fn edge_line<B: Look, L: Ledger>(
+    alloc: Global,
+    look: &B,
+    name: RecName,
+    steps: &mut Steps<L>,
+) -> Result<Option<EdgeLine>, AllocError>
+    ensures line { IfOk result (λ line. line ≡ edge_line_of (B.cell look.now) name) }
+    ensures steps { steps.new ≤ steps.old + 3 }
+    ensures counted { steps.old ≤ steps.new }
+{
+    match edge_named(look, name, steps) {
+        Some(edge) => line_of(alloc, look, edge, steps),
+        None => Ok(None),
+    }
+}
+
+/// The points of the edge of a name, latitude first, in integer coordinate units: those of its line.
+///
+/// It makes at most three look-ups. An `Err` is want of memory.
+pub fn edge_points<B: Look, L: Ledger>(
+    alloc: Global,
+    look: &B,
+    name: RecName,
+    steps: &mut Steps<L>,
+) -> Result<Option<Plane>, AllocError>
+    ensures points { IfOk result (λ points. points ≡ edge_points_of (B.cell look.now) name) }
+    ensures steps { steps.new ≤ steps.old + 3 }
+    ensures counted { steps.old ≤ steps.new }
+{
+    match edge_line(alloc, look, name, steps)? {
+        Some(line) => Ok(Some(line.points)),
+        None => Ok(None),
+    }
+}

@@ -1,0 +1,18 @@
+//! What a chart cell answers to a key, each answer counted, and the points of an edge.
+#![tactic(auto)]
+
+mod answers;
+mod counter;
+mod edge;
+mod groups;
+mod listed;
+mod sorted;
+
+pub use answers::Look;
+pub use cell_spec::{Finding, Findings, Key, Keys, Names, Ref, Refs, Row, Rows, Subject, Subjects};
+pub use counter::Steps;
+pub use edge::{edge_line, edge_points};
+pub use sorted::ListLook;
+
+#[cfg(test)]
+mod tests;

@@ -1,0 +1,120 @@
+//! The records, pointers and identities of a cell as lists.
+
+ghost use Rattle.std.specs.Prelude.{◌≡◌, ◌++◌, IfOk, OnOk, map};
+ghost use Rattle.s57_types.specs.declared.record.End.{End as SpecEnd};
+ghost use Rattle.s57_types.specs.declared.record.Spot.{Spot as SpecSpot};
+ghost use Rattle.s57_types.specs.declared.record.Rec.{Rec as SpecRec};
+ghost use Rattle.cell_spec.specs.Lookup.{all_records, name_of as spec_name};
+ghost use Rattle.chain_topo.specs.Listed.{pointers_from, pointers_of, pointers_listed, identity_of, identities_listed};
+
+use cell_spec::Ref;
+use s57_types::{Cell, End, Lnam, Rec, RecName, Spot};
+use std::alloc::{AllocError, Global};
+
+/// The name of a record.
+pub(crate) fn name_of(rec: &Rec) -> RecName
+    ensures { result ≡ spec_name rec.now }
+{
+    match rec {
+        Rec::V(vector) => vector.name,
+        Rec::F(feature) => feature.name,
+    }
+}
+
+fn add_records<'a>(list: &mut Vec<&'a Rec>, recs: &'a [Rec]) -> Result<(), AllocError>
+    ensures { OnOk result (map (λ r. r.now) list.new.items ≡ map (λ r. r.now) list.old.items ++ recs.now) }
+{
+    for rec in recs {
+        list.push(rec)?;
+    }
+    Ok(())
+}
+
+/// All records of a cell, in file order.
+pub(crate) fn records_of(alloc: Global, cell: &Cell) -> Result<Vec<&Rec>, AllocError>
+    ensures { IfOk result (λ list. map (λ r. r.now) list.items ≡ all_records cell.now) }
+{
+    let mut list = Vec::new(alloc);
+    add_records(&mut list, cell.vi.as_slice())?;
+    add_records(&mut list, cell.vc.as_slice())?;
+    add_records(&mut list, cell.ve.as_slice())?;
+    add_records(&mut list, cell.fe.as_slice())?;
+    Ok(list)
+}
+
+// A number of 32 bits. A record with a greater one, which has billions of pointers, is answered with want of memory.
+fn number(n: usize) -> Result<u32, AllocError>
+    ensures { IfOk result (λ k. k ≡ n) }
+{
+    u32::try_from(n).map_err(|_| AllocError)
+}
+
+fn add_ends(list: &mut Vec<(RecName, Ref)>, from: RecName, ends: &[End]) -> Result<(), AllocError>
+    ensures { OnOk result (list.new.items ≡ list.old.items ++ pointers_from from 1 (map (λ (e : SpecEnd). e.to) ends.now)) }
+{
+    for (k, end) in ends.iter().enumerate() {
+        let place = number(k + 1)?;
+        list.push((end.to, Ref { from, place }))?;
+    }
+    Ok(())
+}
+
+fn add_spots(
+    list: &mut Vec<(RecName, Ref)>,
+    from: RecName,
+    spots: &[Spot],
+) -> Result<(), AllocError>
+    ensures { OnOk result (list.new.items ≡ list.old.items ++ pointers_from from 1 (map (λ (s : SpecSpot). s.to) spots.now)) }
+{
+    for (k, spot) in spots.iter().enumerate() {
+        let place = number(k + 1)?;
+        list.push((spot.to, Ref { from, place }))?;
+    }
+    Ok(())
+}
+
+fn add_pointers(list: &mut Vec<(RecName, Ref)>, rec: &Rec) -> Result<(), AllocError>
+    ensures { OnOk result (list.new.items ≡ list.old.items ++ pointers_of rec.now) }
+{
+    match rec {
+        Rec::V(vector) => add_ends(list, vector.name, vector.ends.as_slice()),
+        Rec::F(feature) => add_spots(list, feature.name, feature.places.as_slice()),
+    }
+}
+
+/// The pointers of records, each with its target before it.
+pub(crate) fn list_pointers(
+    alloc: Global,
+    records: &[&Rec],
+) -> Result<Vec<(RecName, Ref)>, AllocError>
+    ensures { IfOk result (λ list. list.items ≡ pointers_listed (map (λ r. r.now) records.now)) }
+{
+    let mut list = Vec::new(alloc);
+    for rec in records {
+        add_pointers(&mut list, rec)?;
+    }
+    Ok(list)
+}
+
+fn add_identity(list: &mut Vec<(Lnam, RecName)>, rec: &Rec) -> Result<(), AllocError>
+    ensures { OnOk result (list.new.items ≡ list.old.items ++ identity_of rec.now) }
+{
+    if let Rec::F(feature) = rec {
+        list.push((feature.foid, feature.name))?;
+    }
+    Ok(())
+}
+
+/// The identities of records, each with the name of the feature that bears it.
+pub(crate) fn list_identities(
+    alloc: Global,
+    records: &[&Rec],
+) -> Result<Vec<(Lnam, RecName)>, AllocError>
+    ensures { IfOk result (λ list. list.items ≡ identities_listed (map (λ r. r.now) records.now)) }
+{
+    let mut list = Vec::new(alloc);
+    for rec in records {
+        add_identity(&mut list, rec)?;
+    }
+    Ok(list)
+}

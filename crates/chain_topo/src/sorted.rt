@@ -1,0 +1,148 @@
+//! A look over a cell with sorted lists.
+
+ghost use Rattle.std.specs.Prelude.{◌≡◌, ◌+◌, IfOk, map, filter, find, flat_map};
+ghost use Rattle.std.specs.Borrow.{Bor};
+ghost use Rattle.std.specs.Option.{option_copied};
+ghost use Rattle.std.specs.List.Sorted.{IsPermutation, IsSortedByKey};
+ghost use Rattle.s57_types.specs.declared.name.RecName.{RecName as SpecRecName};
+ghost use Rattle.s57_types.specs.declared.name.Lnam.{Lnam as SpecLnam};
+ghost use Rattle.s57_types.specs.declared.record.Rec.{Rec as SpecRec};
+ghost use Rattle.s57_types.specs.declared.cell.Cell.{Cell as SpecCell};
+ghost use Rattle.cell_spec.specs.Ascending.{ascending, order_by};
+ghost use Rattle.cell_spec.specs.Lookup.{is_named, name_of as spec_name, bears, pointers_in, lookup_record, lookup_pointers, lookup_identity};
+ghost use Rattle.cell_spec.specs.Names.{name_order, ref_order, identity_parts};
+ghost use Rattle.chain_topo.specs.Answers.{IsByName};
+ghost use Rattle.chain_topo.specs.Listed.{values_at};
+ghost use Rattle.chain_topo.specs.Readable.{IsReadable};
+
+use crate::answers::Look;
+use crate::counter::Steps;
+use crate::groups::Groups;
+use crate::listed::{list_identities, list_pointers, name_of, records_of};
+use cell_spec::{Ref, orders_are_by_parts};
+use s57_types::{Cell, Lnam, Rec, RecName};
+use std::alloc::{AllocError, Global};
+use std::marker::Model;
+use std::sync::ledger::Ledger;
+
+/// A cell with its records sorted by name, its pointers by target and its features by identifier: each look-up is a
+/// binary search.
+#[derive(Drop)]
+pub struct ListLook<'a> {
+    cell: &'a Cell,
+    records: Vec<&'a Rec>,
+    pointers: Groups<RecName, Ref>,
+    identities: Groups<Lnam, RecName>,
+}
+
+impl<'a> Model for ListLook<'a> {
+    ghost use Rattle.s57_types.specs.declared.cell.Cell.{Cell};
+    ghost use Rattle.chain_topo.specs.Answers.{Answers};
+
+    ghost Value = { Cell };
+
+    ghost view = { λ l. l.cell.now };
+
+    ghost invariant = { λ l. Answers l.cell.now l.records.items l.pointers l.identities };
+}
+
+impl<'a> ListLook<'a> {
+    /// The look over a cell. It sorts the cell's records, pointers and identifiers.
+    ///
+    /// An `Err` is want of memory.
+    pub fn make(alloc: Global, cell: &'a Cell) -> Result<ListLook<'a>, AllocError>
+        requires { IsReadable cell.now }
+        ensures { IfOk result (λ look. look ≡ cell.now) }
+    {
+        let records = records_of(alloc, cell)?;
+        let pointers = group_pointers(alloc, &records)?;
+        let identities = group_identities(alloc, &records)?;
+        Ok(ListLook {
+            cell,
+            records: sorted_by_name(records),
+            pointers,
+            identities,
+        })
+    }
+}
+
+impl<'a> Look for ListLook<'a> {
+    ghost cell = { λ look. look };
+
+    fn known(&self) {
+        let _ = &self.cell;
+    }
+
+    fn get<L: Ledger>(&self, name: RecName, steps: &mut Steps<L>) -> Option<&Rec> {
+        steps.tick();
+        find_sorted(&self.records, name)
+    }
+
+    fn refs<L: Ledger>(&self, name: RecName, steps: &mut Steps<L>) -> &[Ref] {
+        steps.tick();
+        pointers_to(&self.pointers, name)
+    }
+
+    fn bearers<L: Ledger>(&self, foid: Lnam, steps: &mut Steps<L>) -> &[RecName] {
+        steps.tick();
+        bearers_of(&self.identities, foid)
+    }
+}
+
+// Identifiers are ordered by the numbers that they are made of.
+fn identities_are_by_parts()
+    ensures { (a b : SpecLnam) → ⟦<Lnam as Ord>⟧.cmp a b ≡ order_by identity_parts a b }
+{}
+
+fn sorted_by_name<'a>(mut records: Vec<&'a Rec>) -> Vec<&'a Rec>
+    ensures same { IsPermutation records.entry.items result.items }
+    ensures rises { IsSortedByKey (λ (r : Bor SpecRec). spec_name r.now) name_order result.items }
+{
+    orders_are_by_parts();
+    records.sort_unstable_by_key(|rec| name_of(rec));
+    records
+}
+
+fn find_sorted<'a>(records: &[&'a Rec], name: RecName) -> Option<&'a Rec>
+    requires { IsByName records.now }
+    ensures { option_copied result ≡ find (is_named name) (map (λ (r : Bor SpecRec). r.now) records.now) }
+{
+    orders_are_by_parts();
+    match records.binary_search_by_key(&name, |rec| name_of(rec)) {
+        Ok(k) => Some(records[k]),
+        Err(_) => None,
+    }
+}
+
+// The pointers of records in groups by target.
+fn group_pointers(alloc: Global, records: &[&Rec]) -> Result<Groups<RecName, Ref>, AllocError>
+    ensures { IfOk result (λ groups. (n : SpecRecName) → values_at name_order groups n ≡ ascending ref_order (flat_map (pointers_in n) (map (λ (r : Bor SpecRec). r.now) records.now))) }
+{
+    orders_are_by_parts();
+    let list = list_pointers(alloc, records)?;
+    Groups::make(alloc, list)
+}
+
+fn pointers_to(pointers: &Groups<RecName, Ref>, name: RecName) -> &[Ref]
+    ensures { result.now ≡ values_at name_order pointers.now name }
+{
+    orders_are_by_parts();
+    pointers.values_of(&name)
+}
+
+// The names of features in groups by the identifier that they bear.
+fn group_identities(alloc: Global, records: &[&Rec]) -> Result<Groups<Lnam, RecName>, AllocError>
+    ensures { IfOk result (λ groups. (l : SpecLnam) → values_at (order_by identity_parts) groups l ≡ ascending name_order (map spec_name (filter (bears l) (map (λ (r : Bor SpecRec). r.now) records.now)))) }
+{
+    orders_are_by_parts();
+    identities_are_by_parts();
+    let list = list_identities(alloc, records)?;
+    Groups::make(alloc, list)
+}
+
+fn bearers_of(identities: &Groups<Lnam, RecName>, foid: Lnam) -> &[RecName]
+    ensures { result.now ≡ values_at (order_by identity_parts) identities.now foid }
+{
+    identities_are_by_parts();
+    identities.values_of(&foid)
+}
