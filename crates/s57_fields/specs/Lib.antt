@@ -1,3 +1,4 @@
 pub mod Gives
 pub mod HeadSubfields
 pub mod RowCutting
+pub mod Units

@@ -1,21 +1,22 @@
 //! The fields of a vector record (S-57 Part 3, 7.7.1).
 
-ghost use Rattle.std.specs.Prelude.{◌≡◌, MatchOption, true, false, [], ◌∷◌};
+ghost use Rattle.std.specs.Prelude.{◌≡◌, ◌<◌, MatchOption, IfSome, true, false, [], ◌∷◌, length};
 ghost use Rattle.std.specs.Option.{option_map};
 ghost use Rattle.s57_types.specs.Subfield.{unsigned_of};
-ghost use Rattle.s57_types.specs.FieldRows.{vrid_forms};
+ghost use Rattle.s57_types.specs.FieldRows.{vrid_forms, end_forms, plane_forms, deep_forms};
 ghost use Rattle.field_spec.specs.Cutting.{field_row};
-ghost use Rattle.field_spec.specs.Contents.{end_content, plane_content, vrid_content, is_vector_rcnm, kind_of_rcnm};
+ghost use Rattle.field_spec.specs.Contents.{attribute_content, end_content, plane_content, deep_content, vrid_content, is_vector_rcnm, kind_of_rcnm, names_a_vector, any_row, end_value, plane_value, deep_value};
 ghost use Rattle.s57_fields.specs.Gives.{Gives};
+ghost use Rattle.s57_fields.specs.RowCutting.{take_row};
 
 use crate::cut::{field_body, take_i32, take_u8, take_u16, take_u32};
 use crate::refusal::FieldRefusal;
-use crate::rows::{NumberRow, read_rows};
-use s57_types::{End, Ends, Kind, Plane, RecName, Vrid};
-use std::alloc::Global;
+use crate::rows::{FieldRow, read_rows};
+use s57_types::{Attrs, Deep, End, Ends, Kind, Plane, RecName, Vrid};
+use std::alloc::{AllocError, Global};
 
 /// The kind of a vector record by its record name RCNM (S-57 Part 3, 2.2).
-fn vector_kind(rcnm: u8) -> Option<Kind>
+pub fn vector_kind(rcnm: u8) -> Option<Kind>
     ensures { MatchOption result (is_vector_rcnm rcnm ≡ false) (λ kind. (is_vector_rcnm rcnm ≡ true) × (kind ≡ kind_of_rcnm rcnm)) }
 {
     match rcnm {
@@ -55,38 +56,58 @@ pub fn read_vrid(_alloc: Global, bytes: &[u8]) -> Result<Vrid, FieldRefusal>
     Ok(Vrid { name, rver, ruin })
 }
 
-impl NumberRow for End {
-    ghost use Rattle.std.specs.Prelude.{refl};
+/// The attributes of a vector record, the field ATTV.
+#[tactic(auto, unfolding(field_spec::specs::Contents::attribute_content))]
+pub fn read_attv(alloc: Global, bytes: &[u8]) -> Result<Attrs, FieldRefusal>
+    ensures { Gives result (attribute_content 0 bytes.now) }
+{
+    read_rows(alloc, 0, bytes)
+}
+
+/// A pointer as it was cut: the record's name, and ORNT, USAG, TOPI and MASK.
+fn cut_end(bytes: &[u8]) -> Option<(End, &[u8])>
+    ensures cut { option_map (λ x. (x.0, true, x.1.now)) result ≡ take_row end_forms names_a_vector end_value bytes.now }
+    ensures shorter { IfSome result (λ x. length x.1.now < length bytes.now) }
+{
+    let (rcnm, rest) = take_u8(bytes)?;
+    let (id, rest) = take_u32(rest)?;
+    let (ornt, rest) = take_u8(rest)?;
+    let (usag, rest) = take_u8(rest)?;
+    let (topi, rest) = take_u8(rest)?;
+    let (mask, rest) = take_u8(rest)?;
+    let kind = vector_kind(rcnm)?;
+    let to = RecName { kind, id };
+    Some((
+        End {
+            to,
+            ornt,
+            usag,
+            topi,
+            mask,
+        },
+        rest,
+    ))
+}
+
+impl FieldRow for End {
     ghost use Rattle.s57_types.specs.FieldRows.{end_forms};
     ghost use Rattle.field_spec.specs.Contents.{names_a_vector, end_value};
 
-    ghost forms = { end_forms };
+    ghost forms = { λ level. end_forms };
 
     ghost good = { names_a_vector };
 
     ghost value = { end_value };
 
-    ghost numbers = { refl };
-
-    fn take_front(bytes: &[u8]) -> Option<(End, &[u8])> {
-        let (rcnm, rest) = take_u8(bytes)?;
-        let (id, rest) = take_u32(rest)?;
-        let (ornt, rest) = take_u8(rest)?;
-        let (usag, rest) = take_u8(rest)?;
-        let (topi, rest) = take_u8(rest)?;
-        let (mask, rest) = take_u8(rest)?;
-        let kind = vector_kind(rcnm)?;
-        let to = RecName { kind, id };
-        Some((
-            End {
-                to,
-                ornt,
-                usag,
-                topi,
-                mask,
-            },
-            rest,
-        ))
+    fn take_front(
+        _alloc: Global,
+        _level: u8,
+        bytes: &[u8],
+    ) -> Result<Option<(End, bool, &[u8])>, AllocError> {
+        let Some((end, rest)) = cut_end(bytes) else {
+            return Ok(None);
+        };
+        Ok(Some((end, true, rest)))
     }
 }
 
@@ -95,26 +116,37 @@ impl NumberRow for End {
 pub fn read_vrpt(alloc: Global, bytes: &[u8]) -> Result<Ends, FieldRefusal>
     ensures { Gives result (end_content bytes.now) }
 {
-    read_rows(alloc, bytes)
+    read_rows(alloc, 0, bytes)
 }
 
-impl NumberRow for (i32, i32) {
-    ghost use Rattle.std.specs.Prelude.{refl};
+fn cut_plane(bytes: &[u8]) -> Option<((i32, i32), &[u8])>
+    ensures cut { option_map (λ x. (x.0, true, x.1.now)) result ≡ take_row plane_forms any_row plane_value bytes.now }
+    ensures shorter { IfSome result (λ x. length x.1.now < length bytes.now) }
+{
+    let (y, rest) = take_i32(bytes)?;
+    let (x, rest) = take_i32(rest)?;
+    Some(((y, x), rest))
+}
+
+impl FieldRow for (i32, i32) {
     ghost use Rattle.s57_types.specs.FieldRows.{plane_forms};
     ghost use Rattle.field_spec.specs.Contents.{any_row, plane_value};
 
-    ghost forms = { plane_forms };
+    ghost forms = { λ level. plane_forms };
 
     ghost good = { any_row };
 
     ghost value = { plane_value };
 
-    ghost numbers = { refl };
-
-    fn take_front(bytes: &[u8]) -> Option<((i32, i32), &[u8])> {
-        let (y, rest) = take_i32(bytes)?;
-        let (x, rest) = take_i32(rest)?;
-        Some(((y, x), rest))
+    fn take_front(
+        _alloc: Global,
+        _level: u8,
+        bytes: &[u8],
+    ) -> Result<Option<((i32, i32), bool, &[u8])>, AllocError> {
+        let Some((point, rest)) = cut_plane(bytes) else {
+            return Ok(None);
+        };
+        Ok(Some((point, true, rest)))
     }
 }
 
@@ -123,5 +155,45 @@ impl NumberRow for (i32, i32) {
 pub fn read_sg2d(alloc: Global, bytes: &[u8]) -> Result<Plane, FieldRefusal>
     ensures { Gives result (plane_content bytes.now) }
 {
-    read_rows(alloc, bytes)
+    read_rows(alloc, 0, bytes)
+}
+
+fn cut_deep(bytes: &[u8]) -> Option<((i32, i32, i32), &[u8])>
+    ensures cut { option_map (λ x. (x.0, true, x.1.now)) result ≡ take_row deep_forms any_row deep_value bytes.now }
+    ensures shorter { IfSome result (λ x. length x.1.now < length bytes.now) }
+{
+    let (y, rest) = take_i32(bytes)?;
+    let (x, rest) = take_i32(rest)?;
+    let (depth, rest) = take_i32(rest)?;
+    Some(((y, x, depth), rest))
+}
+
+impl FieldRow for (i32, i32, i32) {
+    ghost use Rattle.s57_types.specs.FieldRows.{deep_forms};
+    ghost use Rattle.field_spec.specs.Contents.{any_row, deep_value};
+
+    ghost forms = { λ level. deep_forms };
+
+    ghost good = { any_row };
+
+    ghost value = { deep_value };
+
+    fn take_front(
+        _alloc: Global,
+        _level: u8,
+        bytes: &[u8],
+    ) -> Result<Option<((i32, i32, i32), bool, &[u8])>, AllocError> {
+        let Some((sounding, rest)) = cut_deep(bytes) else {
+            return Ok(None);
+        };
+        Ok(Some((sounding, true, rest)))
+    }
+}
+
+/// The soundings of a vector record, the field SG3D: latitude, longitude and depth, in integer units.
+#[tactic(auto, unfolding(field_spec::specs::Contents::deep_content))]
+pub fn read_sg3d(alloc: Global, bytes: &[u8]) -> Result<Deep, FieldRefusal>
+    ensures { Gives result (deep_content bytes.now) }
+{
+    read_rows(alloc, 0, bytes)
 }

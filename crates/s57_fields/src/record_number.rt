@@ -1,0 +1,29 @@
+//! The field 0001, which each data record begins with (S-57 Part 3, 7.2.1).
+
+ghost use Rattle.std.specs.Prelude.{◌≡◌, MatchOption, Ok, Err};
+ghost use Rattle.field_spec.specs.declared.fault.FieldFault.TheVariants.{BadField};
+ghost use Rattle.field_spec.specs.Contents.{number_content};
+ghost use Rattle.s57_fields.specs.Gives.{Gives};
+
+use crate::cut::{field_body, take_u16};
+use crate::refusal::FieldRefusal;
+use std::alloc::Global;
+
+/// The record number, or None where the field is bad.
+#[tactic(auto, unfolding(field_spec::specs::Contents::number_content))]
+fn number_of(bytes: &[u8]) -> Option<u16>
+    ensures { MatchOption result (number_content bytes.now ≡ Err BadField) (λ number. number_content bytes.now ≡ Ok number) }
+{
+    let (number, rest) = take_u16(field_body(bytes)?)?;
+    if !rest.is_empty() {
+        return None;
+    }
+    Some(number)
+}
+
+/// The record number, the field 0001. It takes no memory.
+pub fn read_0001(_alloc: Global, bytes: &[u8]) -> Result<u16, FieldRefusal>
+    ensures { Gives result (number_content bytes.now) }
+{
+    number_of(bytes).ok_or(FieldRefusal::BadField)
+}
