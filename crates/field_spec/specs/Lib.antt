@@ -1,3 +1,4 @@
 pub mod Cutting
 pub mod FieldContent
 pub mod Contents
+pub mod FieldBytes

@@ -2,3 +2,4 @@ pub mod Gives
 pub mod HeadSubfields
 pub mod RowCutting
 pub mod Units
+pub mod Spelling

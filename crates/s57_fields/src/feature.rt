@@ -1,20 +1,23 @@
 //! The fields of a feature record (S-57 Part 3, 7.6).
 
-ghost use Rattle.std.specs.Prelude.{◌≡◌, ◌<◌, MatchOption, IfSome, true, Ok, Err, [], ◌∷◌, length};
+ghost use Rattle.std.specs.Prelude.{◌≡◌, ◌<◌, ◌++◌, MatchOption, IfSome, OnOk, OnErr, true, Ok, Err, [], ◌∷◌, length};
 ghost use Rattle.std.specs.Option.{option_map};
 ghost use Rattle.s57_types.specs.Subfield.{unsigned_of, text_of};
-ghost use Rattle.s57_types.specs.FieldRows.{attribute_forms, partner_forms, place_forms, foid_forms, foid_row, level_text};
+ghost use Rattle.s57_types.specs.FieldRows.{attribute_forms, partner_forms, place_forms, foid_forms, foid_row, frid_row, attribute_row, partner_row, place_row, level_text};
 ghost use Rattle.field_spec.specs.declared.fault.FieldFault.TheVariants.{BadField};
 ghost use Rattle.field_spec.specs.Cutting.{cut_row};
 ghost use Rattle.field_spec.specs.Contents.{frid_content, foid_content, attribute_content, partner_content, place_content, names_a_vector, place_value};
+ghost use Rattle.field_spec.specs.FieldBytes.{field_bytes, rows_bytes};
 ghost use Rattle.s57_fields.specs.Gives.{Gives};
 ghost use Rattle.s57_fields.specs.RowCutting.{take_row};
 
 use crate::cut::{field_body, take_text, take_u8, take_u16, take_u32};
 use crate::refusal::FieldRefusal;
 use crate::rows::{FieldRow, read_rows};
-use crate::text::{is_plain_level_text, is_plain_text, owned_text, take_level_text};
-use crate::vector::vector_kind;
+use crate::spell::{Value, put_row};
+use crate::text::{WIDE_LEVEL, is_plain_level_text, is_plain_text, owned_text, take_level_text};
+use crate::vector::{rcnm_of, vector_kind};
+use crate::write::{write_row, write_rows};
 use s57_types::{Attr, Attrs, Frid, Lnam, Partner, Partners, Places, RecName, Spot};
 use std::alloc::{AllocError, Global};
 
@@ -53,6 +56,25 @@ pub fn read_frid(_alloc: Global, bytes: &[u8]) -> Result<Frid, FieldRefusal>
     frid_of(bytes).ok_or(FieldRefusal::BadField)
 }
 
+/// Appends the identifier of a feature record, the field FRID.
+///
+/// An `Err` is want of memory, and leaves the bytes as they were.
+pub fn write_frid(alloc: Global, value: &Frid, out: &mut Vec<u8>) -> Result<(), AllocError>
+    ensures ok { OnOk result (out.new.items ≡ out.old.items ++ field_bytes (frid_row value.now)) }
+    ensures err { OnErr result (out.new.items ≡ out.old.items) }
+{
+    let row = [
+        Value::Byte(FEATURE_RCNM),
+        Value::Long(value.rcid),
+        Value::Byte(value.prim),
+        Value::Byte(value.grup),
+        Value::Short(value.objl),
+        Value::Short(value.rver),
+        Value::Byte(value.ruin),
+    ];
+    write_row(alloc, &row, out)
+}
+
 /// A long name LNAM: AGEN, FIDN and FIDS, and the bytes after it.
 fn take_lnam(bytes: &[u8]) -> Option<(Lnam, &[u8])>
     ensures cut { option_map (λ x. (foid_row x.0, x.1.now)) result ≡ cut_row foid_forms bytes.now }
@@ -83,6 +105,21 @@ pub fn read_foid(_alloc: Global, bytes: &[u8]) -> Result<Lnam, FieldRefusal>
     foid_of(bytes).ok_or(FieldRefusal::BadField)
 }
 
+/// Appends the identifier of a feature object, the field FOID.
+///
+/// An `Err` is want of memory, and leaves the bytes as they were.
+pub fn write_foid(alloc: Global, value: &Lnam, out: &mut Vec<u8>) -> Result<(), AllocError>
+    ensures ok { OnOk result (out.new.items ≡ out.old.items ++ field_bytes (foid_row value.now)) }
+    ensures err { OnErr result (out.new.items ≡ out.old.items) }
+{
+    let row = [
+        Value::Short(value.agen),
+        Value::Long(value.fidn),
+        Value::Short(value.fids),
+    ];
+    write_row(alloc, &row, out)
+}
+
 /// An attribute as it was cut: its code ATTL and its value ATVL at a lexical level.
 fn cut_attribute(level: u8, bytes: &[u8]) -> Option<(u16, &[u8], &[u8])>
     ensures cut { option_map (λ x. (unsigned_of 2 x.0 ∷ level_text level x.1.now ∷ [], x.2.now)) result ≡ cut_row (attribute_forms level) bytes.now }
@@ -94,7 +131,7 @@ fn cut_attribute(level: u8, bytes: &[u8]) -> Option<(u16, &[u8], &[u8])>
 }
 
 impl FieldRow for Attr {
-    ghost use Rattle.s57_types.specs.FieldRows.{attribute_forms};
+    ghost use Rattle.s57_types.specs.FieldRows.{attribute_forms, attribute_row};
     ghost use Rattle.field_spec.specs.Contents.{any_row, attribute_value};
 
     ghost forms = { attribute_forms };
@@ -102,6 +139,8 @@ impl FieldRow for Attr {
     ghost good = { any_row };
 
     ghost value = { attribute_value };
+
+    ghost subfields = { λ level x. attribute_row level x };
 
     fn take_front(
         alloc: Global,
@@ -115,6 +154,16 @@ impl FieldRow for Attr {
         let value = owned_text(alloc, text)?;
         Ok(Some((Attr { code, value }, is_plain, rest)))
     }
+
+    fn put(&self, level: u8, out: &mut Vec<u8>) -> Result<(), AllocError> {
+        let text = self.value.as_slice();
+        let value = if level == WIDE_LEVEL {
+            Value::WideText(text)
+        } else {
+            Value::Text(text)
+        };
+        put_row(&[Value::Short(self.code), value], out)
+    }
 }
 
 /// The attributes of a feature record, the field ATTF.
@@ -125,12 +174,41 @@ pub fn read_attf(alloc: Global, bytes: &[u8]) -> Result<Attrs, FieldRefusal>
     read_rows(alloc, 0, bytes)
 }
 
+/// Appends the attributes of a feature record, the field ATTF.
+///
+/// An `Err` is want of memory, and leaves the bytes as they were.
+pub fn write_attf(
+    alloc: Global,
+    value: &Attrs,
+    out: &mut Vec<u8>,
+) -> Result<(), AllocError>
+    ensures ok { OnOk result (out.new.items ≡ out.old.items ++ rows_bytes 0 (attribute_row 0) value.now) }
+    ensures err { OnErr result (out.new.items ≡ out.old.items) }
+{
+    write_rows(alloc, 0, value, out)
+}
+
 /// The national attributes of a feature record, the field NATF, at the lexical level NALL.
 #[tactic(auto, unfolding(field_spec::specs::Contents::attribute_content))]
 pub fn read_natf(alloc: Global, nall: u8, bytes: &[u8]) -> Result<Attrs, FieldRefusal>
     ensures { Gives result (attribute_content nall bytes.now) }
 {
     read_rows(alloc, nall, bytes)
+}
+
+/// Appends the national attributes of a feature record, the field NATF, at the lexical level NALL.
+///
+/// An `Err` is want of memory, and leaves the bytes as they were.
+pub fn write_natf(
+    alloc: Global,
+    nall: u8,
+    value: &Attrs,
+    out: &mut Vec<u8>,
+) -> Result<(), AllocError>
+    ensures ok { OnOk result (out.new.items ≡ out.old.items ++ rows_bytes nall (attribute_row nall) value.now) }
+    ensures err { OnErr result (out.new.items ≡ out.old.items) }
+{
+    write_rows(alloc, nall, value, out)
 }
 
 /// A pointer to a feature object as it was cut: LNAM, RIND and COMT.
@@ -147,7 +225,7 @@ fn cut_partner(bytes: &[u8]) -> Option<(Lnam, u8, &[u8], &[u8])>
 }
 
 impl FieldRow for Partner {
-    ghost use Rattle.s57_types.specs.FieldRows.{partner_forms};
+    ghost use Rattle.s57_types.specs.FieldRows.{partner_forms, partner_row};
     ghost use Rattle.field_spec.specs.Contents.{any_row, partner_value};
 
     ghost forms = { λ level. partner_forms };
@@ -155,6 +233,8 @@ impl FieldRow for Partner {
     ghost good = { any_row };
 
     ghost value = { partner_value };
+
+    ghost subfields = { λ level x. partner_row x };
 
     fn take_front(
         alloc: Global,
@@ -168,6 +248,17 @@ impl FieldRow for Partner {
         let comt = owned_text(alloc, text)?;
         Ok(Some((Partner { to, rind, comt }, is_plain, rest)))
     }
+
+    fn put(&self, _level: u8, out: &mut Vec<u8>) -> Result<(), AllocError> {
+        let row = [
+            Value::Short(self.to.agen),
+            Value::Long(self.to.fidn),
+            Value::Short(self.to.fids),
+            Value::Byte(self.rind),
+            Value::Text(self.comt.as_slice()),
+        ];
+        put_row(&row, out)
+    }
 }
 
 /// The pointers of a feature record to feature objects, the field FFPT.
@@ -176,6 +267,20 @@ pub fn read_ffpt(alloc: Global, bytes: &[u8]) -> Result<Partners, FieldRefusal>
     ensures { Gives result (partner_content bytes.now) }
 {
     read_rows(alloc, 0, bytes)
+}
+
+/// Appends the pointers of a feature record to feature objects, the field FFPT.
+///
+/// An `Err` is want of memory, and leaves the bytes as they were.
+pub fn write_ffpt(
+    alloc: Global,
+    value: &Partners,
+    out: &mut Vec<u8>,
+) -> Result<(), AllocError>
+    ensures ok { OnOk result (out.new.items ≡ out.old.items ++ rows_bytes 0 partner_row value.now) }
+    ensures err { OnErr result (out.new.items ≡ out.old.items) }
+{
+    write_rows(alloc, 0, value, out)
 }
 
 /// A pointer to a vector record as it was cut: the record's name, and ORNT, USAG and MASK.
@@ -202,7 +307,7 @@ fn cut_place(bytes: &[u8]) -> Option<(Spot, &[u8])>
 }
 
 impl FieldRow for Spot {
-    ghost use Rattle.s57_types.specs.FieldRows.{place_forms};
+    ghost use Rattle.s57_types.specs.FieldRows.{place_forms, place_row};
     ghost use Rattle.field_spec.specs.Contents.{names_a_vector, place_value};
 
     ghost forms = { λ level. place_forms };
@@ -210,6 +315,8 @@ impl FieldRow for Spot {
     ghost good = { names_a_vector };
 
     ghost value = { place_value };
+
+    ghost subfields = { λ level x. place_row x };
 
     fn take_front(
         _alloc: Global,
@@ -221,6 +328,17 @@ impl FieldRow for Spot {
         };
         Ok(Some((spot, true, rest)))
     }
+
+    fn put(&self, _level: u8, out: &mut Vec<u8>) -> Result<(), AllocError> {
+        let row = [
+            Value::Byte(rcnm_of(self.to.kind)),
+            Value::Long(self.to.id),
+            Value::Byte(self.ornt),
+            Value::Byte(self.usag),
+            Value::Byte(self.mask),
+        ];
+        put_row(&row, out)
+    }
 }
 
 /// The pointers of a feature record to vector records, the field FSPT.
@@ -229,4 +347,18 @@ pub fn read_fspt(alloc: Global, bytes: &[u8]) -> Result<Places, FieldRefusal>
     ensures { Gives result (place_content bytes.now) }
 {
     read_rows(alloc, 0, bytes)
+}
+
+/// Appends the pointers of a feature record to vector records, the field FSPT.
+///
+/// An `Err` is want of memory, and leaves the bytes as they were.
+pub fn write_fspt(
+    alloc: Global,
+    value: &Places,
+    out: &mut Vec<u8>,
+) -> Result<(), AllocError>
+    ensures ok { OnOk result (out.new.items ≡ out.old.items ++ rows_bytes 0 place_row value.now) }
+    ensures err { OnErr result (out.new.items ≡ out.old.items) }
+{
+    write_rows(alloc, 0, value, out)
 }

@@ -1,8 +1,8 @@
 //! Fields whose row repeats.
 
-ghost use Rattle.std.specs.Prelude.{◌≡◌, ◌<◌, Bool, List, ℕ, length, IfOk, IfSome};
+ghost use Rattle.std.specs.Prelude.{◌≡◌, ◌<◌, ◌++◌, Bool, List, ℕ, length, IfOk, IfSome, OnOk};
 ghost use Rattle.std.specs.Option.{option_map};
-ghost use Rattle.s57_types.specs.Subfield.{Form, Subfield};
+ghost use Rattle.s57_types.specs.Subfield.{Form, Subfield, row_bytes};
 ghost use Rattle.field_spec.specs.Contents.{rows_as};
 ghost use Rattle.s57_fields.specs.Gives.{Gives};
 ghost use Rattle.s57_fields.specs.RowCutting.{take_row, rows_from, content_of_rows};
@@ -23,14 +23,21 @@ pub trait FieldRow: Drop + Sized {
     /// The value of a row.
     ghost value: { List Subfield → Self };
 
+    /// The subfields of a value, at a lexical level.
+    ghost subfields: { ℕ → Self → List Subfield };
+
     /// The row with which bytes begin, whether its texts are plain, and the bytes after it.
     fn take_front(
         alloc: Global,
         level: u8,
         bytes: &[u8],
     ) -> Result<Option<(Self, bool, &[u8])>, AllocError>
-        ensures row { IfOk result (λ front. option_map (λ x. (x.0, x.1, x.2.now)) front ≡ take_row (forms level) good value bytes.now) }
+        ensures cut { IfOk result (λ front. option_map (λ x. (x.0, x.1, x.2.now)) front ≡ take_row (forms level) good value bytes.now) }
         ensures shorter { IfOk result (λ front. IfSome front (λ x. length x.2.now < length bytes.now)) };
+
+    /// Appends the subfields of a row.
+    fn put(&self, level: u8, out: &mut Vec<u8>) -> Result<(), AllocError>
+        ensures { OnOk result (out.new.items ≡ out.old.items ++ row_bytes (subfields level self.now)) };
 }
 
 /// The rows of a field.

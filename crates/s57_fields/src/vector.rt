@@ -1,17 +1,20 @@
 //! The fields of a vector record (S-57 Part 3, 7.7.1).
 
-ghost use Rattle.std.specs.Prelude.{◌≡◌, ◌<◌, MatchOption, IfSome, true, false, [], ◌∷◌, length};
+ghost use Rattle.std.specs.Prelude.{◌≡◌, ◌<◌, ◌++◌, MatchOption, IfSome, OnOk, OnErr, true, false, [], ◌∷◌, length};
 ghost use Rattle.std.specs.Option.{option_map};
 ghost use Rattle.s57_types.specs.Subfield.{unsigned_of};
-ghost use Rattle.s57_types.specs.FieldRows.{vrid_forms, end_forms, plane_forms, deep_forms};
+ghost use Rattle.s57_types.specs.FieldRows.{vrid_forms, end_forms, plane_forms, deep_forms, attribute_row, end_row, plane_row, deep_row, vrid_row, rcnm_of as rcnm_number};
 ghost use Rattle.field_spec.specs.Cutting.{field_row};
 ghost use Rattle.field_spec.specs.Contents.{attribute_content, end_content, plane_content, deep_content, vrid_content, is_vector_rcnm, kind_of_rcnm, names_a_vector, any_row, end_value, plane_value, deep_value};
+ghost use Rattle.field_spec.specs.FieldBytes.{field_bytes, rows_bytes};
 ghost use Rattle.s57_fields.specs.Gives.{Gives};
 ghost use Rattle.s57_fields.specs.RowCutting.{take_row};
 
 use crate::cut::{field_body, take_i32, take_u8, take_u16, take_u32};
 use crate::refusal::FieldRefusal;
 use crate::rows::{FieldRow, read_rows};
+use crate::spell::{Value, put_row};
+use crate::write::{write_row, write_rows};
 use s57_types::{Attrs, Deep, End, Ends, Kind, Plane, RecName, Vrid};
 use std::alloc::{AllocError, Global};
 
@@ -24,6 +27,18 @@ pub fn vector_kind(rcnm: u8) -> Option<Kind>
         120 => Some(Kind::Vc),
         130 => Some(Kind::Ve),
         _ => None,
+    }
+}
+
+/// The record name RCNM of a kind (S-57 Part 3, 2.2).
+pub fn rcnm_of(kind: Kind) -> u8
+    ensures { result ≡ rcnm_number kind }
+{
+    match kind {
+        Kind::Vi => 110,
+        Kind::Vc => 120,
+        Kind::Ve => 130,
+        Kind::Fe => 100,
     }
 }
 
@@ -56,12 +71,42 @@ pub fn read_vrid(_alloc: Global, bytes: &[u8]) -> Result<Vrid, FieldRefusal>
     Ok(Vrid { name, rver, ruin })
 }
 
+/// Appends the identifier of a vector record, the field VRID.
+///
+/// An `Err` is want of memory, and leaves the bytes as they were.
+pub fn write_vrid(alloc: Global, value: &Vrid, out: &mut Vec<u8>) -> Result<(), AllocError>
+    ensures ok { OnOk result (out.new.items ≡ out.old.items ++ field_bytes (vrid_row value.now)) }
+    ensures err { OnErr result (out.new.items ≡ out.old.items) }
+{
+    let row = [
+        Value::Byte(rcnm_of(value.name.kind)),
+        Value::Long(value.name.id),
+        Value::Short(value.rver),
+        Value::Byte(value.ruin),
+    ];
+    write_row(alloc, &row, out)
+}
+
 /// The attributes of a vector record, the field ATTV.
 #[tactic(auto, unfolding(field_spec::specs::Contents::attribute_content))]
 pub fn read_attv(alloc: Global, bytes: &[u8]) -> Result<Attrs, FieldRefusal>
     ensures { Gives result (attribute_content 0 bytes.now) }
 {
     read_rows(alloc, 0, bytes)
+}
+
+/// Appends the attributes of a vector record, the field ATTV.
+///
+/// An `Err` is want of memory, and leaves the bytes as they were.
+pub fn write_attv(
+    alloc: Global,
+    value: &Attrs,
+    out: &mut Vec<u8>,
+) -> Result<(), AllocError>
+    ensures ok { OnOk result (out.new.items ≡ out.old.items ++ rows_bytes 0 (attribute_row 0) value.now) }
+    ensures err { OnErr result (out.new.items ≡ out.old.items) }
+{
+    write_rows(alloc, 0, value, out)
 }
 
 /// A pointer as it was cut: the record's name, and ORNT, USAG, TOPI and MASK.
@@ -90,7 +135,7 @@ fn cut_end(bytes: &[u8]) -> Option<(End, &[u8])>
 }
 
 impl FieldRow for End {
-    ghost use Rattle.s57_types.specs.FieldRows.{end_forms};
+    ghost use Rattle.s57_types.specs.FieldRows.{end_forms, end_row};
     ghost use Rattle.field_spec.specs.Contents.{names_a_vector, end_value};
 
     ghost forms = { λ level. end_forms };
@@ -98,6 +143,8 @@ impl FieldRow for End {
     ghost good = { names_a_vector };
 
     ghost value = { end_value };
+
+    ghost subfields = { λ level x. end_row x };
 
     fn take_front(
         _alloc: Global,
@@ -109,6 +156,18 @@ impl FieldRow for End {
         };
         Ok(Some((end, true, rest)))
     }
+
+    fn put(&self, _level: u8, out: &mut Vec<u8>) -> Result<(), AllocError> {
+        let row = [
+            Value::Byte(rcnm_of(self.to.kind)),
+            Value::Long(self.to.id),
+            Value::Byte(self.ornt),
+            Value::Byte(self.usag),
+            Value::Byte(self.topi),
+            Value::Byte(self.mask),
+        ];
+        put_row(&row, out)
+    }
 }
 
 /// The pointers of a vector record, the field VRPT.
@@ -117,6 +176,20 @@ pub fn read_vrpt(alloc: Global, bytes: &[u8]) -> Result<Ends, FieldRefusal>
     ensures { Gives result (end_content bytes.now) }
 {
     read_rows(alloc, 0, bytes)
+}
+
+/// Appends the pointers of a vector record, the field VRPT.
+///
+/// An `Err` is want of memory, and leaves the bytes as they were.
+pub fn write_vrpt(
+    alloc: Global,
+    value: &Ends,
+    out: &mut Vec<u8>,
+) -> Result<(), AllocError>
+    ensures ok { OnOk result (out.new.items ≡ out.old.items ++ rows_bytes 0 end_row value.now) }
+    ensures err { OnErr result (out.new.items ≡ out.old.items) }
+{
+    write_rows(alloc, 0, value, out)
 }
 
 fn cut_plane(bytes: &[u8]) -> Option<((i32, i32), &[u8])>
@@ -129,7 +202,7 @@ fn cut_plane(bytes: &[u8]) -> Option<((i32, i32), &[u8])>
 }
 
 impl FieldRow for (i32, i32) {
-    ghost use Rattle.s57_types.specs.FieldRows.{plane_forms};
+    ghost use Rattle.s57_types.specs.FieldRows.{plane_forms, plane_row};
     ghost use Rattle.field_spec.specs.Contents.{any_row, plane_value};
 
     ghost forms = { λ level. plane_forms };
@@ -137,6 +210,8 @@ impl FieldRow for (i32, i32) {
     ghost good = { any_row };
 
     ghost value = { plane_value };
+
+    ghost subfields = { λ level x. plane_row x };
 
     fn take_front(
         _alloc: Global,
@@ -148,6 +223,10 @@ impl FieldRow for (i32, i32) {
         };
         Ok(Some((point, true, rest)))
     }
+
+    fn put(&self, _level: u8, out: &mut Vec<u8>) -> Result<(), AllocError> {
+        put_row(&[Value::Signed(self.0), Value::Signed(self.1)], out)
+    }
 }
 
 /// The 2-D coordinates of a vector record, the field SG2D: latitude first, in integer coordinate units.
@@ -156,6 +235,20 @@ pub fn read_sg2d(alloc: Global, bytes: &[u8]) -> Result<Plane, FieldRefusal>
     ensures { Gives result (plane_content bytes.now) }
 {
     read_rows(alloc, 0, bytes)
+}
+
+/// Appends the 2-D coordinates of a vector record, the field SG2D.
+///
+/// An `Err` is want of memory, and leaves the bytes as they were.
+pub fn write_sg2d(
+    alloc: Global,
+    value: &Plane,
+    out: &mut Vec<u8>,
+) -> Result<(), AllocError>
+    ensures ok { OnOk result (out.new.items ≡ out.old.items ++ rows_bytes 0 plane_row value.now) }
+    ensures err { OnErr result (out.new.items ≡ out.old.items) }
+{
+    write_rows(alloc, 0, value, out)
 }
 
 fn cut_deep(bytes: &[u8]) -> Option<((i32, i32, i32), &[u8])>
@@ -169,7 +262,7 @@ fn cut_deep(bytes: &[u8]) -> Option<((i32, i32, i32), &[u8])>
 }
 
 impl FieldRow for (i32, i32, i32) {
-    ghost use Rattle.s57_types.specs.FieldRows.{deep_forms};
+    ghost use Rattle.s57_types.specs.FieldRows.{deep_forms, deep_row};
     ghost use Rattle.field_spec.specs.Contents.{any_row, deep_value};
 
     ghost forms = { λ level. deep_forms };
@@ -177,6 +270,8 @@ impl FieldRow for (i32, i32, i32) {
     ghost good = { any_row };
 
     ghost value = { deep_value };
+
+    ghost subfields = { λ level x. deep_row x };
 
     fn take_front(
         _alloc: Global,
@@ -188,6 +283,15 @@ impl FieldRow for (i32, i32, i32) {
         };
         Ok(Some((sounding, true, rest)))
     }
+
+    fn put(&self, _level: u8, out: &mut Vec<u8>) -> Result<(), AllocError> {
+        let row = [
+            Value::Signed(self.0),
+            Value::Signed(self.1),
+            Value::Signed(self.2),
+        ];
+        put_row(&row, out)
+    }
 }
 
 /// The soundings of a vector record, the field SG3D: latitude, longitude and depth, in integer units.
@@ -196,4 +300,18 @@ pub fn read_sg3d(alloc: Global, bytes: &[u8]) -> Result<Deep, FieldRefusal>
     ensures { Gives result (deep_content bytes.now) }
 {
     read_rows(alloc, 0, bytes)
+}
+
+/// Appends the soundings of a vector record, the field SG3D.
+///
+/// An `Err` is want of memory, and leaves the bytes as they were.
+pub fn write_sg3d(
+    alloc: Global,
+    value: &Deep,
+    out: &mut Vec<u8>,
+) -> Result<(), AllocError>
+    ensures ok { OnOk result (out.new.items ≡ out.old.items ++ rows_bytes 0 deep_row value.now) }
+    ensures err { OnErr result (out.new.items ≡ out.old.items) }
+{
+    write_rows(alloc, 0, value, out)
 }
