@@ -1,1 +1,3 @@
 pub mod CutRows
+pub mod Spelled
+pub mod FieldsSpelled

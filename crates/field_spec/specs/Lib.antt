@@ -2,3 +2,4 @@ pub mod Cutting
 pub mod FieldContent
 pub mod Contents
 pub mod FieldBytes
+pub mod FieldFit
