@@ -1,3 +1,4 @@
 pub mod CutRows
 pub mod Spelled
 pub mod FieldsSpelled
+pub mod CutBack
