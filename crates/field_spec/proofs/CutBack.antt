@@ -18,7 +18,7 @@ use Rattle.field_spec.specs.FieldContent.{IsRow}
 abbrev pub AreBytes : List ℕ → Type 0
 AreBytes = AllByRecursion (λ b. b < 256)
 
-AreBytes-append : (xs ys : List ℕ) → AreBytes (xs ++ ys) → AreBytes xs × AreBytes ys
+pub AreBytes-append : (xs ys : List ℕ) → AreBytes (xs ++ ys) → AreBytes xs × AreBytes ys
 AreBytes-append [] ys all = (tt, all)
 AreBytes-append (x ∷ xs) ys all = let later = AreBytes-append xs ys all.1 in ((all.0, later.0), later.1)
 
@@ -79,11 +79,11 @@ pub record IsFront (form : Form) (b : List ℕ) (x : Subfield × List ℕ) : Typ
   pub fits : IsSubfield x.0
 
 -- what was made of a value that was there
-mapped_back : {A B : Type 0} (f : A → B) (P : B → Type 0) (o : Option A) (y : B) → option_map f o ≡ Some y → ((x : A) → o ≡ Some x → P (f x)) → P y
+pub mapped_back : {A B : Type 0} (f : A → B) (P : B → Type 0) (o : Option A) (y : B) → option_map f o ≡ Some y → ((x : A) → o ≡ Some x → P (f x)) → P y
 mapped_back f P None y e each = absurd cc
 mapped_back f P (Some x) y e each = let same : f x ≡ y = cc in subst P same (each x refl)
 
-bound_back : {A B : Type 0} (f : A → Option B) (P : Type 0) (o : Option A) (y : B) → option_and_then f o ≡ Some y → ((x : A) → o ≡ Some x → f x ≡ Some y → P) → P
+pub bound_back : {A B : Type 0} (f : A → Option B) (P : Type 0) (o : Option A) (y : B) → option_and_then f o ≡ Some y → ((x : A) → o ≡ Some x → f x ≡ Some y → P) → P
 bound_back f P None y e each = absurd cc
 bound_back f P (Some x) y e each = each x refl e
 

@@ -28,6 +28,11 @@ is_even (fixed n) = n % 2 == 0
 abbrev pub fits_level : ℕ → List Form → Bool
 fits_level level forms = if level == 2 then list_all is_even forms else true
 
+-- a field whose row has these forms can be cut into its rows at a lexical level
+pub record CanRepeat (level : ℕ) (forms : List Form) : Type 0 where
+  pub takes : has_bytes forms ≡ true
+  pub fits : fits_level level forms ≡ true
+
 -- a row of these forms with no control byte in its texts
 pub record IsFit (forms : List Form) (row : List Subfield) : Type 0 where
   pub is_row : IsRow forms row
