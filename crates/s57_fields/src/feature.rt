@@ -177,11 +177,7 @@ pub fn read_attf(alloc: Global, bytes: &[u8]) -> Result<Attrs, FieldRefusal>
 /// Appends the attributes of a feature record, the field ATTF.
 ///
 /// An `Err` is want of memory, and leaves the bytes as they were.
-pub fn write_attf(
-    alloc: Global,
-    value: &Attrs,
-    out: &mut Vec<u8>,
-) -> Result<(), AllocError>
+pub fn write_attf(alloc: Global, value: &Attrs, out: &mut Vec<u8>) -> Result<(), AllocError>
     ensures ok { OnOk result (out.new.items ≡ out.old.items ++ rows_bytes 0 (attribute_row 0) value.now) }
     ensures err { OnErr result (out.new.items ≡ out.old.items) }
 {
@@ -272,11 +268,7 @@ pub fn read_ffpt(alloc: Global, bytes: &[u8]) -> Result<Partners, FieldRefusal>
 /// Appends the pointers of a feature record to feature objects, the field FFPT.
 ///
 /// An `Err` is want of memory, and leaves the bytes as they were.
-pub fn write_ffpt(
-    alloc: Global,
-    value: &Partners,
-    out: &mut Vec<u8>,
-) -> Result<(), AllocError>
+pub fn write_ffpt(alloc: Global, value: &Partners, out: &mut Vec<u8>) -> Result<(), AllocError>
     ensures ok { OnOk result (out.new.items ≡ out.old.items ++ rows_bytes 0 partner_row value.now) }
     ensures err { OnErr result (out.new.items ≡ out.old.items) }
 {
@@ -352,11 +344,7 @@ pub fn read_fspt(alloc: Global, bytes: &[u8]) -> Result<Places, FieldRefusal>
 /// Appends the pointers of a feature record to vector records, the field FSPT.
 ///
 /// An `Err` is want of memory, and leaves the bytes as they were.
-pub fn write_fspt(
-    alloc: Global,
-    value: &Places,
-    out: &mut Vec<u8>,
-) -> Result<(), AllocError>
+pub fn write_fspt(alloc: Global, value: &Places, out: &mut Vec<u8>) -> Result<(), AllocError>
     ensures ok { OnOk result (out.new.items ≡ out.old.items ++ rows_bytes 0 place_row value.now) }
     ensures err { OnErr result (out.new.items ≡ out.old.items) }
 {

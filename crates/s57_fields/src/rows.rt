@@ -55,11 +55,7 @@ pub fn read_rows<R: FieldRow>(
 }
 
 /// The rows of a field before its terminator. A text that isn't plain counts after all rows are whole.
-fn body_rows<R: FieldRow>(
-    alloc: Global,
-    level: u8,
-    body: &[u8],
-) -> Result<Items<R>, FieldRefusal>
+fn body_rows<R: FieldRow>(alloc: Global, level: u8, body: &[u8]) -> Result<Items<R>, FieldRefusal>
     ensures { Gives result (content_of_rows (rows_from (R.forms level) R.good R.value (length body.now) body.now)) }
 {
     let mut rows = Items::make(alloc);

@@ -3,56 +3,65 @@ use s57_types::{Attr, Attrs, End, Ends, Kind, Lnam, Partners, Places, RecName, S
 use std::test::Fail;
 
 /// The head fields of a cell `MAKE.000`.
-const DSID: &[u8] = b"\x0a\x01\x00\x00\x00\x01\x05MAKE.000\x1f1\x1f0\x1f202401012024010203.1\x01\x1f2.0\x1f\x01\x01\x00\x1f\x1e";
-const DSPM: &[u8] = b"\x14\x01\x00\x00\x00\x02\x17\x17\x10\x27\x00\x00\x01\x01\x01\x01\x80\x96\x98\x00\x0a\x00\x00\x00ab\x1f\x1e";
+const DSID: &[u8] =
+    b"\x0a\x01\x00\x00\x00\x01\x05MAKE.000\x1f1\x1f0\x1f202401012024010203.1\x01\x1f2.0\x1f\x01\x01\x00\x1f\x1e";
+
+const DSPM: &[u8] =
+    b"\x14\x01\x00\x00\x00\x02\x17\x17\x10\x27\x00\x00\x01\x01\x01\x01\x80\x96\x98\x00\x0a\x00\x00\x00ab\x1f\x1e";
+
+const DSSI: &[u8] =
+    b"\x02\x01\x02\x00\x01\x00\x00\x01\x00\x00\x00\x02\x00\x00\x00\x03\x00\x00\x00\x04\x00\x00\x00\x05\x00\x00\x00\x06\x00\x00\x00\x00\x00\x00\x01\x1e";
 
 fn name(kind: Kind, id: u32) -> RecName {
     RecName { kind, id }
 }
 
 #[test]
-fn head_fields_are_read_and_written(rt: HostRuntime) -> Result<(), Fail> {
+fn dsid_is_read_and_written(rt: HostRuntime) -> Result<(), Fail> {
     let alloc = rt.alloc();
     let dsid = read_dsid(alloc, DSID)?;
     assert_eq!(rt;
-        (
-            dsid.rcid, dsid.expp, dsid.intu, dsid.prsp, dsid.prof, dsid.agen
-        ),
-        (1, 1, 5, 1, 1, 1)
+        (dsid.rcid, dsid.intu, dsid.prof, dsid.agen, dsid.isdt),
+        (1, 5, 1, 1, *b"20240102")
     );
     assert_eq!(rt; dsid.dsnm.as_slice(), b"MAKE.000".as_slice());
-    assert_eq!(rt; dsid.pred.as_slice(), b"2.0".as_slice());
-    assert_eq!(rt; (dsid.uadt, dsid.isdt), (*b"20240101", *b"20240102"));
+    let mut out = Vec::new(alloc);
+    write_dsid(alloc, &dsid, &mut out)?;
+    assert_eq!(rt; out.as_slice(), DSID);
+    Ok(())
+}
+
+#[test]
+fn dspm_is_read_and_written(rt: HostRuntime) -> Result<(), Fail> {
+    let alloc = rt.alloc();
     let dspm = read_dspm(alloc, DSPM)?;
     assert_eq!(rt;
         (dspm.hdat, dspm.cscl, dspm.comf, dspm.somf),
         (2, 10_000, 10_000_000, 10)
     );
-    let levels = b"\x02\x01\x02";
-    let mut counts = Vec::from_slice(alloc, levels)?;
-    for count in 0..8u8 {
-        counts.extend_from_slice(&[count, 1, 0, 0])?;
-    }
-    counts.push(0x1e)?;
-    let dssi = read_dssi(alloc, &counts)?;
-    assert_eq!(rt; (dssi.dstr, dssi.aall, dssi.nall), (2, 1, 2));
-    assert_eq!(rt; dssi.counts, [256, 257, 258, 259, 260, 261, 262, 263]);
-    let mut out = Vec::new(alloc);
-    write_dsid(alloc, &dsid, &mut out)?;
-    assert_eq!(rt; out.as_slice(), DSID);
     let mut out = Vec::new(alloc);
     write_dspm(alloc, &dspm, &mut out)?;
     assert_eq!(rt; out.as_slice(), DSPM);
+    Ok(())
+}
+
+#[test]
+fn dssi_is_read_and_written(rt: HostRuntime) -> Result<(), Fail> {
+    let alloc = rt.alloc();
+    let dssi = read_dssi(alloc, DSSI)?;
+    assert_eq!(rt; (dssi.dstr, dssi.aall, dssi.nall), (2, 1, 2));
+    assert_eq!(rt; dssi.counts, [256, 1, 2, 3, 4, 5, 6, 16_777_216]);
     let mut out = Vec::new(alloc);
     write_dssi(alloc, &dssi, &mut out)?;
-    assert_eq!(rt; out.as_slice(), counts.as_slice());
+    assert_eq!(rt; out.as_slice(), DSSI);
     Ok(())
 }
 
 #[test]
 fn identifiers_are_read_and_written(rt: HostRuntime) -> Result<(), Fail> {
     let alloc = rt.alloc();
-    let bytes = b"\x03\x00\x1e\x64\x01\x00\x00\x00\x03\x01\x2a\x00\x01\x00\x01\x1e\x01\x00\x02\x01\x00\x00\x03\x00\x1e\x78\x01\x00\x00\x00\x01\x00\x01\x1e";
+    let bytes =
+        b"\x03\x00\x1e\x64\x01\x00\x00\x00\x03\x01\x2a\x00\x01\x00\x01\x1e\x01\x00\x02\x01\x00\x00\x03\x00\x1e\x78\x01\x00\x00\x00\x01\x00\x01\x1e";
     let number = read_0001(alloc, &bytes[..3])?;
     assert_eq!(rt; number, 3);
     let frid = read_frid(alloc, &bytes[3..16])?;
@@ -91,7 +100,8 @@ fn identifiers_are_read_and_written(rt: HostRuntime) -> Result<(), Fail> {
 #[test]
 fn rows_of_numbers_are_read_and_written(rt: HostRuntime) -> Result<(), Fail> {
     let alloc = rt.alloc();
-    let bytes = b"\x78\x01\x00\x00\x00\xff\xff\x02\xff\x1e\x82\x07\x00\x00\x00\x01\x02\xff\x1e\xff\xff\xff\xff\x64\x00\x00\x00\x1e\x01\x00\x00\x00\xfe\xff\xff\xff\x00\x00\x00\x80\x1e";
+    let bytes =
+        b"\x78\x01\x00\x00\x00\xff\xff\x02\xff\x1e\x82\x07\x00\x00\x00\x01\x02\xff\x1e\xff\xff\xff\xff\x64\x00\x00\x00\x1e\x01\x00\x00\x00\xfe\xff\xff\xff\x00\x00\x00\x80\x1e";
     let ends = read_vrpt(alloc, &bytes[..10])?;
     let end = End {
         to: name(Kind::Vc, 1),
@@ -123,52 +133,80 @@ fn rows_of_numbers_are_read_and_written(rt: HostRuntime) -> Result<(), Fail> {
 }
 
 #[test]
-fn rows_with_texts_are_read_and_written(rt: HostRuntime) -> Result<(), Fail> {
+fn attributes_are_read_and_written(rt: HostRuntime) -> Result<(), Fail> {
     let alloc = rt.alloc();
     let bytes = b"\x12\x001\x1f\x57\x00\x1f\x1e";
     let attrs = read_attf(alloc, bytes)?;
     assert_eq!(rt; attrs.len(), 2);
-    assert_eq!(rt; attrs.at(0).code, 18);
-    assert_eq!(rt; attrs.at(0).value.as_slice(), b"1".as_slice());
-    assert_eq!(rt; attrs.at(1).code, 87);
-    assert!(rt; attrs.at(1).value.is_empty());
+    let (first, second) = (attrs.at(0), attrs.at(1));
+    assert_eq!(rt; (first.code, second.code), (18, 87));
+    assert_eq!(rt; first.value.as_slice(), b"1".as_slice());
     assert_eq!(rt; read_attv(alloc, bytes)?.len(), 2);
-    let pointers = b"\x01\x00\x02\x00\x00\x00\x03\x00\x02hi\x1f\x1e";
-    let partners = read_ffpt(alloc, pointers)?;
-    let partner = partners.at(0);
-    let to = Lnam {
-        agen: 1,
-        fidn: 2,
-        fids: 3,
-    };
-    assert_eq!(rt; (partner.to, partner.rind), (to, 2));
-    assert_eq!(rt; partner.comt.as_slice(), b"hi".as_slice());
     let mut out = Vec::new(alloc);
     write_attf(alloc, &attrs, &mut out)?;
+    assert_eq!(rt; out.as_slice(), bytes.as_slice());
+    let mut out = Vec::new(alloc);
     write_attv(alloc, &attrs, &mut out)?;
+    assert_eq!(rt; out.as_slice(), bytes.as_slice());
+    Ok(())
+}
+
+#[test]
+fn partners_are_read_and_written(rt: HostRuntime) -> Result<(), Fail> {
+    let alloc = rt.alloc();
+    let bytes = b"\x01\x00\x02\x00\x00\x00\x03\x00\x02hi\x1f\x1e";
+    let partners = read_ffpt(alloc, bytes)?;
+    assert_eq!(rt; partners.len(), 1);
+    let partner = partners.at(0);
+    assert_eq!(rt;
+        (
+            partner.to.agen,
+            partner.to.fidn,
+            partner.to.fids,
+            partner.rind
+        ),
+        (1, 2, 3, 2)
+    );
+    assert_eq!(rt; partner.comt.as_slice(), b"hi".as_slice());
+    let mut out = Vec::new(alloc);
     write_ffpt(alloc, &partners, &mut out)?;
-    let (attf, rest) = out.split_at(bytes.len());
-    let (attv, ffpt) = rest.split_at(bytes.len());
-    assert_eq!(rt; (attf, attv), (bytes.as_slice(), bytes.as_slice()));
-    assert_eq!(rt; ffpt, pointers.as_slice());
+    assert_eq!(rt; out.as_slice(), bytes.as_slice());
     Ok(())
 }
 
 #[test]
 fn national_attributes_end_with_one_byte_or_two(rt: HostRuntime) -> Result<(), Fail> {
     let alloc = rt.alloc();
+    let short = b"\x12\x00A\x00\x1f\x01\x1f\x00\x1e";
     let long = b"\x12\x00A\x00\x1f\x01\x1f\x00\x1e\x00";
-    let (short, _) = long.split_at(9);
-    let natf = read_natf(alloc, 2, long)?;
-    assert_eq!(rt; natf.at(0).value.as_slice(), b"A\x00\x1f\x01".as_slice());
-    assert_eq!(rt; read_natf(alloc, 2, short)?.at(0).value.as_slice(), natf.at(0).value.as_slice());
-    let mut out = Vec::new(alloc);
-    write_natf(alloc, 2, &natf, &mut out)?;
-    assert_eq!(rt; out.as_slice(), long.as_slice());
-    assert!(rt; matches!(read_natf(alloc, 1, long), Err(FieldRefusal::BadField)));
-    assert!(rt; matches!(read_natf(alloc, 2, b"\x12\x00\x1e\x00\x1f\x00\x1e"), Err(FieldRefusal::BadText)));
-    assert!(rt; matches!(read_natf(alloc, 0, b"\x12\x00\x1e\x00\x1f\x1e"), Err(FieldRefusal::BadText)));
+    for bytes in [short.as_slice(), long] {
+        let natf = read_natf(alloc, 2, bytes)?;
+        for attr in natf.as_slice() {
+            assert_eq!(rt; attr.value.as_slice(), b"A\x00\x1f\x01".as_slice());
+        }
+        let mut out = Vec::new(alloc);
+        write_natf(alloc, 2, &natf, &mut out)?;
+        assert_eq!(rt; out.as_slice(), long.as_slice());
+    }
     Ok(())
+}
+
+#[test]
+fn a_terminator_in_a_text_counts_at_its_level(rt: HostRuntime) {
+    let alloc = rt.alloc();
+    let cases = [
+        (1, b"\x12\x00A\x00\x1f\x01\x1f\x00\x1e\x00".as_slice(), true),
+        (2, b"\x12\x00\x1e\x00\x1f\x00\x1e", false),
+        (0, b"\x12\x00\x1e\x00\x1f\x1e", false),
+    ];
+    for (nall, bytes, is_bad_field) in cases {
+        let answer = read_natf(alloc, nall, bytes);
+        if is_bad_field {
+            assert!(rt; matches!(answer, Err(FieldRefusal::BadField)));
+        } else {
+            assert!(rt; matches!(answer, Err(FieldRefusal::BadText)));
+        }
+    }
 }
 
 #[test]
@@ -238,7 +276,8 @@ fn the_longest_text_of_a_record_is_read_back(rt: HostRuntime) -> Result<(), Fail
     let mut out = Vec::new(alloc);
     write_attf(alloc, &attrs, &mut out)?;
     assert_eq!(rt; out.len(), 99_905);
-    let read = read_attf(alloc, &out)?;
-    assert_eq!(rt; read.at(0).value.as_slice(), attrs.at(0).value.as_slice());
+    for attr in read_attf(alloc, &out)?.as_slice() {
+        assert_eq!(rt; attr.value.len(), 99_901);
+    }
     Ok(())
 }

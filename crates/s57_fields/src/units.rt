@@ -58,5 +58,6 @@ pub fn take_wide_text(bytes: &[u8]) -> Option<(&[u8], &[u8])>
 pub fn is_plain_wide_text(text: &[u8]) -> bool
     ensures { result ≡ is_plain (wide_text_of text.now) }
 {
-    text.len() % 2 == 0 && !(holds_unit(text, FIELD_TERMINATOR) || holds_unit(text, UNIT_TERMINATOR))
+    text.len() % 2 == 0
+        && !(holds_unit(text, FIELD_TERMINATOR) || holds_unit(text, UNIT_TERMINATOR))
 }

@@ -30,7 +30,7 @@ loop-rest-preserved g c = let r = g.R.FieldRow in let forms = r.forms c.args.lev
     let front = c.in_ok-row.ensures.cut in
     let taken : take_row forms r.good r.value c.loop-rest.rest.now ≡ Some (c.in-Some.row, c.in-Some.is_plain, c.in-Some.after.now) = sym (rw c.in-Some.is at front) in
     let walk = goes_on forms r.good r.value rows c.loop-rest.all_plain (rows_from forms r.good r.value (length body) body) (length body - length rows) j c.loop-rest.rest.now
-        c.in-Some.row c.in-Some.is_plain c.in-Some.after.now some left taken c.loop-rest.invariant.walk in
+    c.in-Some.row c.in-Some.is_plain c.in-Some.after.now some left taken c.loop-rest.invariant.walk in
     let shorter = rw c.in-Some.is at c.in_ok-row.ensures.shorter in
     record {
       walk = rw (c.in_ok-push.ensures.ok) walk;
