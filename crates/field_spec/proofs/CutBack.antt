@@ -1,17 +1,16 @@
 -- What bytes are cut into spells these bytes.
-use Rattle.std.proofs.Common.{◌≡◌, ℕ, zero, suc, ◌+◌, ◌-◌, ◌*◌, ◌/◌, ◌%◌, ◌^◌, ◌<◌, ◌≤◌, ◌==◌, ◌&&◌, ◌||◌, Bool, true, false, not, cond, List, [], ◌∷◌, ◌++◌, length, map, take, drop, position, nat_lt, slice_index, Option, Some, None, refl, sym, ap, ◌∙◌, subst, append_assoc, length-append, arith}
-use Rattle.std.specs.Prelude.{FitsSigned}
+use Rattle.std.proofs.Common.{◌≡◌, ℕ, zero, suc, ◌+◌, ◌*◌, ◌/◌, ◌%◌, ◌^◌, ◌<◌, ◌≤◌, ◌==◌, ◌&&◌, Bool, true, false, not, cond, List, [], ◌∷◌, ◌++◌, length, take, drop, position, nat_lt, slice_index, Option, Some, None, refl, sym, ap, ◌∙◌, subst, append_assoc, arith}
 use Rattle.std.proofs.lemmas.List.{take-append-drop, length-take-le}
 use Rattle.std.proofs.lemmas.List.Sums.{split_at_first, passes_at_first}
 use Rattle.std.proofs.lemmas.Bool.Decides.{nat_tests}
 use Rattle.std.proofs.Math.Facts.{of_z-to_z, sfits_to_z, Fits-of_lt}
 use Rattle.std.proofs.Math.Nat.{add-mul-div_left, add-mul-mod_self_left, div-div-eq-div-mul, mod-eq_of_lt, pow-succ'}
 use Rattle.std.specs.Option.{option_map, option_and_then}
-use Rattle.std.specs.List.{flat_map, list_any, prefix_len, position_or_len, AllByRecursion}
-use Rattle.std.specs.Int.{w32, cast_unsigned, cast_signed, byte_at, bytes_low_first}
+use Rattle.std.specs.List.{flat_map, position_or_len, AllByRecursion}
+use Rattle.std.specs.Int.{w32, cast_signed, byte_at, bytes_low_first}
 use Rattle.byteorder.specs.Endian.{little_number, little_from}
 use Rattle.byteorder.specs.Numbers.{little_from-cons}
-use Rattle.s57_types.specs.Subfield.{Form, Subfield, unsigned, signed, text, wide_text, fixed, unsigned_of, signed_of, text_of, wide_text_of, fixed_of, form_of, spelling, row_bytes, IsSubfield, unit_terminator, field_terminator, holds, has_unit}
+use Rattle.s57_types.specs.Subfield.{Form, Subfield, unsigned, signed, text, wide_text, fixed, unsigned_of, signed_of, text_of, wide_text_of, fixed_of, form_of, spelling, row_bytes, IsSubfield, unit_terminator, holds, has_unit}
 use Rattle.field_spec.specs.Cutting.{split, split_units, front, cut_row, cut_rows}
 use Rattle.field_spec.specs.FieldContent.{IsRow}
 
@@ -203,11 +202,11 @@ row_back (form ∷ forms) b x all e = bound_back (λ (y : Subfield × List ℕ).
     let first = front_back form b y all is in
     let parts = AreBytes-append (spelling y.0) y.1 (subst AreBytes first.bytes_are all) in
     mapped_back (λ (z : List Subfield × List ℕ). (y.0 ∷ z.0, z.1)) (IsRowFront (form ∷ forms) b) (cut_row forms y.1) x more (λ z was.
-        let later = row_back forms y.1 z parts.1 was in
-        record {
-          is_row = record { forms_are = rw (first.form_is, later.is_row.forms_are) refl; each = (first.fits, later.is_row.each) };
-          bytes_are = first.bytes_are ∙ ap (λ t. spelling y.0 ++ t) later.bytes_are ∙ sym (append_assoc (spelling y.0) (row_bytes z.0) z.1);
-        }))
+    let later = row_back forms y.1 z parts.1 was in
+    record {
+      is_row = record { forms_are = rw (first.form_is, later.is_row.forms_are) refl; each = (first.fits, later.is_row.each) };
+      bytes_are = first.bytes_are ∙ ap (λ t. spelling y.0 ++ t) later.bytes_are ∙ sym (append_assoc (spelling y.0) (row_bytes z.0) z.1);
+    }))
 
 -- rows that use bytes up
 pub record AreRows (forms : List Form) (b : List ℕ) (rows : List (List Subfield)) : Type 0 where
@@ -223,8 +222,8 @@ rows_back (suc n) forms (c ∷ b) rows all e = bound_back (λ (x : List Subfield
     let first = row_back forms (c ∷ b) x all is in
     let parts = AreBytes-append (row_bytes x.0) x.1 (subst AreBytes first.bytes_are all) in
     mapped_back (λ (others : List (List Subfield)). x.0 ∷ others) (AreRows forms (c ∷ b)) (cut_rows n forms x.1) rows more (λ others was.
-        let later = rows_back n forms x.1 others parts.1 was in
-        record {
-          each = (first.is_row, later.each);
-          bytes_are = first.bytes_are ∙ ap (λ t. row_bytes x.0 ++ t) later.bytes_are;
-        }))
+    let later = rows_back n forms x.1 others parts.1 was in
+    record {
+      each = (first.is_row, later.each);
+      bytes_are = first.bytes_are ∙ ap (λ t. row_bytes x.0 ++ t) later.bytes_are;
+    }))

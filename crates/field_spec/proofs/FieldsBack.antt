@@ -1,17 +1,15 @@
 -- The rows into which a field is cut spell its bytes.
-use Rattle.std.proofs.Common.{◌≡◌, ◌⊎◌, ◌↔◌, inl, inr, ℕ, zero, suc, ◌+◌, ◌-◌, ◌%◌, ◌<◌, ◌≤◌, ◌==◌, ◌&&◌, Bool, true, false, cond, List, [], ◌∷◌, ◌++◌, length, take, drop, nat_lt, slice_index, Option, Some, None, refl, sym, ap, ◌∙◌, subst, arith}
+use Rattle.std.proofs.Common.{◌≡◌, ◌⊎◌, ◌↔◌, inl, inr, ℕ, suc, ◌-◌, ◌%◌, ◌<◌, ◌==◌, ◌&&◌, Bool, true, false, cond, List, [], ◌∷◌, ◌++◌, length, take, drop, nat_lt, slice_index, Option, Some, None, refl, sym, ap, ◌∙◌, subst, arith}
 use Rattle.std.specs.Prelude.{All}
 use Rattle.std.proofs.lemmas.List.{take-append-drop, append-nil, drop_all}
 use Rattle.std.proofs.Math.Seq.{drop-cons}
 use Rattle.std.proofs.lemmas.Bool.Decides.{nat_tests}
 use Rattle.std.specs.Bool.{MatchBool}
-use Rattle.std.specs.Option.{option_map, option_and_then}
-use Rattle.std.specs.List.{flat_map, AllByRecursion}
 use Rattle.s57_types.specs.Subfield.{Form, Subfield, row_bytes, field_terminator}
 use Rattle.field_spec.specs.Cutting.{cut_row, cut_rows, before_terminator, before_wide_terminator, body_at_level, whole, field_row, field_rows}
-use Rattle.field_spec.specs.FieldContent.{IsRow, IsField, IsFieldOfRows}
+use Rattle.field_spec.specs.FieldContent.{IsField, IsFieldOfRows}
 use Rattle.field_spec.specs.FieldFit.{has_bytes, fits_level}
-use Rattle.field_spec.proofs.CutBack.{AreBytes, AreBytes-append, bound_back, IsRowFront, row_back, AreRows, rows_back}
+use Rattle.field_spec.proofs.CutBack.{AreBytes, AreBytes-append, bound_back, row_back, rows_back}
 use Rattle.field_spec.proofs.Spelled.{cut_off}
 use Rattle.field_spec.proofs.FieldsSpelled.{row_of_field, rows_of_field}
 
@@ -68,7 +66,7 @@ wide_terminator_back b body e = odd (length b % 2 == 1) e
         let last : slice_index b (length b - 1) ≡ 0 = grind (arith, nat_tests, outer.1) in
         let same : take (length b - 2) b ≡ body = cc in
         inl (last_two b some ∙ ap (λ c. take (length b - 2) b ++ (c ∷ slice_index b (length b - 1) ∷ [])) mark ∙ ap (λ c. take (length b - 2) b ++ (field_terminator ∷ c ∷ [])) last
-            ∙ ap (λ t. t ++ (field_terminator ∷ 0 ∷ [])) same)
+        ∙ ap (λ t. t ++ (field_terminator ∷ 0 ∷ [])) same)
 
     odd : (is_odd : Bool) → cond is_odd (before_terminator b) (cond (nat_lt 1 (length b) && (slice_index b (length b - 2) == field_terminator) && (slice_index b (length b - 1) == 0)) (Some (take (length b - 2) b)) None) ≡ Some body
         → EndsWide b body

@@ -1,15 +1,15 @@
 -- The bytes of a field that spell rows are cut into these rows.
-use Rattle.std.proofs.Common.{◌≡◌, ◌⊎◌, inl, inr, ℕ, zero, suc, ◌+◌, ◌-◌, ◌%◌, ◌<◌, ◌≤◌, ◌==◌, ◌&&◌, ◌||◌, Bool, true, false, cond, List, [], ◌∷◌, ◌++◌, length, map, take, drop, nat_lt, slice_index, Option, Some, None, refl, sym, ap, ◌∙◌, append_assoc, length-append, arith}
+use Rattle.std.proofs.Common.{◌≡◌, ◌⊎◌, inl, inr, ℕ, zero, suc, ◌+◌, ◌-◌, ◌%◌, ◌<◌, ◌≤◌, ◌==◌, ◌&&◌, ◌||◌, Bool, true, false, cond, List, [], ◌∷◌, ◌++◌, length, map, take, nat_lt, slice_index, Some, refl, sym, ap, ◌∙◌, length-append, arith}
 use Rattle.std.proofs.Math.Seq.{take-append_seam, get_or-append_seam}
 use Rattle.std.proofs.lemmas.List.{append-nil, get_or-append-add}
 use Rattle.std.proofs.lemmas.Bool.Decides.{nat_tests}
 use Rattle.std.specs.Bool.{MatchBool}
 use Rattle.std.specs.Option.{option_map, option_and_then}
-use Rattle.std.specs.List.{flat_map, list_any, list_all, AllByRecursion}
-use Rattle.std.specs.Int.{w32, cast_unsigned, bytes_low_first}
+use Rattle.std.specs.List.{flat_map, list_all, AllByRecursion}
+use Rattle.std.specs.Int.{w32, cast_unsigned}
 use Rattle.byteorder.specs.Numbers.{length-bytes_low_first}
 use Rattle.s57_types.specs.Subfield.{Form, Subfield, unsigned_of, signed_of, text_of, wide_text_of, fixed_of, form_of, spelling, row_bytes, IsSubfield, unit_terminator, field_terminator}
-use Rattle.field_spec.specs.Cutting.{cut_row, cut_rows, before_terminator, before_wide_terminator, body_at_level, whole, field_row, field_rows}
+use Rattle.field_spec.specs.Cutting.{cut_row, cut_rows, before_terminator, before_wide_terminator, whole, field_row, field_rows}
 use Rattle.field_spec.specs.FieldContent.{IsRow, IsField, IsFieldOfRows}
 use Rattle.field_spec.specs.FieldFit.{takes_bytes, has_bytes, is_even, fits_level}
 use Rattle.field_spec.proofs.Spelled.{cut_off, cut_row_spelling}
@@ -78,8 +78,8 @@ row_some [] takes = absurd cc
 row_some (s ∷ row) takes =
     let size = length-append (spelling s) (row_bytes row) in
     elim (either_true (takes_bytes (form_of s)) (has_bytes (map form_of row)) takes) [
-      inl first ↦ let some = spelling_some s first in omega (arith, size, some)
-    | inr later ↦ let some = row_some row later in omega (arith, size, some)
+      | inl first ↦ let some = spelling_some s first in omega (arith, size, some)
+      | inr later ↦ let some = row_some row later in omega (arith, size, some)
     ]
 
 cut_rows-next : (n : ℕ) (forms : List Form) (b : List ℕ) → 0 < length b
@@ -131,8 +131,8 @@ rows_even forms (row ∷ rows) even fits =
 
 by_level : (wide : Bool) (forms : List Form) (rows : List (List Subfield)) (bytes : List ℕ) → cond wide (list_all is_even forms) true ≡ true → AllByRecursion (IsRow forms) rows
     → MatchBool wide
-        ((bytes ≡ flat_map row_bytes rows ++ (field_terminator ∷ 0 ∷ [])) ⊎ (bytes ≡ flat_map row_bytes rows ++ (field_terminator ∷ [])))
-        (bytes ≡ flat_map row_bytes rows ++ (field_terminator ∷ []))
+    ((bytes ≡ flat_map row_bytes rows ++ (field_terminator ∷ 0 ∷ [])) ⊎ (bytes ≡ flat_map row_bytes rows ++ (field_terminator ∷ [])))
+    (bytes ≡ flat_map row_bytes rows ++ (field_terminator ∷ []))
     → cond wide (before_wide_terminator bytes) (before_terminator bytes) ≡ Some (flat_map row_bytes rows)
 by_level true forms rows bytes even fits (inl two) = ap before_wide_terminator two ∙ before_wide_terminator-two (flat_map row_bytes rows) (rows_even forms rows even fits)
 by_level true forms rows bytes even fits (inr one) = ap before_wide_terminator one ∙ before_wide_terminator-one (flat_map row_bytes rows) (rows_even forms rows even fits)

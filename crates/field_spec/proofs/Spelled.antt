@@ -1,16 +1,16 @@
 -- The bytes that spell subfields are cut into these subfields.
-use Rattle.std.proofs.Common.{◌≡◌, ℕ, zero, suc, ◌+◌, ◌-◌, ◌*◌, ◌%◌, ◌^◌, ◌<◌, ◌≤◌, ◌==◌, ◌&&◌, ◌||◌, Bool, true, false, not, cond, List, [], ◌∷◌, ◌++◌, length, map, take, drop, position, nat_lt, Option, Some, None, refl, sym, ap, ◌∙◌, subst, append_assoc, length-append, arith}
+use Rattle.std.proofs.Common.{◌≡◌, ℕ, ◌+◌, ◌%◌, ◌^◌, ◌<◌, ◌==◌, ◌&&◌, ◌||◌, Bool, true, false, not, List, [], ◌∷◌, ◌++◌, length, map, take, drop, position, nat_lt, Option, Some, refl, sym, ap, ◌∙◌, append_assoc, length-append, arith}
 use Rattle.std.specs.Prelude.{ℤ, FitsSigned}
 use Rattle.std.proofs.Math.Seq.{take-append_seam, drop-append_seam}
 use Rattle.std.proofs.lemmas.List.{append-nil}
 use Rattle.std.proofs.lemmas.Bool.Decides.{nat_tests}
 use Rattle.std.proofs.Math.Facts.{Fits-of_z, Fits-lt-pow, to_z-of_z}
 use Rattle.std.specs.Option.{option_map, option_and_then}
-use Rattle.std.specs.List.{flat_map, list_any, list_all, prefix_len, AllByRecursion}
+use Rattle.std.specs.List.{prefix_len, AllByRecursion}
 use Rattle.std.specs.Int.{w32, cast_unsigned, cast_signed, bytes_low_first}
 use Rattle.byteorder.specs.Endian.{little_number, little_from}
 use Rattle.byteorder.specs.Numbers.{little_number-reads_back, length-bytes_low_first}
-use Rattle.s57_types.specs.Subfield.{Form, Subfield, unsigned, signed, text, wide_text, fixed, unsigned_of, signed_of, text_of, wide_text_of, fixed_of, form_of, spelling, row_bytes, IsSubfield, unit_terminator, field_terminator, holds, has_unit}
+use Rattle.s57_types.specs.Subfield.{Subfield, unsigned, signed, text, wide_text, unsigned_of, signed_of, text_of, wide_text_of, fixed_of, form_of, spelling, row_bytes, IsSubfield, unit_terminator, holds, has_unit}
 use Rattle.field_spec.specs.Cutting.{split, split_units, front, cut_row}
 
 -- a subfield and the bytes after it

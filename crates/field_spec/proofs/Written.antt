@@ -1,8 +1,6 @@
 -- Fields that were written are read as their values.
-use Rattle.std.proofs.Common.{◌≡◌, ◌⊎◌, inl, inr, ℕ, zero, suc, ◌+◌, ◌<◌, ◌≤◌, ◌^◌, ◌==◌, ◌&&◌, Bool, true, false, not, cond, nat_le, slice_get, List, [], ◌∷◌, ◌++◌, length, map, Option, Some, None, Result, Ok, Err, refl, sym, ap, ◌∙◌, subst, arith}
+use Rattle.std.proofs.Common.{◌≡◌, ◌⊎◌, inl, ℕ, ◌==◌, ◌&&◌, Bool, true, false, not, cond, slice_get, List, [], ◌∷◌, ◌++◌, length, map, Ok, Err, refl, sym, ap, ◌∙◌, arith}
 use Rattle.std.specs.Bool.{MatchBool}
-use Rattle.std.specs.Prelude.{ℤ}
-use Rattle.std.proofs.lemmas.Bool.Decides.{nat_tests}
 use Rattle.std.proofs.lemmas.List.{length-map}
 use Rattle.std.specs.List.{flat_map, list_all, AllByRecursion}
 use Rattle.std.specs.Result.{result_map_both}
@@ -14,12 +12,10 @@ use Rattle.s57_types.specs.declared.name.Kind.{Kind}
 use Rattle.s57_types.specs.declared.name.Kind.TheVariants.{Vi, Vc, Ve, Fe}
 use Rattle.s57_types.specs.declared.record.Attr.{Attr}
 use Rattle.s57_types.specs.declared.field.Dssi.{Dssi}
-use Rattle.field_spec.specs.Cutting.{field_row, field_rows}
-use Rattle.field_spec.specs.FieldContent.{IsRow, IsField, IsFieldOfRows}
+use Rattle.field_spec.specs.FieldContent.{IsRow}
 use Rattle.field_spec.specs.FieldBytes.{field_bytes, rows_bytes}
 use Rattle.field_spec.specs.FieldFit.{CanRepeat, IsFit, is_even}
 use Rattle.field_spec.specs.Contents.{judged, judged_row, row_as, rows_as, kind_of_rcnm, is_vector_rcnm, attribute_value, dssi_value, number_value}
-use Rattle.field_spec.specs.declared.fault.FieldFault.{FieldFault}
 use Rattle.field_spec.specs.declared.fault.FieldFault.TheVariants.{BadField, BadText}
 use Rattle.field_spec.proofs.FieldsSpelled.{row_of_field, rows_of_field}
 

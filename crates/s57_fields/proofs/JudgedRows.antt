@@ -1,14 +1,13 @@
 -- Rows that are all cut first and judged then are the rows that are judged one by one.
-use Rattle.std.proofs.Common.{◌≡◌, ℕ, zero, suc, ◌&&◌, Bool, true, false, not, cond, List, [], ◌∷◌, ◌++◌, length, map, Option, Some, None, Result, Ok, Err, refl, sym, ap, ◌∙◌}
+use Rattle.std.proofs.Common.{◌≡◌, ℕ, zero, suc, ◌&&◌, Bool, true, false, not, cond, List, [], ◌∷◌, length, map, Option, Some, None, Ok, Err, refl, ap, ◌∙◌}
 use Rattle.std.specs.Option.{option_map, option_and_then}
 use Rattle.std.specs.List.{list_all}
 use Rattle.std.specs.Result.{result_map_both}
 use Rattle.s57_types.specs.Subfield.{Form, Subfield, is_plain}
 use Rattle.field_spec.specs.Cutting.{cut_row, cut_rows, body_at_level}
 use Rattle.field_spec.specs.Contents.{judged, rows_as}
-use Rattle.field_spec.specs.declared.fault.FieldFault.{FieldFault}
 use Rattle.field_spec.specs.declared.fault.FieldFault.TheVariants.{BadField, BadText}
-use Rattle.s57_fields.specs.RowCutting.{take_row, with_front, rows_after, rows_from, content_of_rows}
+use Rattle.s57_fields.specs.RowCutting.{with_front, rows_after, rows_from, content_of_rows}
 
 -- the values of rows and whether their texts are plain
 abbrev summary : {X : Type 0} → (List Subfield → Bool) → (List Subfield → X) → Option (List (List Subfield)) → Option (List X × Bool)

@@ -1,4 +1,4 @@
-use Rattle.std.proofs.Common.{◌≡◌, refl, ap, not}
+use Rattle.std.proofs.Common.{refl, ap, not}
 use Rattle.s57_types.specs.FieldRows.{attribute_forms, partner_forms, place_forms, end_forms, plane_forms, deep_forms, attribute_row, partner_row, place_row, end_row, plane_row, deep_row}
 use Rattle.s57_types.specs.Fitness.{is_feature_kind}
 use Rattle.s57_types.specs.declared.name.Kind.{Kind}
@@ -22,21 +22,21 @@ pub returns-clause-places : goal.returns-clause-places
 unfolding place_content
 returns-clause-places c = λ places fit names. rows_written place_value 0 place_forms names_a_vector place_row places (record { takes = refl; fits = refl })
     (have_tested_values place_value place_forms names_a_vector place_row (λ (s : Spot). not (is_feature_kind s.to.kind)) (λ s is test.
-      let vector = no_feature (is_feature_kind s.to.kind) test in record {
-        fit = is;
-        is_good = vector_rcnm s.to.kind vector;
-        value_is = ap (λ (k : Kind). record s { to = record { kind = k; id = s.to.id } }) (kind_of_rcnm-rcnm_of s.to.kind vector);
-      }) places fit names)
+    let vector = no_feature (is_feature_kind s.to.kind) test in record {
+      fit = is;
+      is_good = vector_rcnm s.to.kind vector;
+      value_is = ap (λ (k : Kind). record s { to = record { kind = k; id = s.to.id } }) (kind_of_rcnm-rcnm_of s.to.kind vector);
+    }) places fit names)
 
 pub returns-clause-ends : goal.returns-clause-ends
 unfolding end_content
 returns-clause-ends c = λ ends fit names. rows_written end_value 0 end_forms names_a_vector end_row ends (record { takes = refl; fits = refl })
     (have_tested_values end_value end_forms names_a_vector end_row (λ (e : End). not (is_feature_kind e.to.kind)) (λ e is test.
-      let vector = no_feature (is_feature_kind e.to.kind) test in record {
-        fit = is;
-        is_good = vector_rcnm e.to.kind vector;
-        value_is = ap (λ (k : Kind). record e { to = record { kind = k; id = e.to.id } }) (kind_of_rcnm-rcnm_of e.to.kind vector);
-      }) ends fit names)
+    let vector = no_feature (is_feature_kind e.to.kind) test in record {
+      fit = is;
+      is_good = vector_rcnm e.to.kind vector;
+      value_is = ap (λ (k : Kind). record e { to = record { kind = k; id = e.to.id } }) (kind_of_rcnm-rcnm_of e.to.kind vector);
+    }) ends fit names)
 
 pub returns-clause-plane : goal.returns-clause-plane
 unfolding plane_content

@@ -1,4 +1,4 @@
-use Rattle.std.proofs.Common.{◌≡◌, ◌==◌, ◌&&◌, ℕ, true, nat_le, refl, ap, arith}
+use Rattle.std.proofs.Common.{◌≡◌, ◌==◌, ◌&&◌, true, nat_le, refl, ap, arith}
 use Rattle.std.proofs.lemmas.Bool.Decides.{nat_tests}
 use Rattle.s57_types.specs.FieldRows.{number_forms, dsid_forms, dssi_forms, dspm_forms, frid_forms, foid_forms, vrid_forms, number_row, dsid_row, dssi_row, dspm_row, frid_row, foid_row, vrid_row}
 use Rattle.s57_types.specs.declared.name.Kind.{Kind}
@@ -35,7 +35,7 @@ returns-clause-foid c = λ d fit. row_written lnam_in foid_forms any_row (foid_r
 pub returns-clause-vrid : goal.returns-clause-vrid
 unfolding vrid_content
 returns-clause-vrid c = λ d fit vector. row_written vrid_value vrid_forms names_a_vector (vrid_row d) d (record {
-    fit = fit;
-    is_good = vector_rcnm d.name.kind vector;
-    value_is = ap (λ (k : Kind). record d { name = record { kind = k; id = d.name.id } }) (kind_of_rcnm-rcnm_of d.name.kind vector);
-  })
+  fit = fit;
+  is_good = vector_rcnm d.name.kind vector;
+  value_is = ap (λ (k : Kind). record d { name = record { kind = k; id = d.name.id } }) (kind_of_rcnm-rcnm_of d.name.kind vector);
+})

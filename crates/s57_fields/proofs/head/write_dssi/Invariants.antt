@@ -1,4 +1,4 @@
-use Rattle.std.proofs.Common.{◌≡◌, ◌∷◌, ◌++◌, map, take}
+use Rattle.std.proofs.Common.{◌≡◌, ◌∷◌, map, take}
 use Rattle.s57_types.specs.Subfield.{unsigned_of}
 use Rattle.s57_fields.specs.Spelling.{row_of}
 use Rattle.s57_fields.proofs.head.write_dssi.Given as goal

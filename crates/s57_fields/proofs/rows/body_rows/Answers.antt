@@ -1,4 +1,4 @@
-use Rattle.std.proofs.Common.{◌≡◌, ◌-◌, ◌<◌, ◌++◌, ◌∷◌, [], suc, length, length-append, arith, None, Some, true, false, sym, ap, ◌∙◌, refl}
+use Rattle.std.proofs.Common.{◌≡◌, ◌-◌, ◌<◌, ◌++◌, ◌∷◌, [], suc, length, length-append, arith, None, Some, sym, ap, refl}
 use Rattle.s57_fields.specs.RowCutting.{rows_from, take_row, content_of_rows}
 use Rattle.s57_fields.proofs.RowWalk.{goes_on, stops, is_done}
 use Rattle.s57_fields.proofs.rows.body_rows.Goals as goal

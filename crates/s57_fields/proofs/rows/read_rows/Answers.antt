@@ -1,5 +1,4 @@
-use Rattle.std.proofs.Common.{subst, sym}
-use Rattle.s57_fields.specs.Gives.{Gives}
+use Rattle.std.proofs.Common.{sym}
 use Rattle.s57_fields.proofs.JudgedRows.{rows_as-body}
 use Rattle.s57_fields.proofs.rows.read_rows.Goals as goal
 

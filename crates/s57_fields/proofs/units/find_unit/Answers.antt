@@ -1,4 +1,4 @@
-use Rattle.std.proofs.Common.{◌≡◌, ◌≤◌, ◌+◌, length, sym, ◌∙◌, arith}
+use Rattle.std.proofs.Common.{sym, ◌∙◌, arith}
 use Rattle.s57_fields.proofs.UnitLemmas.{goes_on}
 use Rattle.s57_fields.proofs.units.find_unit.Goals as goal
 

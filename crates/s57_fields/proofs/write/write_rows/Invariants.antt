@@ -1,4 +1,4 @@
-use Rattle.std.proofs.Common.{◌≡◌, ◌++◌, take}
+use Rattle.std.proofs.Common.{◌≡◌, take}
 use Rattle.std.specs.List.{flat_map}
 use Rattle.s57_types.specs.Subfield.{row_bytes}
 use Rattle.s57_fields.proofs.write.write_rows.Given as goal
