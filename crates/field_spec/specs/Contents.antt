@@ -4,7 +4,7 @@ use Rattle.std.specs.Prelude.{ℤ, pos}
 use Rattle.std.specs.List.{list_all}
 use Rattle.std.specs.Result.{result_map_both}
 use Rattle.s57_types.specs.Subfield.{Form, Subfield, unsigned_of, signed_of, text_of, wide_text_of, fixed_of, is_plain}
-use Rattle.s57_types.specs.FieldRows.{dsid_forms, dssi_forms, dspm_forms, frid_forms, foid_forms, attribute_forms, partner_forms, place_forms, vrid_forms, end_forms, plane_forms, deep_forms}
+use Rattle.s57_types.specs.FieldRows.{number_forms, dsid_forms, dssi_forms, dspm_forms, frid_forms, foid_forms, attribute_forms, partner_forms, place_forms, vrid_forms, end_forms, plane_forms, deep_forms}
 use Rattle.field_spec.specs.Cutting.{field_row, field_rows}
 use Rattle.field_spec.specs.declared.fault.FieldFault.{FieldFault}
 use Rattle.field_spec.specs.declared.fault.FieldFault.TheVariants.{BadField, BadText}
@@ -81,6 +81,10 @@ names_a_vector row = is_vector_rcnm (number_in row 0)
 abbrev pub lnam_in : List Subfield → Lnam
 lnam_in row = record { agen = number_in row 0; fidn = number_in row 1; fids = number_in row 2 }
 
+-- the record identifier 0001: the record number (S-57 Part 3, 7.2.1)
+unfoldable pub number_content : List ℕ → Result ℕ FieldFault
+number_content = row_as (λ row. number_in row 0) number_forms any_row
+
 abbrev pub dsid_value : List Subfield → Dsid
 dsid_value row = record {
   rcid = number_in row 1;
@@ -103,17 +107,23 @@ dsid_value row = record {
 unfoldable pub dsid_content : List ℕ → Result Dsid FieldFault
 dsid_content = row_as dsid_value dsid_forms (λ row. number_in row 0 == 10)
 
--- the lexical levels are AALL, 0 or 1, and NALL, from 0 to 2 (S-57 Part 3, 2.4)
-unfoldable pub dssi_content : List ℕ → Result Dssi FieldFault
-dssi_content = row_as (λ row. record {
+abbrev pub dssi_value : List Subfield → Dssi
+dssi_value row = record {
   dstr = number_in row 0;
   aall = number_in row 1;
   nall = number_in row 2;
   counts = number_in row 3 ∷ number_in row 4 ∷ number_in row 5 ∷ number_in row 6 ∷ number_in row 7 ∷ number_in row 8 ∷ number_in row 9 ∷ number_in row 10 ∷ [];
-}) dssi_forms (λ row. nat_le (number_in row 1) 1 && nat_le (number_in row 2) 2)
+}
 
-unfoldable pub dspm_content : List ℕ → Result Dspm FieldFault
-dspm_content = row_as (λ row. record {
+-- the lexical levels are AALL, 0 or 1, and NALL, from 0 to 2 (S-57 Part 3, 2.4)
+abbrev pub has_good_levels : List Subfield → Bool
+has_good_levels row = nat_le (number_in row 1) 1 && nat_le (number_in row 2) 2
+
+unfoldable pub dssi_content : List ℕ → Result Dssi FieldFault
+dssi_content = row_as dssi_value dssi_forms has_good_levels
+
+abbrev pub dspm_value : List Subfield → Dspm
+dspm_value row = record {
   rcid = number_in row 1;
   hdat = number_in row 2;
   vdat = number_in row 3;
@@ -126,27 +136,39 @@ dspm_content = row_as (λ row. record {
   comf = number_in row 10;
   somf = number_in row 11;
   comt = text_in row 12;
-}) dspm_forms (λ row. number_in row 0 == 20)
+}
 
-unfoldable pub frid_content : List ℕ → Result Frid FieldFault
-frid_content = row_as (λ row. record {
+unfoldable pub dspm_content : List ℕ → Result Dspm FieldFault
+dspm_content = row_as dspm_value dspm_forms (λ row. number_in row 0 == 20)
+
+abbrev pub frid_value : List Subfield → Frid
+frid_value row = record {
   rcid = number_in row 1;
   prim = number_in row 2;
   grup = number_in row 3;
   objl = number_in row 4;
   rver = number_in row 5;
   ruin = number_in row 6;
-}) frid_forms (λ row. number_in row 0 == 100)
+}
+
+unfoldable pub frid_content : List ℕ → Result Frid FieldFault
+frid_content = row_as frid_value frid_forms (λ row. number_in row 0 == 100)
 
 unfoldable pub foid_content : List ℕ → Result Lnam FieldFault
 foid_content = row_as lnam_in foid_forms any_row
 
+abbrev pub attribute_value : List Subfield → Attr
+attribute_value row = record { code = number_in row 0; value = text_in row 1 }
+
 -- attributes at a lexical level: ATTF and ATTV with one-byte texts, NATF at the level NALL
 unfoldable pub attribute_content : ℕ → List ℕ → Result (List Attr) FieldFault
-attribute_content level = rows_as (λ row. record { code = number_in row 0; value = text_in row 1 }) level (attribute_forms level) any_row
+attribute_content level = rows_as attribute_value level (attribute_forms level) any_row
+
+abbrev pub partner_value : List Subfield → Partner
+partner_value row = record { to = lnam_in row; rind = number_in row 3; comt = text_in row 4 }
 
 unfoldable pub partner_content : List ℕ → Result (List Partner) FieldFault
-partner_content = rows_as (λ row. record { to = lnam_in row; rind = number_in row 3; comt = text_in row 4 }) 0 partner_forms any_row
+partner_content = rows_as partner_value 0 partner_forms any_row
 
 abbrev pub place_value : List Subfield → Spot
 place_value row = record { to = name_in row; ornt = number_in row 2; usag = number_in row 3; mask = number_in row 4 }
@@ -154,8 +176,11 @@ place_value row = record { to = name_in row; ornt = number_in row 2; usag = numb
 unfoldable pub place_content : List ℕ → Result (List Spot) FieldFault
 place_content = rows_as place_value 0 place_forms names_a_vector
 
+abbrev pub vrid_value : List Subfield → Vrid
+vrid_value row = record { name = name_in row; rver = number_in row 2; ruin = number_in row 3 }
+
 unfoldable pub vrid_content : List ℕ → Result Vrid FieldFault
-vrid_content = row_as (λ row. record { name = name_in row; rver = number_in row 2; ruin = number_in row 3 }) vrid_forms names_a_vector
+vrid_content = row_as vrid_value vrid_forms names_a_vector
 
 abbrev pub end_value : List Subfield → End
 end_value row = record { to = name_in row; ornt = number_in row 2; usag = number_in row 3; topi = number_in row 4; mask = number_in row 5 }

@@ -1,5 +1,5 @@
 -- The content of a field as a relation: its bytes are its subfields one after the other, then its terminator.
-use Rattle.std.specs.Prelude.{◌≡◌, ◌⊎◌, ℕ, ◌==◌, Bool, List, [], ◌∷◌, ◌++◌, map}
+use Rattle.std.specs.Prelude.{◌≡◌, ◌⊎◌, ℕ, ◌==◌, List, [], ◌∷◌, ◌++◌, map}
 use Rattle.std.specs.Bool.{MatchBool}
 use Rattle.std.specs.List.{flat_map, AllByRecursion}
 use Rattle.s57_types.specs.Subfield.{Form, Subfield, form_of, row_bytes, IsSubfield, field_terminator}

@@ -1,3 +1,5 @@
 pub mod Cutting
 pub mod FieldContent
 pub mod Contents
+pub mod FieldBytes
+pub mod FieldFit

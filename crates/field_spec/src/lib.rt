@@ -2,5 +2,7 @@
 #![tactic(auto)]
 
 mod fault;
+mod law;
 
 pub use fault::FieldFault;
+pub use law::{field_is_decided, repeating_fields, repeating_rows_read_back, rows_read_back};

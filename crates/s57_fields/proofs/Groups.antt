@@ -1,5 +1,5 @@
 -- A row cut in three groups of forms.
-use Rattle.std.proofs.Common.{◌≡◌, ℕ, List, [], ◌∷◌, ◌++◌, Option, Some, None, refl, ap, sym, ◌∙◌}
+use Rattle.std.proofs.Common.{◌≡◌, ℕ, List, ◌++◌, Option, Some, None, refl, ap, sym, ◌∙◌}
 use Rattle.std.specs.Option.{option_map, option_and_then}
 use Rattle.s57_types.specs.Subfield.{Form, Subfield}
 use Rattle.field_spec.specs.Cutting.{cut_row}

@@ -1,3 +1,4 @@
 pub mod Groups
 pub mod RowWalk
-pub mod NumberRows
+pub mod JudgedRows
+pub mod UnitLemmas

@@ -1,3 +1,5 @@
 pub mod Gives
 pub mod HeadSubfields
 pub mod RowCutting
+pub mod Units
+pub mod Spelling

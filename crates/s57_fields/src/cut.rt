@@ -3,8 +3,9 @@
 ghost use Rattle.std.specs.Prelude.{◌≡◌, ◌==◌, ◌<◌, position, length, IfSome};
 ghost use Rattle.std.specs.Option.{option_map};
 ghost use Rattle.s57_types.specs.Subfield.{unsigned, signed, text, fixed, unsigned_of, signed_of, text_of, fixed_of, unit_terminator};
-ghost use Rattle.field_spec.specs.Cutting.{split, front, before_terminator};
+ghost use Rattle.field_spec.specs.Cutting.{split, front, before_terminator, body_at_level};
 
+use crate::text::WIDE_LEVEL;
 use byteorder::{ByteOrder, LittleEndian};
 
 /// The unit terminator, which ends a text.
@@ -96,4 +97,19 @@ pub fn field_body(bytes: &[u8]) -> Option<&[u8]>
         return None;
     }
     Some(body)
+}
+
+/// The bytes of a field before its terminator. Behind two-byte texts the rows have even length; there the terminator
+/// has a second byte 0, or one byte as elsewhere.
+pub fn field_body_at(level: u8, bytes: &[u8]) -> Option<&[u8]>
+    ensures { option_map (λ x. x.now) result ≡ body_at_level level bytes.now }
+{
+    if level != WIDE_LEVEL || bytes.len() % 2 == 1 {
+        return field_body(bytes);
+    }
+    let (last, front) = bytes.split_last()?;
+    if *last != 0 {
+        return None;
+    }
+    field_body(front)
 }

@@ -1,21 +1,30 @@
 //! The fields of the head records (S-57 Part 3, 7.3).
 
-ghost use Rattle.std.specs.Prelude.{◌≡◌, IfOk, MatchOption, Ok, Err};
+ghost use Rattle.std.specs.Prelude.{◌≡◌, ◌++◌, IfOk, MatchOption, OnOk, OnErr, Ok, Err};
 ghost use Rattle.std.specs.List.{list_all};
 ghost use Rattle.std.specs.Option.{option_map, option_and_then};
 ghost use Rattle.s57_types.specs.Subfield.{is_plain};
-ghost use Rattle.s57_types.specs.FieldRows.{dsid_forms, dspm_forms};
+ghost use Rattle.s57_types.specs.FieldRows.{dsid_forms, dspm_forms, dsid_row, dspm_row, dssi_row};
 ghost use Rattle.field_spec.specs.declared.fault.FieldFault.TheVariants.{BadField};
 ghost use Rattle.field_spec.specs.Cutting.{cut_row, field_row, whole, before_terminator};
 ghost use Rattle.field_spec.specs.Contents.{dsid_value, dsid_content, dssi_content, dspm_content};
+ghost use Rattle.field_spec.specs.FieldBytes.{field_bytes};
 ghost use Rattle.s57_fields.specs.Gives.{Gives};
 ghost use Rattle.s57_fields.specs.HeadSubfields.{dspm_subfields, dsid_subfields, dsid_names, dsid_dates, dsid_product, dsid_name_forms, dsid_date_forms, dsid_product_forms, cut_groups};
 
 use crate::cut::{field_body, take_array, take_text, take_u8, take_u16, take_u32};
 use crate::refusal::FieldRefusal;
+use crate::spell::Value;
 use crate::text::{is_plain_text, owned_text};
+use crate::write::write_row;
 use s57_types::{Dsid, Dspm, Dssi};
 use std::alloc::{AllocError, Global};
+
+/// The record name RCNM of the data set identification (S-57 Part 3, 2.2).
+const IDENTIFICATION_RCNM: u8 = 10;
+
+/// The record name RCNM of the data set parameters.
+const PARAMETERS_RCNM: u8 = 20;
 
 /// The data set structure information, or None where the field is bad.
 #[tactic(auto, unfolding(field_spec::specs::Contents::dssi_content))]
@@ -49,6 +58,25 @@ pub fn read_dssi(_alloc: Global, bytes: &[u8]) -> Result<Dssi, FieldRefusal>
     ensures { Gives result (dssi_content bytes.now) }
 {
     dssi_of(bytes).ok_or(FieldRefusal::BadField)
+}
+
+/// Appends the data set structure information, the field DSSI.
+///
+/// An `Err` is want of memory, and leaves the bytes as they were.
+pub fn write_dssi(alloc: Global, value: &Dssi, out: &mut Vec<u8>) -> Result<(), AllocError>
+    ensures ok { OnOk result (out.new.items ≡ out.old.items ++ field_bytes (dssi_row value.now)) }
+    ensures err { OnErr result (out.new.items ≡ out.old.items) }
+{
+    let levels = [
+        Value::Byte(value.dstr),
+        Value::Byte(value.aall),
+        Value::Byte(value.nall),
+    ];
+    let mut row = Vec::from_slice(alloc, &levels)?;
+    for count in &value.counts {
+        row.push(Value::Long(*count))?;
+    }
+    write_row(alloc, row.as_slice(), out)
 }
 
 /// The subfields of the data set parameters.
@@ -114,7 +142,7 @@ pub fn read_dspm(alloc: Global, bytes: &[u8]) -> Result<Dspm, FieldRefusal>
     let Some(d) = cut_dspm(bytes) else {
         return Err(FieldRefusal::BadField);
     };
-    if d.rcnm != 20 {
+    if d.rcnm != PARAMETERS_RCNM {
         return Err(FieldRefusal::BadField);
     }
     if !is_plain_text(d.comt) {
@@ -134,6 +162,31 @@ pub fn read_dspm(alloc: Global, bytes: &[u8]) -> Result<Dspm, FieldRefusal>
         somf: d.somf,
         comt: owned_text(alloc, d.comt)?,
     })
+}
+
+/// Appends the data set parameters, the field DSPM.
+///
+/// An `Err` is want of memory, and leaves the bytes as they were.
+pub fn write_dspm(alloc: Global, value: &Dspm, out: &mut Vec<u8>) -> Result<(), AllocError>
+    ensures ok { OnOk result (out.new.items ≡ out.old.items ++ field_bytes (dspm_row value.now)) }
+    ensures err { OnErr result (out.new.items ≡ out.old.items) }
+{
+    let row = [
+        Value::Byte(PARAMETERS_RCNM),
+        Value::Long(value.rcid),
+        Value::Byte(value.hdat),
+        Value::Byte(value.vdat),
+        Value::Byte(value.sdat),
+        Value::Long(value.cscl),
+        Value::Byte(value.duni),
+        Value::Byte(value.huni),
+        Value::Byte(value.puni),
+        Value::Byte(value.coun),
+        Value::Long(value.comf),
+        Value::Long(value.somf),
+        Value::Text(value.comt.as_slice()),
+    ];
+    write_row(alloc, &row, out)
 }
 
 /// The first subfields of the data set identification: the record, the data set's names and numbers.
@@ -300,11 +353,39 @@ pub fn read_dsid(alloc: Global, bytes: &[u8]) -> Result<Dsid, FieldRefusal>
     let Some(subfields) = cut_dsid(bytes) else {
         return Err(FieldRefusal::BadField);
     };
-    if subfields.names.rcnm != 10 {
+    if subfields.names.rcnm != IDENTIFICATION_RCNM {
         return Err(FieldRefusal::BadField);
     }
     if !is_plain_dsid(&subfields) {
         return Err(FieldRefusal::BadText);
     }
     Ok(dsid_of(alloc, &subfields)?)
+}
+
+/// Appends the data set identification, the field DSID.
+///
+/// An `Err` is want of memory, and leaves the bytes as they were.
+pub fn write_dsid(alloc: Global, value: &Dsid, out: &mut Vec<u8>) -> Result<(), AllocError>
+    ensures ok { OnOk result (out.new.items ≡ out.old.items ++ field_bytes (dsid_row value.now)) }
+    ensures err { OnErr result (out.new.items ≡ out.old.items) }
+{
+    let row = [
+        Value::Byte(IDENTIFICATION_RCNM),
+        Value::Long(value.rcid),
+        Value::Byte(value.expp),
+        Value::Byte(value.intu),
+        Value::Text(value.dsnm.as_slice()),
+        Value::Text(value.edtn.as_slice()),
+        Value::Text(value.updn.as_slice()),
+        Value::Fixed(&value.uadt),
+        Value::Fixed(&value.isdt),
+        Value::Fixed(&value.sted),
+        Value::Byte(value.prsp),
+        Value::Text(value.psdn.as_slice()),
+        Value::Text(value.pred.as_slice()),
+        Value::Byte(value.prof),
+        Value::Short(value.agen),
+        Value::Text(value.comt.as_slice()),
+    ];
+    write_row(alloc, &row, out)
 }

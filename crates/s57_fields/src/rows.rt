@@ -1,21 +1,21 @@
-//! Fields of rows that hold numbers alone.
+//! Fields whose row repeats.
 
-ghost use Rattle.std.specs.Prelude.{◌≡◌, ◌+◌, ◌<◌, ◌≤◌, Bool, true, List, ℕ, Option, Result, Some, None, length, IfSome, MatchOption};
+ghost use Rattle.std.specs.Prelude.{◌≡◌, ◌<◌, ◌++◌, Bool, List, ℕ, length, IfOk, IfSome, OnOk};
 ghost use Rattle.std.specs.Option.{option_map};
-ghost use Rattle.s57_types.specs.Subfield.{Form, Subfield};
+ghost use Rattle.s57_types.specs.Subfield.{Form, Subfield, row_bytes};
 ghost use Rattle.field_spec.specs.Contents.{rows_as};
 ghost use Rattle.s57_fields.specs.Gives.{Gives};
-ghost use Rattle.s57_fields.specs.RowCutting.{take_row, are_numbers, rows_from};
+ghost use Rattle.s57_fields.specs.RowCutting.{take_row, rows_from, content_of_rows};
 
-use crate::cut::field_body;
+use crate::cut::field_body_at;
 use crate::refusal::FieldRefusal;
 use s57_types::Items;
-use std::alloc::Global;
+use std::alloc::{AllocError, Global};
 
-/// A row of numbers.
-pub trait NumberRow: Drop + Sized {
+/// A row of a field whose row repeats, at a lexical level of its texts.
+pub trait FieldRow: Drop + Sized {
     /// The forms of its subfields.
-    ghost forms: { List Form };
+    ghost forms: { ℕ → List Form };
 
     /// Which rows the field may have.
     ghost good: { List Subfield → Bool };
@@ -23,36 +23,54 @@ pub trait NumberRow: Drop + Sized {
     /// The value of a row.
     ghost value: { List Subfield → Self };
 
-    /// The row with which bytes begin, and the bytes after it.
-    fn take_front(bytes: &[u8]) -> Option<(Self, &[u8])>
-        ensures row { option_map (λ x. (x.0, x.1.now)) result ≡ take_row forms good value bytes.now }
-        ensures shorter { IfSome result (λ x. length x.1.now < length bytes.now) };
+    /// The subfields of a value, at a lexical level.
+    ghost subfields: { ℕ → Self → List Subfield };
 
-    ghost numbers: { are_numbers forms ≡ true };
+    /// The row with which bytes begin, whether its texts are plain, and the bytes after it.
+    fn take_front(
+        alloc: Global,
+        level: u8,
+        bytes: &[u8],
+    ) -> Result<Option<(Self, bool, &[u8])>, AllocError>
+        ensures cut { IfOk result (λ front. option_map (λ x. (x.0, x.1, x.2.now)) front ≡ take_row (forms level) good value bytes.now) }
+        ensures shorter { IfOk result (λ front. IfSome front (λ x. length x.2.now < length bytes.now)) };
+
+    /// Appends the subfields of a row.
+    fn put(&self, level: u8, out: &mut Vec<u8>) -> Result<(), AllocError>
+        ensures { OnOk result (out.new.items ≡ out.old.items ++ row_bytes (subfields level self.now)) };
 }
 
 /// The rows of a field.
-pub fn read_rows<R: NumberRow>(alloc: Global, bytes: &[u8]) -> Result<Items<R>, FieldRefusal>
-    ensures { Gives result (rows_as R.value 0 R.forms R.good bytes.now) }
+pub fn read_rows<R: FieldRow>(
+    alloc: Global,
+    level: u8,
+    bytes: &[u8],
+) -> Result<Items<R>, FieldRefusal>
+    ensures { Gives result (rows_as R.value level (R.forms level) R.good bytes.now) }
 {
-    let Some(body) = field_body(bytes) else {
+    let Some(body) = field_body_at(level, bytes) else {
         return Err(FieldRefusal::BadField);
     };
-    body_rows(alloc, body)
+    body_rows(alloc, level, body)
 }
 
-/// The rows of a field before its terminator.
-fn body_rows<R: NumberRow>(alloc: Global, body: &[u8]) -> Result<Items<R>, FieldRefusal>
-    ensures { Gives result (rows_from R.forms R.good R.value (length body.now) body.now) }
+/// The rows of a field before its terminator. A text that isn't plain counts after all rows are whole.
+fn body_rows<R: FieldRow>(alloc: Global, level: u8, body: &[u8]) -> Result<Items<R>, FieldRefusal>
+    ensures { Gives result (content_of_rows (rows_from (R.forms level) R.good R.value (length body.now) body.now)) }
 {
     let mut rows = Items::make(alloc);
+    let mut all_plain = true;
     let mut rest = body;
     while !rest.is_empty() {
-        let Some((row, after)) = R::take_front(rest) else {
+        let Some((row, is_plain, after)) = R::take_front(alloc, level, rest)? else {
             return Err(FieldRefusal::BadField);
         };
         rows.push(row)?;
+        all_plain &= is_plain;
         rest = after;
+    }
+    if !all_plain {
+        return Err(FieldRefusal::BadText);
     }
     Ok(rows)
 }

@@ -1,21 +1,25 @@
 //! The fields of a vector record (S-57 Part 3, 7.7.1).
 
-ghost use Rattle.std.specs.Prelude.{◌≡◌, MatchOption, true, false, [], ◌∷◌};
+ghost use Rattle.std.specs.Prelude.{◌≡◌, ◌<◌, ◌++◌, MatchOption, IfSome, OnOk, OnErr, true, false, [], ◌∷◌, length};
 ghost use Rattle.std.specs.Option.{option_map};
 ghost use Rattle.s57_types.specs.Subfield.{unsigned_of};
-ghost use Rattle.s57_types.specs.FieldRows.{vrid_forms};
+ghost use Rattle.s57_types.specs.FieldRows.{vrid_forms, end_forms, plane_forms, deep_forms, attribute_row, end_row, plane_row, deep_row, vrid_row, rcnm_of as rcnm_number};
 ghost use Rattle.field_spec.specs.Cutting.{field_row};
-ghost use Rattle.field_spec.specs.Contents.{end_content, plane_content, vrid_content, is_vector_rcnm, kind_of_rcnm};
+ghost use Rattle.field_spec.specs.Contents.{attribute_content, end_content, plane_content, deep_content, vrid_content, is_vector_rcnm, kind_of_rcnm, names_a_vector, any_row, end_value, plane_value, deep_value};
+ghost use Rattle.field_spec.specs.FieldBytes.{field_bytes, rows_bytes};
 ghost use Rattle.s57_fields.specs.Gives.{Gives};
+ghost use Rattle.s57_fields.specs.RowCutting.{take_row};
 
 use crate::cut::{field_body, take_i32, take_u8, take_u16, take_u32};
 use crate::refusal::FieldRefusal;
-use crate::rows::{NumberRow, read_rows};
-use s57_types::{End, Ends, Kind, Plane, RecName, Vrid};
-use std::alloc::Global;
+use crate::rows::{FieldRow, read_rows};
+use crate::spell::{Value, put_row};
+use crate::write::{write_row, write_rows};
+use s57_types::{Attrs, Deep, End, Ends, Kind, Plane, RecName, Vrid};
+use std::alloc::{AllocError, Global};
 
 /// The kind of a vector record by its record name RCNM (S-57 Part 3, 2.2).
-fn vector_kind(rcnm: u8) -> Option<Kind>
+pub fn vector_kind(rcnm: u8) -> Option<Kind>
     ensures { MatchOption result (is_vector_rcnm rcnm ≡ false) (λ kind. (is_vector_rcnm rcnm ≡ true) × (kind ≡ kind_of_rcnm rcnm)) }
 {
     match rcnm {
@@ -23,6 +27,18 @@ fn vector_kind(rcnm: u8) -> Option<Kind>
         120 => Some(Kind::Vc),
         130 => Some(Kind::Ve),
         _ => None,
+    }
+}
+
+/// The record name RCNM of a kind (S-57 Part 3, 2.2).
+pub fn rcnm_of(kind: Kind) -> u8
+    ensures { result ≡ rcnm_number kind }
+{
+    match kind {
+        Kind::Vi => 110,
+        Kind::Vc => 120,
+        Kind::Ve => 130,
+        Kind::Fe => 100,
     }
 }
 
@@ -55,38 +71,98 @@ pub fn read_vrid(_alloc: Global, bytes: &[u8]) -> Result<Vrid, FieldRefusal>
     Ok(Vrid { name, rver, ruin })
 }
 
-impl NumberRow for End {
-    ghost use Rattle.std.specs.Prelude.{refl};
-    ghost use Rattle.s57_types.specs.FieldRows.{end_forms};
+/// Appends the identifier of a vector record, the field VRID.
+///
+/// An `Err` is want of memory, and leaves the bytes as they were.
+pub fn write_vrid(alloc: Global, value: &Vrid, out: &mut Vec<u8>) -> Result<(), AllocError>
+    ensures ok { OnOk result (out.new.items ≡ out.old.items ++ field_bytes (vrid_row value.now)) }
+    ensures err { OnErr result (out.new.items ≡ out.old.items) }
+{
+    let row = [
+        Value::Byte(rcnm_of(value.name.kind)),
+        Value::Long(value.name.id),
+        Value::Short(value.rver),
+        Value::Byte(value.ruin),
+    ];
+    write_row(alloc, &row, out)
+}
+
+/// The attributes of a vector record, the field ATTV.
+#[tactic(auto, unfolding(field_spec::specs::Contents::attribute_content))]
+pub fn read_attv(alloc: Global, bytes: &[u8]) -> Result<Attrs, FieldRefusal>
+    ensures { Gives result (attribute_content 0 bytes.now) }
+{
+    read_rows(alloc, 0, bytes)
+}
+
+/// Appends the attributes of a vector record, the field ATTV.
+///
+/// An `Err` is want of memory, and leaves the bytes as they were.
+pub fn write_attv(alloc: Global, value: &Attrs, out: &mut Vec<u8>) -> Result<(), AllocError>
+    ensures ok { OnOk result (out.new.items ≡ out.old.items ++ rows_bytes 0 (attribute_row 0) value.now) }
+    ensures err { OnErr result (out.new.items ≡ out.old.items) }
+{
+    write_rows(alloc, 0, value, out)
+}
+
+/// A pointer as it was cut: the record's name, and ORNT, USAG, TOPI and MASK.
+fn cut_end(bytes: &[u8]) -> Option<(End, &[u8])>
+    ensures cut { option_map (λ x. (x.0, true, x.1.now)) result ≡ take_row end_forms names_a_vector end_value bytes.now }
+    ensures shorter { IfSome result (λ x. length x.1.now < length bytes.now) }
+{
+    let (rcnm, rest) = take_u8(bytes)?;
+    let (id, rest) = take_u32(rest)?;
+    let (ornt, rest) = take_u8(rest)?;
+    let (usag, rest) = take_u8(rest)?;
+    let (topi, rest) = take_u8(rest)?;
+    let (mask, rest) = take_u8(rest)?;
+    let kind = vector_kind(rcnm)?;
+    let to = RecName { kind, id };
+    Some((
+        End {
+            to,
+            ornt,
+            usag,
+            topi,
+            mask,
+        },
+        rest,
+    ))
+}
+
+impl FieldRow for End {
+    ghost use Rattle.s57_types.specs.FieldRows.{end_forms, end_row};
     ghost use Rattle.field_spec.specs.Contents.{names_a_vector, end_value};
 
-    ghost forms = { end_forms };
+    ghost forms = { λ level. end_forms };
 
     ghost good = { names_a_vector };
 
     ghost value = { end_value };
 
-    ghost numbers = { refl };
+    ghost subfields = { λ level x. end_row x };
 
-    fn take_front(bytes: &[u8]) -> Option<(End, &[u8])> {
-        let (rcnm, rest) = take_u8(bytes)?;
-        let (id, rest) = take_u32(rest)?;
-        let (ornt, rest) = take_u8(rest)?;
-        let (usag, rest) = take_u8(rest)?;
-        let (topi, rest) = take_u8(rest)?;
-        let (mask, rest) = take_u8(rest)?;
-        let kind = vector_kind(rcnm)?;
-        let to = RecName { kind, id };
-        Some((
-            End {
-                to,
-                ornt,
-                usag,
-                topi,
-                mask,
-            },
-            rest,
-        ))
+    fn take_front(
+        _alloc: Global,
+        _level: u8,
+        bytes: &[u8],
+    ) -> Result<Option<(End, bool, &[u8])>, AllocError> {
+        let Some((end, rest)) = cut_end(bytes) else {
+            return Ok(None);
+        };
+        Ok(Some((end, true, rest)))
+    }
+
+    fn put(&self, _level: u8, out: &mut Vec<u8>) -> Result<(), AllocError> {
+        let row = [
+            Value::Byte(rcnm_of(self.to.kind)),
+            Value::Long(self.to.id),
+            Value::Byte(self.ornt),
+            Value::Byte(self.usag),
+            Value::Byte(self.topi),
+            Value::Byte(self.mask),
+        ];
+        put_row(&row, out)
     }
 }
 
@@ -95,26 +171,53 @@ impl NumberRow for End {
 pub fn read_vrpt(alloc: Global, bytes: &[u8]) -> Result<Ends, FieldRefusal>
     ensures { Gives result (end_content bytes.now) }
 {
-    read_rows(alloc, bytes)
+    read_rows(alloc, 0, bytes)
 }
 
-impl NumberRow for (i32, i32) {
-    ghost use Rattle.std.specs.Prelude.{refl};
-    ghost use Rattle.s57_types.specs.FieldRows.{plane_forms};
+/// Appends the pointers of a vector record, the field VRPT.
+///
+/// An `Err` is want of memory, and leaves the bytes as they were.
+pub fn write_vrpt(alloc: Global, value: &Ends, out: &mut Vec<u8>) -> Result<(), AllocError>
+    ensures ok { OnOk result (out.new.items ≡ out.old.items ++ rows_bytes 0 end_row value.now) }
+    ensures err { OnErr result (out.new.items ≡ out.old.items) }
+{
+    write_rows(alloc, 0, value, out)
+}
+
+fn cut_plane(bytes: &[u8]) -> Option<((i32, i32), &[u8])>
+    ensures cut { option_map (λ x. (x.0, true, x.1.now)) result ≡ take_row plane_forms any_row plane_value bytes.now }
+    ensures shorter { IfSome result (λ x. length x.1.now < length bytes.now) }
+{
+    let (y, rest) = take_i32(bytes)?;
+    let (x, rest) = take_i32(rest)?;
+    Some(((y, x), rest))
+}
+
+impl FieldRow for (i32, i32) {
+    ghost use Rattle.s57_types.specs.FieldRows.{plane_forms, plane_row};
     ghost use Rattle.field_spec.specs.Contents.{any_row, plane_value};
 
-    ghost forms = { plane_forms };
+    ghost forms = { λ level. plane_forms };
 
     ghost good = { any_row };
 
     ghost value = { plane_value };
 
-    ghost numbers = { refl };
+    ghost subfields = { λ level x. plane_row x };
 
-    fn take_front(bytes: &[u8]) -> Option<((i32, i32), &[u8])> {
-        let (y, rest) = take_i32(bytes)?;
-        let (x, rest) = take_i32(rest)?;
-        Some(((y, x), rest))
+    fn take_front(
+        _alloc: Global,
+        _level: u8,
+        bytes: &[u8],
+    ) -> Result<Option<((i32, i32), bool, &[u8])>, AllocError> {
+        let Some((point, rest)) = cut_plane(bytes) else {
+            return Ok(None);
+        };
+        Ok(Some((point, true, rest)))
+    }
+
+    fn put(&self, _level: u8, out: &mut Vec<u8>) -> Result<(), AllocError> {
+        put_row(&[Value::Signed(self.0), Value::Signed(self.1)], out)
     }
 }
 
@@ -123,5 +226,76 @@ impl NumberRow for (i32, i32) {
 pub fn read_sg2d(alloc: Global, bytes: &[u8]) -> Result<Plane, FieldRefusal>
     ensures { Gives result (plane_content bytes.now) }
 {
-    read_rows(alloc, bytes)
+    read_rows(alloc, 0, bytes)
+}
+
+/// Appends the 2-D coordinates of a vector record, the field SG2D.
+///
+/// An `Err` is want of memory, and leaves the bytes as they were.
+pub fn write_sg2d(alloc: Global, value: &Plane, out: &mut Vec<u8>) -> Result<(), AllocError>
+    ensures ok { OnOk result (out.new.items ≡ out.old.items ++ rows_bytes 0 plane_row value.now) }
+    ensures err { OnErr result (out.new.items ≡ out.old.items) }
+{
+    write_rows(alloc, 0, value, out)
+}
+
+fn cut_deep(bytes: &[u8]) -> Option<((i32, i32, i32), &[u8])>
+    ensures cut { option_map (λ x. (x.0, true, x.1.now)) result ≡ take_row deep_forms any_row deep_value bytes.now }
+    ensures shorter { IfSome result (λ x. length x.1.now < length bytes.now) }
+{
+    let (y, rest) = take_i32(bytes)?;
+    let (x, rest) = take_i32(rest)?;
+    let (depth, rest) = take_i32(rest)?;
+    Some(((y, x, depth), rest))
+}
+
+impl FieldRow for (i32, i32, i32) {
+    ghost use Rattle.s57_types.specs.FieldRows.{deep_forms, deep_row};
+    ghost use Rattle.field_spec.specs.Contents.{any_row, deep_value};
+
+    ghost forms = { λ level. deep_forms };
+
+    ghost good = { any_row };
+
+    ghost value = { deep_value };
+
+    ghost subfields = { λ level x. deep_row x };
+
+    fn take_front(
+        _alloc: Global,
+        _level: u8,
+        bytes: &[u8],
+    ) -> Result<Option<((i32, i32, i32), bool, &[u8])>, AllocError> {
+        let Some((sounding, rest)) = cut_deep(bytes) else {
+            return Ok(None);
+        };
+        Ok(Some((sounding, true, rest)))
+    }
+
+    fn put(&self, _level: u8, out: &mut Vec<u8>) -> Result<(), AllocError> {
+        let row = [
+            Value::Signed(self.0),
+            Value::Signed(self.1),
+            Value::Signed(self.2),
+        ];
+        put_row(&row, out)
+    }
+}
+
+/// The soundings of a vector record, the field SG3D: latitude, longitude and depth, in integer units.
+#[tactic(auto, unfolding(field_spec::specs::Contents::deep_content))]
+pub fn read_sg3d(alloc: Global, bytes: &[u8]) -> Result<Deep, FieldRefusal>
+    ensures { Gives result (deep_content bytes.now) }
+{
+    read_rows(alloc, 0, bytes)
+}
+
+/// Appends the soundings of a vector record, the field SG3D.
+///
+/// An `Err` is want of memory, and leaves the bytes as they were.
+pub fn write_sg3d(alloc: Global, value: &Deep, out: &mut Vec<u8>) -> Result<(), AllocError>
+    ensures ok { OnOk result (out.new.items ≡ out.old.items ++ rows_bytes 0 deep_row value.now) }
+    ensures err { OnErr result (out.new.items ≡ out.old.items) }
+{
+    write_rows(alloc, 0, value, out)
 }

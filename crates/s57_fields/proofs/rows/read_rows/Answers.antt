@@ -1,8 +1,7 @@
-use Rattle.std.proofs.Common.{subst, sym}
-use Rattle.s57_fields.specs.Gives.{Gives}
-use Rattle.s57_fields.proofs.NumberRows.{rows_as-numbers}
+use Rattle.std.proofs.Common.{sym}
+use Rattle.s57_fields.proofs.JudgedRows.{rows_as-body}
 use Rattle.s57_fields.proofs.rows.read_rows.Goals as goal
 
 pub returns : goal.returns
-returns g c = let r = g.R.NumberRow in
-    rw (rows_as-numbers r.value r.forms r.good c.args.bytes.now c.in-Some.body.now g.met.R.NumberRow.numbers (sym c.in-Some.ensures)) c.body_rows.ensures
+returns g c = let r = g.R.FieldRow in
+    rw (rows_as-body r.value c.args.level (r.forms c.args.level) r.good c.args.bytes.now c.in-Some.body.now (sym c.in-Some.ensures)) c.body_rows.ensures

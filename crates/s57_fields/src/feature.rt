@@ -1,0 +1,352 @@
+//! The fields of a feature record (S-57 Part 3, 7.6).
+
+ghost use Rattle.std.specs.Prelude.{◌≡◌, ◌<◌, ◌++◌, MatchOption, IfSome, OnOk, OnErr, true, Ok, Err, [], ◌∷◌, length};
+ghost use Rattle.std.specs.Option.{option_map};
+ghost use Rattle.s57_types.specs.Subfield.{unsigned_of, text_of};
+ghost use Rattle.s57_types.specs.FieldRows.{attribute_forms, partner_forms, place_forms, foid_forms, foid_row, frid_row, attribute_row, partner_row, place_row, level_text};
+ghost use Rattle.field_spec.specs.declared.fault.FieldFault.TheVariants.{BadField};
+ghost use Rattle.field_spec.specs.Cutting.{cut_row};
+ghost use Rattle.field_spec.specs.Contents.{frid_content, foid_content, attribute_content, partner_content, place_content, names_a_vector, place_value};
+ghost use Rattle.field_spec.specs.FieldBytes.{field_bytes, rows_bytes};
+ghost use Rattle.s57_fields.specs.Gives.{Gives};
+ghost use Rattle.s57_fields.specs.RowCutting.{take_row};
+
+use crate::cut::{field_body, take_text, take_u8, take_u16, take_u32};
+use crate::refusal::FieldRefusal;
+use crate::rows::{FieldRow, read_rows};
+use crate::spell::{Value, put_row};
+use crate::text::{WIDE_LEVEL, is_plain_level_text, is_plain_text, owned_text, take_level_text};
+use crate::vector::{rcnm_of, vector_kind};
+use crate::write::{write_row, write_rows};
+use s57_types::{Attr, Attrs, Frid, Lnam, Partner, Partners, Places, RecName, Spot};
+use std::alloc::{AllocError, Global};
+
+/// The record name RCNM of a feature record (S-57 Part 3, 2.2).
+const FEATURE_RCNM: u8 = 100;
+
+/// The identifier of a feature record, or None where the field is bad.
+#[tactic(auto, unfolding(field_spec::specs::Contents::frid_content))]
+fn frid_of(bytes: &[u8]) -> Option<Frid>
+    ensures { MatchOption result (frid_content bytes.now ≡ Err BadField) (λ frid. frid_content bytes.now ≡ Ok frid) }
+{
+    let (rcnm, rest) = take_u8(field_body(bytes)?)?;
+    let (rcid, rest) = take_u32(rest)?;
+    let (prim, rest) = take_u8(rest)?;
+    let (grup, rest) = take_u8(rest)?;
+    let (objl, rest) = take_u16(rest)?;
+    let (rver, rest) = take_u16(rest)?;
+    let (ruin, rest) = take_u8(rest)?;
+    if !rest.is_empty() || rcnm != FEATURE_RCNM {
+        return None;
+    }
+    Some(Frid {
+        rcid,
+        prim,
+        grup,
+        objl,
+        rver,
+        ruin,
+    })
+}
+
+/// The identifier of a feature record, the field FRID. It takes no memory.
+pub fn read_frid(_alloc: Global, bytes: &[u8]) -> Result<Frid, FieldRefusal>
+    ensures { Gives result (frid_content bytes.now) }
+{
+    frid_of(bytes).ok_or(FieldRefusal::BadField)
+}
+
+/// Appends the identifier of a feature record, the field FRID.
+///
+/// An `Err` is want of memory, and leaves the bytes as they were.
+pub fn write_frid(alloc: Global, value: &Frid, out: &mut Vec<u8>) -> Result<(), AllocError>
+    ensures ok { OnOk result (out.new.items ≡ out.old.items ++ field_bytes (frid_row value.now)) }
+    ensures err { OnErr result (out.new.items ≡ out.old.items) }
+{
+    let row = [
+        Value::Byte(FEATURE_RCNM),
+        Value::Long(value.rcid),
+        Value::Byte(value.prim),
+        Value::Byte(value.grup),
+        Value::Short(value.objl),
+        Value::Short(value.rver),
+        Value::Byte(value.ruin),
+    ];
+    write_row(alloc, &row, out)
+}
+
+/// A long name LNAM: AGEN, FIDN and FIDS, and the bytes after it.
+fn take_lnam(bytes: &[u8]) -> Option<(Lnam, &[u8])>
+    ensures cut { option_map (λ x. (foid_row x.0, x.1.now)) result ≡ cut_row foid_forms bytes.now }
+    ensures shorter { IfSome result (λ x. length x.1.now < length bytes.now) }
+{
+    let (agen, rest) = take_u16(bytes)?;
+    let (fidn, rest) = take_u32(rest)?;
+    let (fids, rest) = take_u16(rest)?;
+    Some((Lnam { agen, fidn, fids }, rest))
+}
+
+/// The feature object identifier, or None where the field is bad.
+#[tactic(auto, unfolding(field_spec::specs::Contents::foid_content))]
+fn foid_of(bytes: &[u8]) -> Option<Lnam>
+    ensures { MatchOption result (foid_content bytes.now ≡ Err BadField) (λ lnam. foid_content bytes.now ≡ Ok lnam) }
+{
+    let (lnam, rest) = take_lnam(field_body(bytes)?)?;
+    if !rest.is_empty() {
+        return None;
+    }
+    Some(lnam)
+}
+
+/// The identifier of a feature object, the field FOID. It takes no memory.
+pub fn read_foid(_alloc: Global, bytes: &[u8]) -> Result<Lnam, FieldRefusal>
+    ensures { Gives result (foid_content bytes.now) }
+{
+    foid_of(bytes).ok_or(FieldRefusal::BadField)
+}
+
+/// Appends the identifier of a feature object, the field FOID.
+///
+/// An `Err` is want of memory, and leaves the bytes as they were.
+pub fn write_foid(alloc: Global, value: &Lnam, out: &mut Vec<u8>) -> Result<(), AllocError>
+    ensures ok { OnOk result (out.new.items ≡ out.old.items ++ field_bytes (foid_row value.now)) }
+    ensures err { OnErr result (out.new.items ≡ out.old.items) }
+{
+    let row = [
+        Value::Short(value.agen),
+        Value::Long(value.fidn),
+        Value::Short(value.fids),
+    ];
+    write_row(alloc, &row, out)
+}
+
+/// An attribute as it was cut: its code ATTL and its value ATVL at a lexical level.
+fn cut_attribute(level: u8, bytes: &[u8]) -> Option<(u16, &[u8], &[u8])>
+    ensures cut { option_map (λ x. (unsigned_of 2 x.0 ∷ level_text level x.1.now ∷ [], x.2.now)) result ≡ cut_row (attribute_forms level) bytes.now }
+    ensures shorter { IfSome result (λ x. length x.2.now < length bytes.now) }
+{
+    let (code, rest) = take_u16(bytes)?;
+    let (value, rest) = take_level_text(level, rest)?;
+    Some((code, value, rest))
+}
+
+impl FieldRow for Attr {
+    ghost use Rattle.s57_types.specs.FieldRows.{attribute_forms, attribute_row};
+    ghost use Rattle.field_spec.specs.Contents.{any_row, attribute_value};
+
+    ghost forms = { attribute_forms };
+
+    ghost good = { any_row };
+
+    ghost value = { attribute_value };
+
+    ghost subfields = { λ level x. attribute_row level x };
+
+    fn take_front(
+        alloc: Global,
+        level: u8,
+        bytes: &[u8],
+    ) -> Result<Option<(Attr, bool, &[u8])>, AllocError> {
+        let Some((code, text, rest)) = cut_attribute(level, bytes) else {
+            return Ok(None);
+        };
+        let is_plain = is_plain_level_text(level, text);
+        let value = owned_text(alloc, text)?;
+        Ok(Some((Attr { code, value }, is_plain, rest)))
+    }
+
+    fn put(&self, level: u8, out: &mut Vec<u8>) -> Result<(), AllocError> {
+        let text = self.value.as_slice();
+        let value = if level == WIDE_LEVEL {
+            Value::WideText(text)
+        } else {
+            Value::Text(text)
+        };
+        put_row(&[Value::Short(self.code), value], out)
+    }
+}
+
+/// The attributes of a feature record, the field ATTF.
+#[tactic(auto, unfolding(field_spec::specs::Contents::attribute_content))]
+pub fn read_attf(alloc: Global, bytes: &[u8]) -> Result<Attrs, FieldRefusal>
+    ensures { Gives result (attribute_content 0 bytes.now) }
+{
+    read_rows(alloc, 0, bytes)
+}
+
+/// Appends the attributes of a feature record, the field ATTF.
+///
+/// An `Err` is want of memory, and leaves the bytes as they were.
+pub fn write_attf(alloc: Global, value: &Attrs, out: &mut Vec<u8>) -> Result<(), AllocError>
+    ensures ok { OnOk result (out.new.items ≡ out.old.items ++ rows_bytes 0 (attribute_row 0) value.now) }
+    ensures err { OnErr result (out.new.items ≡ out.old.items) }
+{
+    write_rows(alloc, 0, value, out)
+}
+
+/// The national attributes of a feature record, the field NATF, at the lexical level NALL.
+#[tactic(auto, unfolding(field_spec::specs::Contents::attribute_content))]
+pub fn read_natf(alloc: Global, nall: u8, bytes: &[u8]) -> Result<Attrs, FieldRefusal>
+    ensures { Gives result (attribute_content nall bytes.now) }
+{
+    read_rows(alloc, nall, bytes)
+}
+
+/// Appends the national attributes of a feature record, the field NATF, at the lexical level NALL.
+///
+/// An `Err` is want of memory, and leaves the bytes as they were.
+pub fn write_natf(
+    alloc: Global,
+    nall: u8,
+    value: &Attrs,
+    out: &mut Vec<u8>,
+) -> Result<(), AllocError>
+    ensures ok { OnOk result (out.new.items ≡ out.old.items ++ rows_bytes nall (attribute_row nall) value.now) }
+    ensures err { OnErr result (out.new.items ≡ out.old.items) }
+{
+    write_rows(alloc, nall, value, out)
+}
+
+/// A pointer to a feature object as it was cut: LNAM, RIND and COMT.
+fn cut_partner(bytes: &[u8]) -> Option<(Lnam, u8, &[u8], &[u8])>
+    ensures cut { option_map (λ x. (unsigned_of 2 x.0.agen ∷ unsigned_of 4 x.0.fidn ∷ unsigned_of 2 x.0.fids ∷ unsigned_of 1 x.1 ∷ text_of x.2.now ∷ [], x.3.now)) result ≡ cut_row partner_forms bytes.now }
+    ensures shorter { IfSome result (λ x. length x.3.now < length bytes.now) }
+{
+    let (agen, rest) = take_u16(bytes)?;
+    let (fidn, rest) = take_u32(rest)?;
+    let (fids, rest) = take_u16(rest)?;
+    let (rind, rest) = take_u8(rest)?;
+    let (comt, rest) = take_text(rest)?;
+    Some((Lnam { agen, fidn, fids }, rind, comt, rest))
+}
+
+impl FieldRow for Partner {
+    ghost use Rattle.s57_types.specs.FieldRows.{partner_forms, partner_row};
+    ghost use Rattle.field_spec.specs.Contents.{any_row, partner_value};
+
+    ghost forms = { λ level. partner_forms };
+
+    ghost good = { any_row };
+
+    ghost value = { partner_value };
+
+    ghost subfields = { λ level x. partner_row x };
+
+    fn take_front(
+        alloc: Global,
+        _level: u8,
+        bytes: &[u8],
+    ) -> Result<Option<(Partner, bool, &[u8])>, AllocError> {
+        let Some((to, rind, text, rest)) = cut_partner(bytes) else {
+            return Ok(None);
+        };
+        let is_plain = is_plain_text(text);
+        let comt = owned_text(alloc, text)?;
+        Ok(Some((Partner { to, rind, comt }, is_plain, rest)))
+    }
+
+    fn put(&self, _level: u8, out: &mut Vec<u8>) -> Result<(), AllocError> {
+        let row = [
+            Value::Short(self.to.agen),
+            Value::Long(self.to.fidn),
+            Value::Short(self.to.fids),
+            Value::Byte(self.rind),
+            Value::Text(self.comt.as_slice()),
+        ];
+        put_row(&row, out)
+    }
+}
+
+/// The pointers of a feature record to feature objects, the field FFPT.
+#[tactic(auto, unfolding(field_spec::specs::Contents::partner_content))]
+pub fn read_ffpt(alloc: Global, bytes: &[u8]) -> Result<Partners, FieldRefusal>
+    ensures { Gives result (partner_content bytes.now) }
+{
+    read_rows(alloc, 0, bytes)
+}
+
+/// Appends the pointers of a feature record to feature objects, the field FFPT.
+///
+/// An `Err` is want of memory, and leaves the bytes as they were.
+pub fn write_ffpt(alloc: Global, value: &Partners, out: &mut Vec<u8>) -> Result<(), AllocError>
+    ensures ok { OnOk result (out.new.items ≡ out.old.items ++ rows_bytes 0 partner_row value.now) }
+    ensures err { OnErr result (out.new.items ≡ out.old.items) }
+{
+    write_rows(alloc, 0, value, out)
+}
+
+/// A pointer to a vector record as it was cut: the record's name, and ORNT, USAG and MASK.
+fn cut_place(bytes: &[u8]) -> Option<(Spot, &[u8])>
+    ensures cut { option_map (λ x. (x.0, true, x.1.now)) result ≡ take_row place_forms names_a_vector place_value bytes.now }
+    ensures shorter { IfSome result (λ x. length x.1.now < length bytes.now) }
+{
+    let (rcnm, rest) = take_u8(bytes)?;
+    let (id, rest) = take_u32(rest)?;
+    let (ornt, rest) = take_u8(rest)?;
+    let (usag, rest) = take_u8(rest)?;
+    let (mask, rest) = take_u8(rest)?;
+    let kind = vector_kind(rcnm)?;
+    let to = RecName { kind, id };
+    Some((
+        Spot {
+            to,
+            ornt,
+            usag,
+            mask,
+        },
+        rest,
+    ))
+}
+
+impl FieldRow for Spot {
+    ghost use Rattle.s57_types.specs.FieldRows.{place_forms, place_row};
+    ghost use Rattle.field_spec.specs.Contents.{names_a_vector, place_value};
+
+    ghost forms = { λ level. place_forms };
+
+    ghost good = { names_a_vector };
+
+    ghost value = { place_value };
+
+    ghost subfields = { λ level x. place_row x };
+
+    fn take_front(
+        _alloc: Global,
+        _level: u8,
+        bytes: &[u8],
+    ) -> Result<Option<(Spot, bool, &[u8])>, AllocError> {
+        let Some((spot, rest)) = cut_place(bytes) else {
+            return Ok(None);
+        };
+        Ok(Some((spot, true, rest)))
+    }
+
+    fn put(&self, _level: u8, out: &mut Vec<u8>) -> Result<(), AllocError> {
+        let row = [
+            Value::Byte(rcnm_of(self.to.kind)),
+            Value::Long(self.to.id),
+            Value::Byte(self.ornt),
+            Value::Byte(self.usag),
+            Value::Byte(self.mask),
+        ];
+        put_row(&row, out)
+    }
+}
+
+/// The pointers of a feature record to vector records, the field FSPT.
+#[tactic(auto, unfolding(field_spec::specs::Contents::place_content))]
+pub fn read_fspt(alloc: Global, bytes: &[u8]) -> Result<Places, FieldRefusal>
+    ensures { Gives result (place_content bytes.now) }
+{
+    read_rows(alloc, 0, bytes)
+}
+
+/// Appends the pointers of a feature record to vector records, the field FSPT.
+///
+/// An `Err` is want of memory, and leaves the bytes as they were.
+pub fn write_fspt(alloc: Global, value: &Places, out: &mut Vec<u8>) -> Result<(), AllocError>
+    ensures ok { OnOk result (out.new.items ≡ out.old.items ++ rows_bytes 0 place_row value.now) }
+    ensures err { OnErr result (out.new.items ≡ out.old.items) }
+{
+    write_rows(alloc, 0, value, out)
+}

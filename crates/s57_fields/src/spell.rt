@@ -1,0 +1,79 @@
+//! The spelling of subfields (S-57 Part 3, 7.2.2).
+
+ghost use Rattle.std.specs.Prelude.{◌≡◌, ◌++◌, OnOk};
+ghost use Rattle.std.specs.Int.{bytes_low_first};
+ghost use Rattle.s57_types.specs.Subfield.{row_bytes, spelling};
+ghost use Rattle.s57_fields.specs.Spelling.{subfield_of, row_of};
+
+use crate::cut::UNIT_TERMINATOR;
+use byteorder::{ByteOrder, LittleEndian};
+use std::alloc::AllocError;
+
+/// A subfield to write.
+#[derive(Clone, Copy)]
+pub enum Value<'a> {
+    /// A number of one byte, b11.
+    Byte(u8),
+    /// A number of two bytes, b12.
+    Short(u16),
+    /// A number of four bytes, b14.
+    Long(u32),
+    /// A signed number of four bytes, b24.
+    Signed(i32),
+    /// A text that ends with the unit terminator, A.
+    Text(&'a [u8]),
+    /// A text of two-byte units that ends with a unit of its own.
+    WideText(&'a [u8]),
+    /// A text of a length of its own, A(n) or R(n).
+    Fixed(&'a [u8]),
+}
+
+/// The bytes of a number, the least significant first.
+fn short_bytes(n: u16) -> [u8; 2]
+    ensures { result ≡ bytes_low_first 0 2 n }
+{
+    let mut bytes = [0; 2];
+    LittleEndian::write_u16(&mut bytes, n);
+    bytes
+}
+
+/// The bytes of a number, the least significant first.
+fn long_bytes(n: u32) -> [u8; 4]
+    ensures { result ≡ bytes_low_first 0 4 n }
+{
+    let mut bytes = [0; 4];
+    LittleEndian::write_u32(&mut bytes, n);
+    bytes
+}
+
+/// Appends a subfield.
+fn put_value(value: Value<'_>, out: &mut Vec<u8>) -> Result<(), AllocError>
+    ensures { OnOk result (out.new.items ≡ out.old.items ++ spelling (subfield_of value.entry)) }
+{
+    match value {
+        Value::Byte(n) => out.push(n)?,
+        Value::Short(n) => out.extend_from_slice(&short_bytes(n))?,
+        Value::Long(n) => out.extend_from_slice(&long_bytes(n))?,
+        Value::Signed(n) => out.extend_from_slice(&long_bytes(n.cast_unsigned()))?,
+        Value::Text(text) => {
+            out.extend_from_slice(text)?;
+            out.push(UNIT_TERMINATOR)?;
+        }
+        Value::WideText(text) => {
+            out.extend_from_slice(text)?;
+            out.extend_from_slice(&[UNIT_TERMINATOR, 0])?;
+        }
+        Value::Fixed(text) => out.extend_from_slice(text)?,
+    }
+    Ok(())
+}
+
+/// Appends the subfields of a row one after the other.
+pub fn put_row(row: &[Value<'_>], out: &mut Vec<u8>) -> Result<(), AllocError>
+    ensures { OnOk result (out.new.items ≡ out.old.items ++ row_bytes (row_of row.now)) }
+{
+    for value in row {
+        put_value(*value, out)?;
+    }
+    Ok(())
+}

@@ -1,0 +1,53 @@
+//! Fields as bytes.
+
+ghost use Rattle.std.specs.Prelude.{◌≡◌, ◌++◌, OnOk, OnErr};
+ghost use Rattle.s57_types.specs.RecordFields.{terminator_of};
+ghost use Rattle.field_spec.specs.FieldBytes.{field_bytes, rows_bytes};
+ghost use Rattle.s57_fields.specs.Spelling.{row_of};
+
+use crate::cut::FIELD_TERMINATOR;
+use crate::rows::FieldRow;
+use crate::spell::{Value, put_row};
+use crate::text::WIDE_LEVEL;
+use s57_types::Items;
+use std::alloc::{AllocError, Global};
+
+/// Appends a field of one row. A refusal leaves the bytes as they were.
+pub fn write_row(alloc: Global, row: &[Value<'_>], out: &mut Vec<u8>) -> Result<(), AllocError>
+    ensures ok { OnOk result (out.new.items ≡ out.old.items ++ field_bytes (row_of row.now)) }
+    ensures err { OnErr result (out.new.items ≡ out.old.items) }
+{
+    let mut field = Vec::new(alloc);
+    put_row(row, &mut field)?;
+    field.push(FIELD_TERMINATOR)?;
+    out.extend_from_slice(field.as_slice())
+}
+
+/// Appends the terminator of a field at a lexical level.
+fn put_terminator(level: u8, out: &mut Vec<u8>) -> Result<(), AllocError>
+    ensures { OnOk result (out.new.items ≡ out.old.items ++ terminator_of level) }
+{
+    out.push(FIELD_TERMINATOR)?;
+    if level == WIDE_LEVEL {
+        out.push(0)?;
+    }
+    Ok(())
+}
+
+/// Appends a field whose row repeats. With no row it is the terminator alone. A refusal leaves the bytes as they were.
+pub fn write_rows<R: FieldRow>(
+    alloc: Global,
+    level: u8,
+    rows: &Items<R>,
+    out: &mut Vec<u8>,
+) -> Result<(), AllocError>
+    ensures ok { OnOk result (out.new.items ≡ out.old.items ++ rows_bytes level (R.subfields level) rows.now) }
+    ensures err { OnErr result (out.new.items ≡ out.old.items) }
+{
+    let mut field = Vec::new(alloc);
+    for row in rows.as_slice() {
+        row.put(level, &mut field)?;
+    }
+    put_terminator(level, &mut field)?;
+    out.extend_from_slice(field.as_slice())
+}
