@@ -13,7 +13,7 @@ use Rattle.field_spec.specs.Contents.{dsid_content, dssi_content, dspm_content, 
 use Rattle.field_spec.specs.declared.fault.FieldFault.{FieldFault}
 use Rattle.cell_spec.specs.Names.{same_name}
 use Rattle.cell_spec.specs.Lookup.{all_records, is_named}
-use Rattle.file_spec.specs.CellRecords.{with_record, empty_cell, record_limit}
+use Rattle.file_spec.specs.CellRecords.{with_record, empty_cell, head_with, record_limit}
 use Rattle.file_spec.specs.FileRecords.{FileRecord, file_records, first_frame}
 use Rattle.s57_types.specs.declared.name.Kind.{Kind}
 use Rattle.s57_types.specs.declared.name.Kind.TheVariants.{Vi, Vc, Ve, Fe}
@@ -45,36 +45,7 @@ parameters_of other = None
 
 -- the head of a new data set with chain-node topology (S-57 Part 3, 7.3.1; Appendix B.1)
 abbrev pub head_of : Dsid × Dssi → Dspm → Option Head
-head_of (d, s) p = if (d.expp == 1) && (s.dstr == 2) then Some (record {
-  dsid_rcid = d.rcid;
-  intu = d.intu;
-  dsnm = d.dsnm;
-  edtn = d.edtn;
-  updn = d.updn;
-  uadt = d.uadt;
-  isdt = d.isdt;
-  sted = d.sted;
-  prsp = d.prsp;
-  psdn = d.psdn;
-  pred = d.pred;
-  prof = d.prof;
-  agen = d.agen;
-  dsid_comt = d.comt;
-  aall = s.aall;
-  nall = s.nall;
-  dspm_rcid = p.rcid;
-  hdat = p.hdat;
-  vdat = p.vdat;
-  sdat = p.sdat;
-  cscl = p.cscl;
-  duni = p.duni;
-  huni = p.huni;
-  puni = p.puni;
-  coun = p.coun;
-  comf = p.comf;
-  somf = p.somf;
-  dspm_comt = p.comt;
-}) else None
+head_of (d, s) p = if (d.expp == 1) && (s.dstr == 2) then Some (head_with d s p) else None
 
 -- the rows of the field with which fields begin, where it has the tag, and the fields after it
 abbrev pub rows_of_tag : {X : Type 0} → List ℕ → (List ℕ → Result (List X) FieldFault) → List Field → Option (List X × List Field)
