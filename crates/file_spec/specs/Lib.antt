@@ -5,3 +5,5 @@ pub mod RecordFaults
 pub mod FieldTags
 pub mod RecordReading
 pub mod DecodedCell
+pub mod DescriptiveRecord
+pub mod EncodedCell
