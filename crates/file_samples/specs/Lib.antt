@@ -1,0 +1,4 @@
+pub mod Parts
+pub mod Square
+pub mod SquareBytes
+pub mod SquareFile

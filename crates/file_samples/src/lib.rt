@@ -1,0 +1,6 @@
+//! The definitions of a cell file, evaluated on small files whose bytes are typed out.
+#![tactic(auto)]
+
+mod law;
+
+pub use law::{square_is_read, square_is_written};
