@@ -1,3 +1,5 @@
+pub mod Fields
+pub mod Frames
 pub mod Parts
 pub mod Square
 pub mod SquareBytes

@@ -1,6 +1,28 @@
 //! The definitions, evaluated: each law is the contract of a function that does nothing.
 
+ghost use Rattle.file_samples.specs.Fields.{WideTextsAreRead, WideTextsAreWritten, TextsAreRead, RowsAreRead, RowsAreWritten, FieldFaultsAreAsListed};
+ghost use Rattle.file_samples.specs.Frames.{EntryMapsAreRead, FieldsMayOverlap, LeadersAreJudged, DirectoriesAreJudged, FrameFaultsHaveOrder, PlacesDontMatter};
 ghost use Rattle.file_samples.specs.SquareFile.{DescriptionsHaveLengths, DescriptiveRecordHasLengths, DescriptiveRecordIsWritten, FirstNodeIsWritten, SquareIsWritten, SquareHasOffsets, EmptyCellIsWritten, SquareIsRead, WideNodeIsRead, CutsAreRead, ChangedBytesAreRead, RepeatedRecordIsRead};
+
+/// What stands at the begin of small records, or why nothing does.
+pub fn frames_are_decided()
+    ensures entry_maps { EntryMapsAreRead }
+    ensures overlap { FieldsMayOverlap }
+    ensures leaders { LeadersAreJudged }
+    ensures directories { DirectoriesAreJudged }
+    ensures order { FrameFaultsHaveOrder }
+    ensures places { PlacesDontMatter }
+{}
+
+/// What the bytes of single fields say, or their faults.
+pub fn fields_are_read()
+    ensures wide { WideTextsAreRead }
+    ensures wide_written { WideTextsAreWritten }
+    ensures texts { TextsAreRead }
+    ensures rows { RowsAreRead }
+    ensures rows_written { RowsAreWritten }
+    ensures faults { FieldFaultsAreAsListed }
+{}
 
 /// The file of one square, byte for byte: its data descriptive record, its head records and its records.
 pub fn square_is_written()
