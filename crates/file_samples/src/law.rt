@@ -1,5 +1,6 @@
 //! The definitions, evaluated: each law is the contract of a function that does nothing.
 
+ghost use Rattle.file_samples.specs.Faults.{EachFaultIsFound, FirstStepCounts, FirstFieldCounts, FirstRecordCounts, OverlappingIsTooLong};
 ghost use Rattle.file_samples.specs.Fields.{WideTextsAreRead, WideTextsAreWritten, TextsAreRead, RowsAreRead, RowsAreWritten, FieldFaultsAreAsListed};
 ghost use Rattle.file_samples.specs.Frames.{EntryMapsAreRead, FieldsMayOverlap, LeadersAreJudged, DirectoriesAreJudged, FrameFaultsHaveOrder, PlacesDontMatter};
 ghost use Rattle.file_samples.specs.SquareFile.{DescriptionsHaveLengths, DescriptiveRecordHasLengths, DescriptiveRecordIsWritten, FirstNodeIsWritten, SquareIsWritten, SquareHasOffsets, EmptyCellIsWritten, SquareIsRead, WideNodeIsRead, CutsAreRead, ChangedBytesAreRead, RepeatedRecordIsRead};
@@ -42,4 +43,13 @@ pub fn square_is_read()
     ensures cuts { CutsAreRead }
     ensures changed { ChangedBytesAreRead }
     ensures repeated { RepeatedRecordIsRead }
+{}
+
+/// Small files with one fault each, and with two, of which the first counts.
+pub fn faults_are_found()
+    ensures each { EachFaultIsFound }
+    ensures steps { FirstStepCounts }
+    ensures fields { FirstFieldCounts }
+    ensures records { FirstRecordCounts }
+    ensures overlap { OverlappingIsTooLong }
 {}
