@@ -3,6 +3,7 @@
 ghost use Rattle.file_samples.specs.Faults.{EachFaultIsFound, FirstStepCounts, FirstFieldCounts, FirstRecordCounts, OverlappingIsTooLong};
 ghost use Rattle.file_samples.specs.Fields.{WideTextsAreRead, WideTextsAreWritten, TextsAreRead, RowsAreRead, RowsAreWritten, FieldFaultsAreAsListed};
 ghost use Rattle.file_samples.specs.Frames.{EntryMapsAreRead, FieldsMayOverlap, LeadersAreJudged, DirectoriesAreJudged, FrameFaultsHaveOrder, PlacesDontMatter};
+ghost use Rattle.file_samples.specs.Limits.{LengthLimitIsExact, RecordLimitIsExact, LastStepsHaveOrder};
 ghost use Rattle.file_samples.specs.SquareFile.{DescriptionsHaveLengths, DescriptiveRecordHasLengths, DescriptiveRecordIsWritten, FirstNodeIsWritten, SquareIsWritten, SquareHasOffsets, EmptyCellIsWritten, SquareIsRead, WideNodeIsRead, CutsAreRead, ChangedBytesAreRead, RepeatedRecordIsRead};
 
 /// What stands at the begin of small records, or why nothing does.
@@ -52,4 +53,11 @@ pub fn faults_are_found()
     ensures fields { FirstFieldCounts }
     ensures records { FirstRecordCounts }
     ensures overlap { OverlappingIsTooLong }
+{}
+
+/// How long a record may be and how many there may be, and the order of the last steps.
+pub fn limits_are_exact()
+    ensures length { LengthLimitIsExact }
+    ensures count { RecordLimitIsExact }
+    ensures order { LastStepsHaveOrder }
 {}
