@@ -7,3 +7,5 @@ pub mod SmallFiles
 pub mod Square
 pub mod SquareBytes
 pub mod SquareFile
+pub mod UnusualFiles
+pub mod WrittenFiles

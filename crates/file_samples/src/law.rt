@@ -5,6 +5,8 @@ ghost use Rattle.file_samples.specs.Fields.{WideTextsAreRead, WideTextsAreWritte
 ghost use Rattle.file_samples.specs.Frames.{EntryMapsAreRead, FieldsMayOverlap, LeadersAreJudged, DirectoriesAreJudged, FrameFaultsHaveOrder, PlacesDontMatter};
 ghost use Rattle.file_samples.specs.Limits.{LengthLimitIsExact, RecordLimitIsExact, LastStepsHaveOrder};
 ghost use Rattle.file_samples.specs.SquareFile.{DescriptionsHaveLengths, DescriptiveRecordHasLengths, DescriptiveRecordIsWritten, FirstNodeIsWritten, SquareIsWritten, SquareHasOffsets, EmptyCellIsWritten, SquareIsRead, WideNodeIsRead, CutsAreRead, ChangedBytesAreRead, RepeatedRecordIsRead};
+ghost use Rattle.file_samples.specs.UnusualFiles.{RecordsMayMix, FieldsMayMix, FieldsJoin};
+ghost use Rattle.file_samples.specs.WrittenFiles.{LevelsAreWritten, CountsAreByClass, NumbersBeginAnew, EveryFieldIsWritten, EveryFieldIsRead};
 
 /// What stands at the begin of small records, or why nothing does.
 pub fn frames_are_decided()
@@ -60,4 +62,20 @@ pub fn limits_are_exact()
     ensures length { LengthLimitIsExact }
     ensures count { RecordLimitIsExact }
     ensures order { LastStepsHaveOrder }
+{}
+
+/// Good files of unusual form.
+pub fn unusual_files_are_read()
+    ensures records { RecordsMayMix }
+    ensures fields { FieldsMayMix }
+    ensures join { FieldsJoin }
+{}
+
+/// What is written by lexical level, object class and number, and a cell with every field.
+pub fn files_are_written()
+    ensures levels { LevelsAreWritten }
+    ensures counts { CountsAreByClass }
+    ensures numbers { NumbersBeginAnew }
+    ensures every_field { EveryFieldIsWritten }
+    ensures every_field_read { EveryFieldIsRead }
 {}
