@@ -1,23 +1,16 @@
 -- The bytes of single fields, with the content or the fault of each, and with the fields that are written.
-use Rattle.std.specs.Prelude.{◌≡◌, ℕ, List, [], ◌∷◌, ◌++◌, map, pos, negsuc, codes, Option, Some, None, Result, Ok, Err}
+use Rattle.std.specs.Prelude.{◌≡◌, ℕ, List, [], ◌∷◌, ◌++◌, map, pos, negsuc, codes, Option, Some, None, Ok, Err}
 use Rattle.std.specs.Prelude.{ℤ}
-use Rattle.std.specs.Result.{result_err}
-use Rattle.frame_spec.specs.RecordFrame.{Field}
 use Rattle.s57_types.specs.FieldRows.{attribute_row, partner_row, deep_row}
 use Rattle.s57_types.specs.RecordFields.{rows_field}
-use Rattle.s57_types.specs.declared.name.RecName.{RecName}
-use Rattle.s57_types.specs.declared.name.Kind.TheVariants.{Vi, Vc, Ve}
 use Rattle.s57_types.specs.declared.record.Attr.{Attr}
 use Rattle.s57_types.specs.declared.record.Partner.{Partner}
-use Rattle.s57_types.specs.declared.record.End.{End}
-use Rattle.s57_types.specs.declared.record.Spot.{Spot}
-use Rattle.field_spec.specs.Contents.{dsid_content, dssi_content, dspm_content, frid_content, foid_content, attribute_content, partner_content, place_content, vrid_content, end_content, plane_content, deep_content}
+use Rattle.field_spec.specs.Contents.{attribute_content, partner_content, deep_content}
 use Rattle.field_spec.specs.declared.fault.FieldFault.{FieldFault}
 use Rattle.field_spec.specs.declared.fault.FieldFault.TheVariants.{BadField, BadText}
 use Rattle.file_spec.specs.RecordReading.{content_fault}
 use Rattle.file_spec.specs.declared.tag.FieldTag.{FieldTag}
 use Rattle.file_spec.specs.declared.tag.FieldTag.TheVariants as tags
-use Rattle.file_samples.specs.Parts.{name}
 
 abbrev pub attribute : ℕ → List ℕ → Attr
 attribute code value = record { code = code; value = value }
@@ -33,14 +26,14 @@ wide_attribute_bytes = 44 ∷ 1 ∷ 31 ∷ 1 ∷ 0 ∷ 30 ∷ 31 ∷ 0 ∷ 30 �
 abbrev pub WideTextsAreRead : Type 0
 WideTextsAreRead =
     map (attribute_content 2) (
-      wide_attribute_bytes ∷ (44 ∷ 1 ∷ 31 ∷ 1 ∷ 0 ∷ 30 ∷ 31 ∷ 0 ∷ 30 ∷ []) ∷
-      (30 ∷ []) ∷ (30 ∷ 0 ∷ []) ∷
-      (1 ∷ 0 ∷ 31 ∷ 0 ∷ 2 ∷ 0 ∷ 65 ∷ 0 ∷ 31 ∷ 0 ∷ 30 ∷ 0 ∷ []) ∷
-      (44 ∷ 1 ∷ 30 ∷ 0 ∷ 31 ∷ 0 ∷ 30 ∷ 0 ∷ []) ∷
-      (44 ∷ 1 ∷ 65 ∷ 31 ∷ 0 ∷ 30 ∷ 0 ∷ []) ∷
-      (44 ∷ 1 ∷ 65 ∷ 0 ∷ 31 ∷ 30 ∷ []) ∷
-      (44 ∷ 1 ∷ 65 ∷ 0 ∷ 31 ∷ 0 ∷ 0 ∷ 30 ∷ []) ∷
-      [] ∷ [])
+    wide_attribute_bytes ∷ (44 ∷ 1 ∷ 31 ∷ 1 ∷ 0 ∷ 30 ∷ 31 ∷ 0 ∷ 30 ∷ []) ∷
+    (30 ∷ []) ∷ (30 ∷ 0 ∷ []) ∷
+    (1 ∷ 0 ∷ 31 ∷ 0 ∷ 2 ∷ 0 ∷ 65 ∷ 0 ∷ 31 ∷ 0 ∷ 30 ∷ 0 ∷ []) ∷
+    (44 ∷ 1 ∷ 30 ∷ 0 ∷ 31 ∷ 0 ∷ 30 ∷ 0 ∷ []) ∷
+    (44 ∷ 1 ∷ 65 ∷ 31 ∷ 0 ∷ 30 ∷ 0 ∷ []) ∷
+    (44 ∷ 1 ∷ 65 ∷ 0 ∷ 31 ∷ 30 ∷ []) ∷
+    (44 ∷ 1 ∷ 65 ∷ 0 ∷ 31 ∷ 0 ∷ 0 ∷ 30 ∷ []) ∷
+    [] ∷ [])
     ≡ Ok (wide_attribute ∷ []) ∷ Ok (wide_attribute ∷ []) ∷
     Ok [] ∷ Ok [] ∷
     Ok (attribute 1 [] ∷ attribute 2 (65 ∷ 0 ∷ []) ∷ []) ∷
@@ -59,13 +52,13 @@ WideTextsAreWritten =
 abbrev pub TextsAreRead : Type 0
 TextsAreRead =
     map (attribute_content 1) (
-      (44 ∷ 1 ∷ 228 ∷ 0 ∷ 31 ∷ 30 ∷ []) ∷
-      (44 ∷ 1 ∷ 31 ∷ 1 ∷ 0 ∷ 65 ∷ 31 ∷ 30 ∷ []) ∷
-      (30 ∷ []) ∷
-      (44 ∷ 1 ∷ 65 ∷ 30 ∷ 31 ∷ 30 ∷ []) ∷
-      (44 ∷ 1 ∷ 65 ∷ 30 ∷ []) ∷
-      (44 ∷ 1 ∷ 65 ∷ 31 ∷ []) ∷
-      (30 ∷ 0 ∷ []) ∷ [])
+    (44 ∷ 1 ∷ 228 ∷ 0 ∷ 31 ∷ 30 ∷ []) ∷
+    (44 ∷ 1 ∷ 31 ∷ 1 ∷ 0 ∷ 65 ∷ 31 ∷ 30 ∷ []) ∷
+    (30 ∷ []) ∷
+    (44 ∷ 1 ∷ 65 ∷ 30 ∷ 31 ∷ 30 ∷ []) ∷
+    (44 ∷ 1 ∷ 65 ∷ 30 ∷ []) ∷
+    (44 ∷ 1 ∷ 65 ∷ 31 ∷ []) ∷
+    (30 ∷ 0 ∷ []) ∷ [])
     ≡ Ok (attribute 300 (228 ∷ 0 ∷ []) ∷ []) ∷
     Ok (attribute 300 [] ∷ attribute 1 (65 ∷ []) ∷ []) ∷
     Ok [] ∷

@@ -1,5 +1,5 @@
 -- Small records, with the frame or the fault of each.
-use Rattle.std.specs.Prelude.{◌≡◌, ℕ, ◌+◌, ◌-◌, ◌/◌, ◌%◌, Bool, true, false, List, [], ◌∷◌, ◌++◌, map, set, replicate, codes, Result, Ok, Err}
+use Rattle.std.specs.Prelude.{◌≡◌, ℕ, ◌+◌, ◌-◌, ◌/◌, ◌%◌, true, false, List, [], ◌∷◌, ◌++◌, map, set, replicate, codes, Result, Ok, Err}
 use Rattle.std.specs.List.{flat_map, range_with_len}
 use Rattle.frame_spec.specs.RecordFrame.{FrameView, Field}
 use Rattle.frame_spec.specs.FrameDecision.{frame_at}
@@ -50,20 +50,20 @@ changed place byte = set two_field_record place byte
 -- fields may overlap, may be one, and need not cover the field area; a record may have none
 abbrev pub FieldsMayOverlap : Type 0
 FieldsMayOverlap = AreFrames (
-  (two_field_record, two_fields) ∷
-  (two_field_record ++ codes "ghi", two_fields) ∷
-  (codes "00045 D     00039   1204VRID302SG2D401" ++ (30 ∷ []) ++ codes "abcdef", framed 45 (field (codes "VRID") (codes "cde") ∷ field (codes "SG2D") (codes "bcde") ∷ [])) ∷
-  (codes "00045 D     00039   1204VRID600SG2D600" ++ (30 ∷ []) ++ codes "abcdef", framed 45 (field (codes "VRID") (codes "abcdef") ∷ field (codes "SG2D") (codes "abcdef") ∷ [])) ∷
-  (codes "00045 D     00039   1204VRID105SG2D100" ++ (30 ∷ []) ++ codes "abcdef", framed 45 (field (codes "VRID") (codes "f") ∷ field (codes "SG2D") (codes "a") ∷ [])) ∷
-  (codes "00025 D     00025   1204" ++ (30 ∷ []), framed 25 []) ∷
-  (codes "00029 D     00025   9904" ++ (30 ∷ []) ++ codes "abcd", framed 29 []) ∷ [])
+    (two_field_record, two_fields) ∷
+    (two_field_record ++ codes "ghi", two_fields) ∷
+    (codes "00045 D     00039   1204VRID302SG2D401" ++ (30 ∷ []) ++ codes "abcdef", framed 45 (field (codes "VRID") (codes "cde") ∷ field (codes "SG2D") (codes "bcde") ∷ [])) ∷
+    (codes "00045 D     00039   1204VRID600SG2D600" ++ (30 ∷ []) ++ codes "abcdef", framed 45 (field (codes "VRID") (codes "abcdef") ∷ field (codes "SG2D") (codes "abcdef") ∷ [])) ∷
+    (codes "00045 D     00039   1204VRID105SG2D100" ++ (30 ∷ []) ++ codes "abcdef", framed 45 (field (codes "VRID") (codes "f") ∷ field (codes "SG2D") (codes "a") ∷ [])) ∷
+    (codes "00025 D     00025   1204" ++ (30 ∷ []), framed 25 []) ∷
+    (codes "00029 D     00025   9904" ++ (30 ∷ []) ++ codes "abcd", framed 29 []) ∷ [])
 
 -- the bytes that no reader looks at, and those that it does
 abbrev pub LeadersAreJudged : Type 0
 LeadersAreJudged = AreFrames (
-  map (λ place. (changed place 120, two_fields)) (5 ∷ 7 ∷ 8 ∷ 9 ∷ 10 ∷ 11 ∷ 17 ∷ 18 ∷ 19 ∷ 22 ∷ [])
-  ++ map (λ place. (changed place 120, Err BadLeader)) (0 ∷ 1 ∷ 2 ∷ 3 ∷ 4 ∷ 6 ∷ 12 ∷ 13 ∷ 14 ∷ 15 ∷ 16 ∷ 20 ∷ 21 ∷ 23 ∷ [])
-  ++ (
+    map (λ place. (changed place 120, two_fields)) (5 ∷ 7 ∷ 8 ∷ 9 ∷ 10 ∷ 11 ∷ 17 ∷ 18 ∷ 19 ∷ 22 ∷ [])
+    ++ map (λ place. (changed place 120, Err BadLeader)) (0 ∷ 1 ∷ 2 ∷ 3 ∷ 4 ∷ 6 ∷ 12 ∷ 13 ∷ 14 ∷ 15 ∷ 16 ∷ 20 ∷ 21 ∷ 23 ∷ [])
+    ++ (
     (changed 6 76, Err BadLeader) ∷ (changed 6 82, Err BadLeader) ∷
     (changed 20 48, Err BadLeader) ∷ (changed 20 58, Err BadLeader) ∷ (changed 21 48, Err BadLeader) ∷ (changed 21 58, Err BadLeader) ∷
     (changed 0 32, Err BadLeader) ∷ (changed 23 51, Err BadLeader) ∷
@@ -72,29 +72,29 @@ LeadersAreJudged = AreFrames (
 
 abbrev pub DirectoriesAreJudged : Type 0
 DirectoriesAreJudged = AreFrames (
-  -- no terminator before the base address, and no whole entries
-  (changed 38 31, Err BadDirectory) ∷
-  (codes "00045 D     00038   1204VRID300SG2D30" ++ (30 ∷ []) ++ codes "abcdefg", Err BadDirectory) ∷
-  (changed 20 50, Err BadDirectory) ∷
-  -- a length or a position that is no number, a length of 0, and a field that ends past the record
-  (changed 28 120, Err BadDirectory) ∷ (changed 30 32, Err BadDirectory) ∷ (changed 36 47, Err BadDirectory) ∷ (changed 37 58, Err BadDirectory) ∷
-  (changed 28 48, Err BadDirectory) ∷ (changed 35 48, Err BadDirectory) ∷
-  (changed 35 52, Err BadDirectory) ∷ (changed 37 52, Err BadDirectory) ∷ (changed 28 55, Err BadDirectory) ∷ [])
+    -- no terminator before the base address, and no whole entries
+    (changed 38 31, Err BadDirectory) ∷
+    (codes "00045 D     00038   1204VRID300SG2D30" ++ (30 ∷ []) ++ codes "abcdefg", Err BadDirectory) ∷
+    (changed 20 50, Err BadDirectory) ∷
+    -- a length or a position that is no number, a length of 0, and a field that ends past the record
+    (changed 28 120, Err BadDirectory) ∷ (changed 30 32, Err BadDirectory) ∷ (changed 36 47, Err BadDirectory) ∷ (changed 37 58, Err BadDirectory) ∷
+    (changed 28 48, Err BadDirectory) ∷ (changed 35 48, Err BadDirectory) ∷
+    (changed 35 52, Err BadDirectory) ∷ (changed 37 52, Err BadDirectory) ∷ (changed 28 55, Err BadDirectory) ∷ [])
 
 -- a fault of the leader goes before the bytes of the record, and these before the directory
 abbrev pub FrameFaultsHaveOrder : Type 0
 FrameFaultsHaveOrder = AreFrames (
-  ([], Err Short) ∷
-  (codes "xxxxxxxxxxxxxxxxxxxxxxx", Err Short) ∷
-  (codes "xxxxxxxxxxxxxxxxxxxxxxxx", Err BadLeader) ∷
-  (codes "00045 D     00039   1204" ++ codes "VRID300" ++ codes "SG2D303" ++ (30 ∷ []) ++ codes "abcde", Err Short) ∷
-  -- cut short, with a base address below 25, and with a length below the base address
-  (codes "00045 D     00024   1204", Err BadLeader) ∷
-  (codes "00038 D     00039   1204", Err BadLeader) ∷
-  -- cut short, with a bad directory
-  (codes "00046 D     00039   1204" ++ codes "VRID300" ++ codes "SG2D303" ++ codes "!abcdef", Err Short) ∷
-  -- a bad leader with a bad directory
-  (codes "00045 X     00039   1204" ++ codes "VRID300" ++ codes "SG2D303" ++ codes "!abcdef", Err BadLeader) ∷ [])
+    ([], Err Short) ∷
+    (codes "xxxxxxxxxxxxxxxxxxxxxxx", Err Short) ∷
+    (codes "xxxxxxxxxxxxxxxxxxxxxxxx", Err BadLeader) ∷
+    (codes "00045 D     00039   1204" ++ codes "VRID300" ++ codes "SG2D303" ++ (30 ∷ []) ++ codes "abcde", Err Short) ∷
+    -- cut short, with a base address below 25, and with a length below the base address
+    (codes "00045 D     00024   1204", Err BadLeader) ∷
+    (codes "00038 D     00039   1204", Err BadLeader) ∷
+    -- cut short, with a bad directory
+    (codes "00046 D     00039   1204" ++ codes "VRID300" ++ codes "SG2D303" ++ codes "!abcdef", Err Short) ∷
+    -- a bad leader with a bad directory
+    (codes "00045 X     00039   1204" ++ codes "VRID300" ++ codes "SG2D303" ++ codes "!abcdef", Err BadLeader) ∷ [])
 
 -- the same records at other places, and as the first of a file
 abbrev pub PlacesDontMatter : Type 0

@@ -8,4 +8,5 @@ pub mod Square
 pub mod SquareBytes
 pub mod SquareFile
 pub mod UnusualFiles
+pub mod WritableCells
 pub mod WrittenFiles

@@ -1,5 +1,5 @@
 -- The limits of a record's length and of the number of records.
-use Rattle.std.specs.Prelude.{◌≡◌, ℕ, ◌<◌, ◌≤◌, true, false, List, [], ◌∷◌, length, map, replicate, pos, Option, Some, None, Result, Ok, Err}
+use Rattle.std.specs.Prelude.{◌≡◌, ℕ, ◌<◌, ◌≤◌, true, false, List, [], ◌∷◌, length, map, replicate, pos, Some, None, Ok, Err}
 use Rattle.std.specs.List.{list_any}
 use Rattle.frame_spec.specs.RecordFrame.{Field}
 use Rattle.s57_types.specs.Fitness.{unfitness}
@@ -7,14 +7,12 @@ use Rattle.s57_types.specs.RecordFields.{written_length, length_limit}
 use Rattle.s57_types.specs.declared.name.Kind.TheVariants.{Vc}
 use Rattle.s57_types.specs.declared.record.Rec.{Rec}
 use Rattle.s57_types.specs.declared.record.Rec.TheVariants.{V}
-use Rattle.s57_types.specs.declared.fault.Unfit.{Unfit}
 use Rattle.s57_types.specs.declared.fault.Unfit.TheVariants.{TooLong}
 use Rattle.s57_types.specs.declared.cell.Cell.{Cell}
 use Rattle.cell_spec.specs.Lookup.{all_records, name_of, is_named}
 use Rattle.cell_spec.specs.Writable.{record_limit}
 use Rattle.file_spec.specs.DecodedCell.{record_behind, record_values}
 use Rattle.file_spec.specs.RecordReading.{record_type}
-use Rattle.file_spec.specs.declared.fault.RecordFault.{RecordFault}
 use Rattle.file_spec.specs.declared.fault.RecordFault.TheVariants as faults
 use Rattle.file_spec.specs.declared.tag.RecordType.{RecordType}
 use Rattle.file_samples.specs.Parts.{head, name, node}

@@ -1,12 +1,12 @@
 -- Small files by the fields of their records.
-use Rattle.std.specs.Prelude.{◌≡◌, ℕ, true, false, List, [], ◌∷◌, ◌++◌, map, replicate, codes, Result, Ok, Err}
+use Rattle.std.specs.Prelude.{◌≡◌, ℕ, false, List, [], ◌∷◌, ◌++◌, map, replicate, codes, Result, Err}
 use Rattle.std.specs.List.{flat_map}
 use Rattle.s57_types.specs.declared.cell.Cell.{Cell}
 use Rattle.s57_types.specs.declared.fault.CellFault.{CellFault}
 use Rattle.frame_spec.specs.RecordFrame.{Field}
 use Rattle.frame_spec.specs.WrittenRecord.{written_record}
 use Rattle.file_spec.specs.DecodedCell.{decoded_cell}
-use Rattle.file_samples.specs.Fields.{identification_bytes, structure_bytes}
+use Rattle.file_samples.specs.Fields.{identification_bytes}
 
 -- what a file stands for
 abbrev pub Meaning : Type 0

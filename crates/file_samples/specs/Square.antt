@@ -1,5 +1,5 @@
 -- One square of 40,000 units: four nodes, four edges, a depth area and the coverage.
-use Rattle.std.specs.Prelude.{ℕ, List, [], ◌∷◌, codes}
+use Rattle.std.specs.Prelude.{List, [], ◌∷◌, codes}
 use Rattle.s57_types.specs.declared.cell.Cell.{Cell}
 use Rattle.s57_types.specs.declared.record.Spot.{Spot}
 use Rattle.file_samples.specs.Parts.{head, node, edge, outer, area}

@@ -3,7 +3,6 @@ use Rattle.std.specs.Prelude.{◌≡◌, ℕ, true, List, [], ◌∷◌, ◌++�
 use Rattle.s57_types.specs.declared.cell.Cell.{Cell}
 use Rattle.s57_types.specs.declared.fault.CellFault.{CellFault}
 use Rattle.frame_spec.specs.WrittenRecord.{written_record, field_lengths, field_area}
-use Rattle.cell_spec.specs.Writable.{IsWritable}
 use Rattle.file_spec.specs.FileRecords.{FileRecord, file_records}
 use Rattle.file_spec.specs.DescriptiveRecord.{descriptive_fields}
 use Rattle.file_spec.specs.EncodedCell.{encoded_cell, record_bytes}

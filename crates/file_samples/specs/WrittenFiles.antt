@@ -1,7 +1,7 @@
 -- What is written: control bytes by lexical level, counts by object class, record numbers, and a cell with every field.
-use Rattle.std.specs.Prelude.{◌≡◌, ℕ, ◌+◌, ◌-◌, List, [], ◌∷◌, ◌++◌, map, take, drop, negsuc, pos, codes, Result, Ok}
+use Rattle.std.specs.Prelude.{◌≡◌, ℕ, List, [], ◌∷◌, ◌++◌, map, take, drop, negsuc, pos, codes, Ok}
 use Rattle.s57_types.specs.declared.cell.Cell.{Cell}
-use Rattle.s57_types.specs.declared.name.Kind.TheVariants.{Vi, Vc, Ve, Fe}
+use Rattle.s57_types.specs.declared.name.Kind.TheVariants.{Vi, Fe}
 use Rattle.s57_types.specs.declared.record.Rec.{Rec}
 use Rattle.s57_types.specs.declared.record.Rec.TheVariants.{V, F}
 use Rattle.frame_spec.specs.RecordFrame.{Field}
@@ -10,7 +10,6 @@ use Rattle.file_spec.specs.EncodedCell.{encoded_cell, record_counts, record_byte
 use Rattle.file_spec.specs.DecodedCell.{decoded_cell}
 use Rattle.file_samples.specs.Fields.{attribute, wide_attribute, wide_attribute_bytes, soundings, soundings_bytes, partners, partners_bytes}
 use Rattle.file_samples.specs.Parts.{head, name, node, area, outer, end_at}
-use Rattle.file_samples.specs.SquareBytes.{zero_bytes}
 
 -- the controls of ATTF and NATF, which are the seventh and the eighth field, at the levels AALL and NALL
 abbrev pub attribute_controls : ℕ → ℕ → List (List ℕ)
@@ -32,12 +31,12 @@ classes = record {
   vi = [];
   vc = node 1 0 0 ∷ [];
   ve = [];
-  fe = map of_class (0 ∷ 299 ∷ 300 ∷ 301 ∷ 399 ∷ 400 ∷ 499 ∷ 500 ∷ 550 ∷ 599 ∷ 599 ∷ 600 ∷ 65535 ∷ []);
+  fe = map of_class (0 ∷ 1 ∷ 299 ∷ 300 ∷ 301 ∷ 399 ∷ 400 ∷ 499 ∷ 500 ∷ 550 ∷ 599 ∷ 599 ∷ 600 ∷ 65535 ∷ []);
 }
 
 -- NOMR, NOCR, NOGR, NOLR, NOIN, NOCN, NOED, NOFA
 abbrev pub CountsAreByClass : Type 0
-CountsAreByClass = record_counts classes ≡ 3 ∷ 4 ∷ 4 ∷ 2 ∷ 0 ∷ 1 ∷ 0 ∷ 0 ∷ []
+CountsAreByClass = record_counts classes ≡ 3 ∷ 4 ∷ 5 ∷ 2 ∷ 0 ∷ 1 ∷ 0 ∷ 0 ∷ []
 
 -- record numbers begin anew behind 65,535; they stand in bytes 46 and 47 of a node's record
 abbrev pub NumbersBeginAnew : Type 0

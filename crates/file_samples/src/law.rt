@@ -6,6 +6,7 @@ ghost use Rattle.file_samples.specs.Frames.{EntryMapsAreRead, FieldsMayOverlap, 
 ghost use Rattle.file_samples.specs.Limits.{LengthLimitIsExact, RecordLimitIsExact, LastStepsHaveOrder};
 ghost use Rattle.file_samples.specs.SquareFile.{DescriptionsHaveLengths, DescriptiveRecordHasLengths, DescriptiveRecordIsWritten, FirstNodeIsWritten, SquareIsWritten, SquareHasOffsets, EmptyCellIsWritten, SquareIsRead, WideNodeIsRead, CutsAreRead, ChangedBytesAreRead, RepeatedRecordIsRead};
 ghost use Rattle.file_samples.specs.UnusualFiles.{RecordsMayMix, FieldsMayMix, FieldsJoin};
+ghost use Rattle.file_samples.specs.WritableCells.{WritableIsDecided, SamplesAreWritable, OthersAreNot, TooManyIsNot};
 ghost use Rattle.file_samples.specs.WrittenFiles.{LevelsAreWritten, CountsAreByClass, NumbersBeginAnew, EveryFieldIsWritten, EveryFieldIsRead};
 
 /// What stands at the begin of small records, or why nothing does.
@@ -78,4 +79,12 @@ pub fn files_are_written()
     ensures numbers { NumbersBeginAnew }
     ensures every_field { EveryFieldIsWritten }
     ensures every_field_read { EveryFieldIsRead }
+{}
+
+/// Whether a cell can be written is decided by tests, which say so of the sample cells and not of others.
+pub fn cells_are_writable()
+    ensures decided { WritableIsDecided }
+    ensures good { SamplesAreWritable }
+    ensures bad { OthersAreNot }
+    ensures count { TooManyIsNot }
 {}

@@ -3,4 +3,7 @@
 
 mod law;
 
-pub use law::{faults_are_found, fields_are_read, files_are_written, frames_are_decided, limits_are_exact, square_is_read, square_is_written, unusual_files_are_read};
+pub use law::{
+    cells_are_writable, faults_are_found, fields_are_read, files_are_written, frames_are_decided,
+    limits_are_exact, square_is_read, square_is_written, unusual_files_are_read,
+};

@@ -1,25 +1,19 @@
 -- The cell that the records of a file stand for, or the file's first fault: in file order, and within a record in the order
 -- of the steps below (S-57 Part 3, 7.3, 7.6 and 7.7; Appendix B.1; the order is this project's own).
-use Rattle.std.specs.Prelude.{ℕ, ◌+◌, ◌==◌, Bool, true, false, not, nat_le, nat_lt, List, [], ◌∷◌, length, Option, Some, None, Result, Ok, Err, codes}
+use Rattle.std.specs.Prelude.{ℕ, ◌+◌, ◌==◌, Bool, true, false, not, nat_le, nat_lt, List, [], ◌∷◌, length, Result, Ok, Err, codes}
 use Rattle.std.specs.List.{list_any}
 use Rattle.std.specs.Result.{result_map_both}
 use Rattle.frame_spec.specs.RecordFrame.{Field, FrameView}
 use Rattle.frame_spec.specs.WrittenRecord.{record_length, field_lengths}
-use Rattle.frame_spec.specs.declared.fault.FrameFault.{FrameFault}
 use Rattle.s57_types.specs.FieldRows.{dsid_row, dssi_row, dspm_row}
 use Rattle.s57_types.specs.RecordFields.{number_field, field_of, written_length, length_limit}
 use Rattle.s57_types.specs.declared.fault.CellFault.{CellFault}
 use Rattle.s57_types.specs.declared.name.Kind.TheVariants.{Fe}
-use Rattle.s57_types.specs.declared.record.Vector.{Vector}
-use Rattle.s57_types.specs.declared.record.Feature.{Feature}
 use Rattle.s57_types.specs.declared.record.Rec.{Rec}
 use Rattle.s57_types.specs.declared.record.Rec.TheVariants.{V, F}
-use Rattle.s57_types.specs.declared.name.Lnam.{Lnam}
 use Rattle.s57_types.specs.declared.field.Dsid.{Dsid}
 use Rattle.s57_types.specs.declared.field.Dssi.{Dssi}
 use Rattle.s57_types.specs.declared.field.Dspm.{Dspm}
-use Rattle.s57_types.specs.declared.field.Frid.{Frid}
-use Rattle.s57_types.specs.declared.field.Vrid.{Vrid}
 use Rattle.s57_types.specs.declared.cell.Cell.{Cell}
 use Rattle.field_spec.specs.Contents.{dsid_content, dssi_content, dspm_content, frid_content, foid_content, attribute_content, partner_content, place_content, vrid_content, end_content, plane_content, deep_content}
 use Rattle.cell_spec.specs.Lookup.{all_records, name_of, is_named}

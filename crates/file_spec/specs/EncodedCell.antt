@@ -1,6 +1,6 @@
 -- The bytes of the file that a cell is written to: the data descriptive record, the two head records, then isolated nodes,
 -- connected nodes, edges and features in the order of their lists (ISO/IEC 8211; S-57 Part 3, 7.3, 7.6 and 7.7).
-use Rattle.std.specs.Prelude.{ℕ, ◌+◌, ◌-◌, ◌%◌, ◌&&◌, Bool, true, false, not, nat_le, List, [], ◌∷◌, ◌++◌, length, count_by}
+use Rattle.std.specs.Prelude.{ℕ, ◌%◌, ◌&&◌, Bool, true, false, not, nat_le, List, [], ◌∷◌, ◌++◌, length, count_by}
 use Rattle.std.specs.List.{flat_map, enumerate_from}
 use Rattle.frame_spec.specs.WrittenRecord.{written_record}
 use Rattle.s57_types.specs.RecordFields.{identification_fields, parameter_fields, record_fields}

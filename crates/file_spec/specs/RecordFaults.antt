@@ -1,6 +1,5 @@
 -- The faults of the records of a cell file, and how the first of several is said.
 use Rattle.std.specs.Prelude.{ℕ, Bool, Option, Some, None, Result, Ok, Err, if◌then◌else◌}
-use Rattle.std.specs.Result.{result_map_both}
 use Rattle.frame_spec.specs.declared.fault.FrameFault.{FrameFault}
 use Rattle.frame_spec.specs.declared.fault.FrameFault.TheVariants as frame
 use Rattle.field_spec.specs.declared.fault.FieldFault.{FieldFault}

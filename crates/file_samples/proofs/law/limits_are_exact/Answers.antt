@@ -1,19 +1,11 @@
-use Rattle.std.proofs.Common.{◌≡◌, ◌<◌, ◌≤◌, true, false, List, length, Ok, refl}
+use Rattle.std.proofs.Common.{refl}
 use Rattle.std.proofs.lemmas.Bool.{le-leb, lt-leb, le-ltb, lt-ltb}
-use Rattle.std.specs.List.{list_any}
 use Rattle.std.specs.Fmt.{digits}
-use Rattle.frame_spec.specs.RecordFrame.{Field}
 use Rattle.field_spec.specs.Contents.{vrid_content}
 use Rattle.s57_types.specs.Fitness.{unfitness}
-use Rattle.s57_types.specs.RecordFields.{written_length, length_limit}
-use Rattle.s57_types.specs.declared.cell.Cell.{Cell}
-use Rattle.s57_types.specs.declared.record.Rec.{Rec}
-use Rattle.cell_spec.specs.Lookup.{all_records, name_of, is_named}
-use Rattle.cell_spec.specs.Writable.{record_limit}
-use Rattle.file_spec.specs.RecordReading.{fields_fault, record_type}
-use Rattle.file_spec.specs.DecodedCell.{record_behind, record_values}
-use Rattle.file_spec.specs.declared.tag.RecordType.{RecordType}
-use Rattle.file_samples.specs.Limits.{LastSteps, LastStepsHaveOrder}
+use Rattle.file_spec.specs.RecordReading.{fields_fault}
+use Rattle.file_spec.specs.DecodedCell.{record_behind}
+use Rattle.file_samples.specs.Limits.{LastStepsHaveOrder}
 use Rattle.file_samples.proofs.law.limits_are_exact.Goals as goal
 
 last_steps : LastStepsHaveOrder
