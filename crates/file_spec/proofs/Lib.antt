@@ -1,2 +1,4 @@
-pub mod RecordSteps
+pub mod CellFields
 pub mod MinimalSteps
+pub mod RecordSteps
+pub mod WrittenFile

@@ -7,3 +7,4 @@ pub mod RecordReading
 pub mod DecodedCell
 pub mod DescriptiveRecord
 pub mod EncodedCell
+pub mod WrittenFile

@@ -2,7 +2,9 @@
 #![tactic(auto)]
 
 mod fault;
+mod law;
 mod tag;
 
 pub use fault::RecordFault;
+pub use law::written_records_are_found;
 pub use tag::{FieldTag, RecordType};
