@@ -105,7 +105,7 @@ both : (x y : Bool) → (x && y) ≡ true → (x ≡ true) × (y ≡ true)
 both true y e = (refl, e)
 both false y e = absurd cc
 
-head_fits : (h : Head) → is_fit_head h ≡ true → (record_length (field_lengths (identification_fields 0 h (0 ∷ 0 ∷ 0 ∷ 0 ∷ 0 ∷ 0 ∷ 0 ∷ 0 ∷ []))) ≤ 99999) × (record_length (field_lengths (parameter_fields 0 h)) ≤ 99999)
+pub head_fits : (h : Head) → is_fit_head h ≡ true → (record_length (field_lengths (identification_fields 0 h (0 ∷ 0 ∷ 0 ∷ 0 ∷ 0 ∷ 0 ∷ 0 ∷ 0 ∷ []))) ≤ 99999) × (record_length (field_lengths (parameter_fields 0 h)) ≤ 99999)
 unfolding is_fit_head
 head_fits h fit =
     let last = both _ _ fit in
@@ -156,7 +156,7 @@ same_length : (nall n : ℕ) (r : Rec) → record_length (field_lengths (record_
 same_length nall n (V v) = refl
 same_length nall n (F f) = refl
 
-written_fits : (nall n : ℕ) (r : Rec) → unfitness nall r ≡ None → record_length (field_lengths (record_fields nall n r)) ≤ 99999
+pub written_fits : (nall n : ℕ) (r : Rec) → unfitness nall r ≡ None → record_length (field_lengths (record_fields nall n r)) ≤ 99999
 unfolding unfitness
 written_fits nall n r fit = subst (λ (k : ℕ). k ≤ 99999) (sym (same_length nall n r)) (by (has_good_names r) (has_good_texts nall r) (nat_lt length_limit (written_length nall r)) refl fit)
   where

@@ -2,3 +2,5 @@ pub mod CellFields
 pub mod MinimalSteps
 pub mod RecordSteps
 pub mod WrittenFile
+pub mod RecordBack
+pub mod CellBack

@@ -8,3 +8,4 @@ pub mod DecodedCell
 pub mod DescriptiveRecord
 pub mod EncodedCell
 pub mod WrittenFile
+pub mod ReadBack
