@@ -1,2 +1,6 @@
-pub mod RecordSteps
+pub mod CellFields
 pub mod MinimalSteps
+pub mod RecordSteps
+pub mod WrittenFile
+pub mod RecordBack
+pub mod CellBack

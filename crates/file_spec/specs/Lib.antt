@@ -1,3 +1,11 @@
 pub mod FileRecords
 pub mod CellRecords
 pub mod MinimalFile
+pub mod RecordFaults
+pub mod FieldTags
+pub mod RecordReading
+pub mod DecodedCell
+pub mod DescriptiveRecord
+pub mod EncodedCell
+pub mod WrittenFile
+pub mod ReadBack

@@ -1,6 +1,6 @@
 -- Minimal files, which early stages of the program read: the data descriptive record, the two head records, and then
 -- connected nodes and edges of at most one field of pointers and one of 2-D coordinates. This project's own notion.
-use Rattle.std.specs.Prelude.{ℕ, ◌+◌, ◌==◌, ◌&&◌, ◌||◌, Bool, true, false, not, nat_lt, List, [], ◌∷◌, ◌++◌, length, Option, Some, None, Result, Ok, Err, codes, if◌then◌else◌}
+use Rattle.std.specs.Prelude.{ℕ, ◌==◌, ◌&&◌, Bool, true, false, not, nat_lt, List, [], ◌∷◌, length, Option, Some, None, Result, codes, if◌then◌else◌}
 use Rattle.std.specs.Prelude.{ℤ}
 use Rattle.std.specs.Prelude.{nat_eq}
 use Rattle.std.specs.Cmp.Lexicographic.{pointwise}
@@ -8,18 +8,15 @@ use Rattle.std.specs.List.{list_any}
 use Rattle.std.specs.Option.{option_map, option_and_then}
 use Rattle.std.specs.Result.{result_ok}
 use Rattle.frame_spec.specs.RecordFrame.{Field, FrameView}
-use Rattle.frame_spec.specs.declared.fault.FrameFault.{FrameFault}
 use Rattle.field_spec.specs.Contents.{dsid_content, dssi_content, dspm_content, vrid_content, end_content, plane_content}
 use Rattle.field_spec.specs.declared.fault.FieldFault.{FieldFault}
-use Rattle.cell_spec.specs.Names.{same_name}
 use Rattle.cell_spec.specs.Lookup.{all_records, is_named}
-use Rattle.file_spec.specs.CellRecords.{with_record, empty_cell, record_limit}
+use Rattle.file_spec.specs.CellRecords.{with_record, empty_cell, head_with, record_limit}
 use Rattle.file_spec.specs.FileRecords.{FileRecord, file_records, first_frame}
 use Rattle.s57_types.specs.declared.name.Kind.{Kind}
 use Rattle.s57_types.specs.declared.name.Kind.TheVariants.{Vi, Vc, Ve, Fe}
 use Rattle.s57_types.specs.declared.record.End.{End}
 use Rattle.s57_types.specs.declared.record.Vector.{Vector}
-use Rattle.s57_types.specs.declared.record.Rec.{Rec}
 use Rattle.s57_types.specs.declared.record.Rec.TheVariants.{V}
 use Rattle.s57_types.specs.declared.head.Head.{Head}
 use Rattle.s57_types.specs.declared.cell.Cell.{Cell}
@@ -45,36 +42,7 @@ parameters_of other = None
 
 -- the head of a new data set with chain-node topology (S-57 Part 3, 7.3.1; Appendix B.1)
 abbrev pub head_of : Dsid × Dssi → Dspm → Option Head
-head_of (d, s) p = if (d.expp == 1) && (s.dstr == 2) then Some (record {
-  dsid_rcid = d.rcid;
-  intu = d.intu;
-  dsnm = d.dsnm;
-  edtn = d.edtn;
-  updn = d.updn;
-  uadt = d.uadt;
-  isdt = d.isdt;
-  sted = d.sted;
-  prsp = d.prsp;
-  psdn = d.psdn;
-  pred = d.pred;
-  prof = d.prof;
-  agen = d.agen;
-  dsid_comt = d.comt;
-  aall = s.aall;
-  nall = s.nall;
-  dspm_rcid = p.rcid;
-  hdat = p.hdat;
-  vdat = p.vdat;
-  sdat = p.sdat;
-  cscl = p.cscl;
-  duni = p.duni;
-  huni = p.huni;
-  puni = p.puni;
-  coun = p.coun;
-  comf = p.comf;
-  somf = p.somf;
-  dspm_comt = p.comt;
-}) else None
+head_of (d, s) p = if (d.expp == 1) && (s.dstr == 2) then Some (head_with d s p) else None
 
 -- the rows of the field with which fields begin, where it has the tag, and the fields after it
 abbrev pub rows_of_tag : {X : Type 0} → List ℕ → (List ℕ → Result (List X) FieldFault) → List Field → Option (List X × List Field)

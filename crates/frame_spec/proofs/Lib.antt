@@ -1,1 +1,7 @@
 pub mod FrameTests
+pub mod PlacedBytes
+pub mod WrittenDigits
+pub mod WrittenEntries
+pub mod WrittenFrame
+pub mod WrittenLeader
+pub mod WrittenSizes

@@ -1,10 +1,10 @@
 -- The bytes of a record that is written: the leader, the directory and the field area (ISO/IEC 8211; S-57 Part 3, Annex A).
 -- The writer gives the entry map the digits of the greatest field length and of the greatest position, and writes the
 -- fields one after the other, which is this project's own choice.
-use Rattle.std.specs.Prelude.{ℕ, zero, suc, ◌+◌, ◌-◌, ◌*◌, ◌/◌, ◌%◌, Bool, List, [], ◌∷◌, ◌++◌, length, take, map, max, sum, fold, codes, if◌then◌else◌}
+use Rattle.std.specs.Prelude.{◌≡◌, ℕ, zero, suc, ◌+◌, ◌<◌, ◌≤◌, ◌-◌, ◌*◌, ◌/◌, ◌%◌, Bool, List, [], ◌∷◌, ◌++◌, length, take, map, All, max, sum, fold, codes, if◌then◌else◌}
 use Rattle.std.specs.List.{flat_map}
 use Rattle.std.specs.Fmt.{decimal}
-use Rattle.frame_spec.specs.RecordFrame.{Field}
+use Rattle.frame_spec.specs.RecordFrame.{Field, RecordFrame, bytes_at}
 
 -- so many decimal digits of a number
 abbrev pub digits : ℕ → ℕ → List ℕ
@@ -57,3 +57,21 @@ leader_text first lengths = digits 5 (record_length lengths) ++ identifier_text 
 unfoldable pub written_record : Bool → List Field → List ℕ
 written_record first fields = let lengths = field_lengths fields in
     leader_text first lengths ++ directory_entries (length_digits lengths) (position_digits lengths) 0 fields ++ (30 ∷ []) ++ field_area fields
+
+-- the bytes stand at a place
+abbrev pub StandsAt : List ℕ → ℕ → List ℕ → Type 0
+StandsAt b p bytes = bytes_at b p (length bytes) ≡ bytes
+
+-- fields that a record can be written with: tags of four bytes, no empty field, and no more bytes than five digits say
+pub record CanBeWritten (fields : List Field) : Type 0 where
+  pub tags : All (λ field. length field.tag ≡ 4) fields
+  pub not_empty : All (λ field. 0 < length field.bytes) fields
+  pub fits : record_length (field_lengths fields) ≤ 99999
+
+-- where the bytes of a record stand, the record stands
+abbrev pub WrittenIsRead : Type 0
+WrittenIsRead = (b : List ℕ) (p : ℕ) (first : Bool) (fields : List Field) → CanBeWritten fields → StandsAt b p (written_record first fields)
+    → RecordFrame b p first (record { length = record_length (field_lengths fields); fields = fields })
+
+abbrev pub WrittenHasLength : Type 0
+WrittenHasLength = (first : Bool) (fields : List Field) → CanBeWritten fields → length (written_record first fields) ≡ record_length (field_lengths fields)

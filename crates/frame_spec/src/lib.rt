@@ -3,6 +3,8 @@
 
 mod decision;
 mod fault;
+mod written;
 
 pub use decision::{frame_is_decided, one_answer};
 pub use fault::FrameFault;
+pub use written::written_record_is_read;

@@ -1,0 +1,12 @@
+pub mod Faults
+pub mod Fields
+pub mod Frames
+pub mod Limits
+pub mod Parts
+pub mod SmallFiles
+pub mod Square
+pub mod SquareBytes
+pub mod SquareFile
+pub mod UnusualFiles
+pub mod WritableCells
+pub mod WrittenFiles

@@ -1,0 +1,15 @@
+//! Laws of the definitions, each the contract of a function that does nothing.
+
+ghost use Rattle.file_spec.specs.ReadBack.{CellIsReadBack};
+ghost use Rattle.file_spec.specs.WrittenFile.{CellRecordsAreFound, WrittenRecordsAreFound};
+
+/// The records of a file that was written are those that were written, and the file of a writable cell has the cell's.
+pub fn written_records_are_found()
+    ensures records { WrittenRecordsAreFound }
+    ensures cell { CellRecordsAreFound }
+{}
+
+/// A writable cell is what its file stands for, where each of its fields is read as the value that was written.
+pub fn written_cell_is_read()
+    ensures { CellIsReadBack }
+{}
