@@ -17,8 +17,8 @@ OrdersAreTaken =
 abbrev pub OrdersAreRefused : Type 0
 OrdersAreRefused =
     (map two_and_four (
-        fed (codes "order 1 2 1 2 2") ∷ fed (codes "order 3") ∷ [] ∷ codes "orde" ∷ fed (codes "order 1 1 1 2 2 2") ∷ fed (codes "order 01") ∷
-        fed (codes "order 1  2") ∷ fed (codes "order 1 2 1 2 2 2 ") ∷ codes "order 1 2 1 2 2 2" ∷ fed (fed (codes "order 1 2 1 2 2 2")) ∷ fed (codes "order 0") ∷
-        fed (codes "order") ∷ (fed (codes "order 1 2") ++ codes " 1 2 2 2") ∷ [])
+    fed (codes "order 1 2 1 2 2") ∷ fed (codes "order 3") ∷ [] ∷ codes "orde" ∷ fed (codes "order 1 1 1 2 2 2") ∷ fed (codes "order 01") ∷
+    fed (codes "order 1  2") ∷ fed (codes "order 1 2 1 2 2 2 ") ∷ codes "order 1 2 1 2 2 2" ∷ fed (fed (codes "order 1 2 1 2 2 2")) ∷ fed (codes "order 0") ∷
+    fed (codes "order") ∷ (fed (codes "order 1 2") ++ codes " 1 2 2 2") ∷ [])
     ≡ Err 6 ∷ Err 1 ∷ Err 0 ∷ Err 0 ∷ Err 3 ∷ Err 1 ∷ Err 2 ∷ Err 7 ∷ Err 7 ∷ Err 7 ∷ Err 1 ∷ Err 1 ∷ Err 3 ∷ []) ×
     (map (order_of (0 ∷ [])) (fed (codes "orders") ∷ codes "order" ∷ fed (codes "order 1") ∷ []) ≡ Err 1 ∷ Err 1 ∷ Err 1 ∷ [])

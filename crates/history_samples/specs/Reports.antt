@@ -32,99 +32,99 @@ move_node place = Set (renewed (node 1 (at place place)))
 abbrev pub MinimalRunIsReported : Type 0
 MinimalRunIsReported =
     report built_kinds dangling (
-        edit_seen (Set (renewed (vector (ve 2) (end_of 1 (vc 1) ∷ end_of 2 (vc 2) ∷ []) (at 50 50 ∷ [])))) ∷ (Commit ∷ Push (Del (vc 9)) ∷ Commit ∷ []) ∷ [])
-        (1 ∷ 2 ∷ 2 ∷ 1 ∷ [])
+    edit_seen (Set (renewed (vector (ve 2) (end_of 1 (vc 1) ∷ end_of 2 (vc 2) ∷ []) (at 50 50 ∷ [])))) ∷ (Commit ∷ Push (Del (vc 9)) ∷ Commit ∷ []) ∷ [])
+    (1 ∷ 2 ∷ 2 ∷ 1 ∷ [])
     ≡ text_of_lines (
-        codes "order 1 2 2 1" ∷
-        codes "session 1" ∷
-        codes "view seen 0 findings 2" ∷
-        codes "draft 1" ∷
-        codes "commit accepted 1 findings 0" ∷
-        codes "session 2" ∷
-        codes "commit refused empty" ∷
-        codes "draft 1" ∷
-        codes "commit refused del missing vc 9" ∷
-        codes "history" ∷
-        codes "commit 1 desk 1 findings 0" ∷
-        codes "set ve 2 2 e=vc:1:255:255:1:255 e=vc:2:255:255:2:255 p=50,50" ∷
-        codes "cell vi 0 vc 2 ve 2 fe 0" ∷
-        codes "findings 0" ∷
-        codes "end" ∷ [])
+    codes "order 1 2 2 1" ∷
+    codes "session 1" ∷
+    codes "view seen 0 findings 2" ∷
+    codes "draft 1" ∷
+    codes "commit accepted 1 findings 0" ∷
+    codes "session 2" ∷
+    codes "commit refused empty" ∷
+    codes "draft 1" ∷
+    codes "commit refused del missing vc 9" ∷
+    codes "history" ∷
+    codes "commit 1 desk 1 findings 0" ∷
+    codes "set ve 2 2 e=vc:1:255:255:1:255 e=vc:2:255:255:2:255 p=50,50" ∷
+    codes "cell vi 0 vc 2 ve 2 fe 0" ∷
+    codes "findings 0" ∷
+    codes "end" ∷ [])
 
 -- the second of two commits that name one record is shown the first
 abbrev pub ClashIsReported : Type 0
 ClashIsReported =
     report built_kinds dangling ((Push (Set (renewed (node 1 (at 0 1)))) ∷ Commit ∷ []) ∷ (Push (Set (renewed (node 1 (at 0 2)))) ∷ Commit ∷ []) ∷ []) (1 ∷ 2 ∷ [])
     ≡ text_of_lines (
-        codes "order 1 2" ∷
-        codes "session 1" ∷
-        codes "draft 1" ∷
-        codes "commit accepted 1 findings 2" ∷
-        codes "session 2" ∷
-        codes "draft 1" ∷
-        codes "commit refused newer 1 vc 1 desk 1" ∷
-        codes "history" ∷
-        codes "commit 1 desk 1 findings 2" ∷
-        codes "set vc 1 2 p=0,1" ∷
-        codes "cell vi 0 vc 2 ve 2 fe 0" ∷
-        codes "findings 2" ∷
-        codes "rec ve 2 EndCount 1 0 1" ∷
-        codes "rec ve 2 DanglingEnd 1" ∷
-        codes "end" ∷ [])
+    codes "order 1 2" ∷
+    codes "session 1" ∷
+    codes "draft 1" ∷
+    codes "commit accepted 1 findings 2" ∷
+    codes "session 2" ∷
+    codes "draft 1" ∷
+    codes "commit refused newer 1 vc 1 desk 1" ∷
+    codes "history" ∷
+    codes "commit 1 desk 1 findings 2" ∷
+    codes "set vc 1 2 p=0,1" ∷
+    codes "cell vi 0 vc 2 ve 2 fe 0" ∷
+    codes "findings 2" ∷
+    codes "rec ve 2 EndCount 1 0 1" ∷
+    codes "rec ve 2 DanglingEnd 1" ∷
+    codes "end" ∷ [])
 
 -- a session that has seen the newer commit may change its record
 abbrev pub ViewEndsTheClash : Type 0
 ViewEndsTheClash =
     report built_kinds grid (edit_seen (move_node 1) ∷ (View ∷ Push (move_node 2) ∷ Commit ∷ View ∷ Push (move_node 2) ∷ Commit ∷ []) ∷ []) (1 ∷ 2 ∷ 1 ∷ 2 ∷ 2 ∷ 2 ∷ [])
     ≡ text_of_lines (
-        codes "order 1 2 1 2 2 2" ∷
-        codes "session 1" ∷
-        codes "view seen 0 findings 0" ∷
-        codes "draft 1" ∷
-        codes "commit accepted 1 findings 0" ∷
-        codes "session 2" ∷
-        codes "view seen 0 findings 0" ∷
-        codes "draft 1" ∷
-        codes "commit refused newer 1 vc 1 desk 1" ∷
-        codes "view seen 1 findings 0" ∷
-        codes "draft 1" ∷
-        codes "commit accepted 2 findings 0" ∷
-        codes "history" ∷
-        codes "commit 1 desk 1 findings 0" ∷
-        codes "set vc 1 2 p=1,1" ∷
-        codes "commit 2 desk 2 findings 0" ∷
-        codes "set vc 1 2 p=2,2" ∷
-        codes "cell vi 0 vc 4 ve 4 fe 2" ∷
-        codes "findings 0" ∷
-        codes "end" ∷ [])
+    codes "order 1 2 1 2 2 2" ∷
+    codes "session 1" ∷
+    codes "view seen 0 findings 0" ∷
+    codes "draft 1" ∷
+    codes "commit accepted 1 findings 0" ∷
+    codes "session 2" ∷
+    codes "view seen 0 findings 0" ∷
+    codes "draft 1" ∷
+    codes "commit refused newer 1 vc 1 desk 1" ∷
+    codes "view seen 1 findings 0" ∷
+    codes "draft 1" ∷
+    codes "commit accepted 2 findings 0" ∷
+    codes "history" ∷
+    codes "commit 1 desk 1 findings 0" ∷
+    codes "set vc 1 2 p=1,1" ∷
+    codes "commit 2 desk 2 findings 0" ∷
+    codes "set vc 1 2 p=2,2" ∷
+    codes "cell vi 0 vc 4 ve 4 fe 2" ∷
+    codes "findings 0" ∷
+    codes "end" ∷ [])
 
 -- two sessions change different records; findings of all kinds
 abbrev pub TwoSessionsAreReported : Type 0
 TwoSessionsAreReported =
     report all_kinds grid (edit_seen (move_node 1) ∷ edit_seen (Add (depth_area 3 square)) ∷ []) (1 ∷ 2 ∷ 2 ∷ 1 ∷ [])
     ≡ text_of_lines (
-        codes "order 1 2 2 1" ∷
-        codes "session 1" ∷
-        codes "view seen 0 findings 0" ∷
-        codes "draft 1" ∷
-        codes "commit accepted 2 findings 8" ∷
-        codes "session 2" ∷
-        codes "view seen 0 findings 0" ∷
-        codes "draft 1" ∷
-        codes "commit accepted 1 findings 8" ∷
-        codes "history" ∷
-        codes "commit 1 desk 2 findings 8" ∷
-        codes "add fe 3 1 3 1 42 1 3 1 s=ve:3:1:1:255 s=ve:2:1:1:255 s=ve:4:2:1:255 s=ve:1:2:1:255" ∷
-        codes "commit 2 desk 1 findings 8" ∷
-        codes "set vc 1 2 p=1,1" ∷
-        codes "cell vi 0 vc 4 ve 4 fe 3" ∷
-        codes "findings 8" ∷
-        codes "side ve 1 SideOverlap 0 2 0 1" ∷
-        codes "side ve 1 SideUnbalanced 0 2 0 1" ∷
-        codes "side ve 2 SideOverlap 2 0 1 0" ∷
-        codes "side ve 2 SideUnbalanced 2 0 1 0" ∷
-        codes "side ve 3 SideOverlap 2 0 1 0" ∷
-        codes "side ve 3 SideUnbalanced 2 0 1 0" ∷
-        codes "side ve 4 SideOverlap 0 2 0 1" ∷
-        codes "side ve 4 SideUnbalanced 0 2 0 1" ∷
-        codes "end" ∷ [])
+    codes "order 1 2 2 1" ∷
+    codes "session 1" ∷
+    codes "view seen 0 findings 0" ∷
+    codes "draft 1" ∷
+    codes "commit accepted 2 findings 8" ∷
+    codes "session 2" ∷
+    codes "view seen 0 findings 0" ∷
+    codes "draft 1" ∷
+    codes "commit accepted 1 findings 8" ∷
+    codes "history" ∷
+    codes "commit 1 desk 2 findings 8" ∷
+    codes "add fe 3 1 3 1 42 1 3 1 s=ve:3:1:1:255 s=ve:2:1:1:255 s=ve:4:2:1:255 s=ve:1:2:1:255" ∷
+    codes "commit 2 desk 1 findings 8" ∷
+    codes "set vc 1 2 p=1,1" ∷
+    codes "cell vi 0 vc 4 ve 4 fe 3" ∷
+    codes "findings 8" ∷
+    codes "side ve 1 SideOverlap 0 2 0 1" ∷
+    codes "side ve 1 SideUnbalanced 0 2 0 1" ∷
+    codes "side ve 2 SideOverlap 2 0 1 0" ∷
+    codes "side ve 2 SideUnbalanced 2 0 1 0" ∷
+    codes "side ve 3 SideOverlap 2 0 1 0" ∷
+    codes "side ve 3 SideUnbalanced 2 0 1 0" ∷
+    codes "side ve 4 SideOverlap 0 2 0 1" ∷
+    codes "side ve 4 SideUnbalanced 0 2 0 1" ∷
+    codes "end" ∷ [])

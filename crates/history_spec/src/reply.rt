@@ -9,7 +9,10 @@ use s57_types::RecName;
 #[derive(Debug, Drop)]
 pub enum Reply {
     /// The number of the last accepted commit, and how many findings the cell has.
-    Viewed { number: u32, findings: u32 },
+    Viewed {
+        number: u32,
+        findings: u32,
+    },
     /// The draft has this fault.
     Formed(FormFault),
     /// An accepted commit above the base names a record that this one names: the least number of such a commit, the
@@ -23,7 +26,10 @@ pub enum Reply {
     /// The cell doesn't take the edits.
     Refused(StateRefusal),
     /// The commit has this number, and the cell now so many findings.
-    Accepted { number: u32, findings: u32 },
+    Accepted {
+        number: u32,
+        findings: u32,
+    },
 }
 
 /// An answer without the edit that it may show.

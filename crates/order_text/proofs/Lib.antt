@@ -3,3 +3,4 @@ mod Ranges
 mod SessionNames
 mod Judged
 mod Whole
+mod OrderLines

@@ -2,7 +2,12 @@
 #![tactic(auto)]
 
 mod items;
+mod law;
 mod order;
 mod sessions;
 
+pub use law::order_lines_are_read;
 pub use order::{Order, OrderRefusal, read_order};
+
+#[cfg(test)]
+mod tests;

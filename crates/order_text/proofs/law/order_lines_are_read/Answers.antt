@@ -1,0 +1,8 @@
+use Rattle.order_text.proofs.OrderLines.{order_of-line, order_line-one}
+use Rattle.order_text.proofs.law.order_lines_are_read.Goals as goal
+
+pub returns-clause-read : goal.returns-clause-read
+returns-clause-read c = order_of-line
+
+pub returns-clause-one : goal.returns-clause-one
+returns-clause-one c = order_line-one

@@ -1,0 +1,10 @@
+//! Orders and their lines.
+
+ghost use Rattle.std.specs.Prelude.{◌≡◌, ℕ, ◌<◌, ◌^◌, List, Ok, length};
+ghost use Rattle.text_spec.specs.OrderLine.{IsOrder, order_line, order_of};
+
+/// The line of an order is read as that order, and no other order has it.
+pub fn order_lines_are_read()
+    ensures read { (quotas order : List ℕ) → length quotas < 2 ^ 32 → IsOrder quotas order → order_of quotas (order_line order) ≡ Ok order }
+    ensures one { (quotas order other : List ℕ) → length quotas < 2 ^ 32 → IsOrder quotas order → IsOrder quotas other → order_line order ≡ order_line other → order ≡ other }
+{}
