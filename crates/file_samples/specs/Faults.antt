@@ -1,4 +1,4 @@
--- A file for each fault, files with two faults, of which the first counts, and good files of unusual form.
+-- A file for each fault, and files with two faults, of which the first counts.
 use Rattle.std.specs.Prelude.{ℕ, List, [], ◌∷◌, ◌++◌, take, replicate, codes}
 use Rattle.std.specs.List.{flat_map}
 use Rattle.frame_spec.specs.RecordFrame.{Field}
@@ -92,6 +92,6 @@ FirstRecordCounts = AreDecoded (
     (file ((dsid 1 ∷ dssi 1 0 ∷ []) ∷ []), fault 2 25 9) ∷
     (file_behind (node_record ++ codes "x"), fault 5 238 1) ∷ [])
 
--- the same in a record that is too long when it is written again
+-- a record that is too long when it is written again
 abbrev pub OverlappingIsTooLong : Type 0
 OverlappingIsTooLong = AreDecoded ((file_behind overlapping_record, fault 4 198 13) ∷ [])

@@ -11,7 +11,7 @@ use Rattle.file_spec.specs.DecodedCell.{decoded_cell}
 use Rattle.file_samples.specs.Fields.{attribute, wide_attribute, wide_attribute_bytes, soundings, soundings_bytes, partners, partners_bytes}
 use Rattle.file_samples.specs.Parts.{head, name, node, area, outer, end_at}
 
--- the controls of ATTF and NATF, which are the seventh and the eighth field, at the levels AALL and NALL
+-- the controls of ATTF and NATF, the eighth and the ninth description, at the levels AALL and NALL
 abbrev pub attribute_controls : ℕ → ℕ → List (List ℕ)
 attribute_controls aall nall = map (λ (f : Field). take 9 f.bytes) (take 2 (drop 7 (descriptive_fields aall nall)))
 
