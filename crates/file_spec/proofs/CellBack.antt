@@ -1,6 +1,6 @@
 -- A cell that was written is read again, where each of its fields is.
-use Rattle.std.proofs.Common.{◌≡◌, ◌≤◌, ◌<◌, ℕ, ◌+◌, Bool, true, false, ◌&&◌, ◌||◌, List, [], ◌∷◌, ◌++◌, length, map, Some, None, Result, Ok, refl, sym, ap, ◌∙◌, subst, arith, append_assoc}
-use Rattle.std.specs.Prelude.{◌==◌, not, nat_lt, if◌then◌else◌}
+use Rattle.std.proofs.Common.{◌≡◌, ◌≤◌, ◌<◌, ℕ, ◌+◌, Bool, true, false, ◌&&◌, ◌||◌, List, [], ◌∷◌, ◌++◌, length, map, None, Result, Ok, refl, sym, ap, ◌∙◌, subst, arith, append_assoc}
+use Rattle.std.specs.Prelude.{◌==◌}
 use Rattle.std.specs.Result.{result_map_both}
 use Rattle.std.specs.List.{AllByRecursion, IsDistinct, list_any, enumerate_from}
 use Rattle.std.proofs.lemmas.Bool.{le-leb, lt-ltb}
@@ -9,11 +9,10 @@ use Rattle.std.proofs.lemmas.List.{length-append, append-nil}
 use Rattle.std.proofs.lemmas.List.Elements.{recursion_from_All}
 use Rattle.std.proofs.lemmas.List.Folds.{list_any-append}
 use Rattle.frame_spec.specs.WrittenRecord.{record_length, field_lengths}
-use Rattle.s57_types.specs.Fitness.{unfitness, has_good_names, has_good_texts, is_feature_kind}
-use Rattle.s57_types.specs.RecordFields.{identification_fields, parameter_fields, record_fields, dsid_of_head, dssi_of_head, dspm_of_head, written_length, length_limit}
+use Rattle.s57_types.specs.Fitness.{unfitness, is_feature_kind}
+use Rattle.s57_types.specs.RecordFields.{identification_fields, parameter_fields, record_fields, dsid_of_head, dssi_of_head, dspm_of_head, length_limit}
 use Rattle.s57_types.specs.declared.cell.Cell.{Cell}
 use Rattle.s57_types.specs.declared.head.Head.{Head}
-use Rattle.s57_types.specs.declared.fault.Unfit.TheVariants.{TooLong, BadText, BadName}
 use Rattle.s57_types.specs.declared.name.Kind.{Kind}
 use Rattle.s57_types.specs.declared.name.Kind.TheVariants.{Vi, Vc, Ve, Fe}
 use Rattle.s57_types.specs.declared.name.RecName.{RecName}
@@ -30,7 +29,7 @@ use Rattle.file_spec.specs.RecordFaults.{◌>>=◌, fault_at}
 use Rattle.file_spec.specs.RecordReading.{fields_fault}
 use Rattle.file_spec.specs.WrittenFile.{placed_records}
 use Rattle.file_spec.specs.declared.fault.RecordFault.{RecordFault}
-use Rattle.file_spec.proofs.CellFields.{head_fits, written_fits, cell_records_found}
+use Rattle.file_spec.proofs.CellFields.{head_fits, fit_is_found, cell_records_found}
 use Rattle.file_spec.proofs.RecordBack.{vector_is_read_back, feature_is_read_back}
 
 -- the head records
@@ -43,15 +42,7 @@ geographic_is_read : (h : Head) (counts : List ℕ) → HeadIsReadBack h counts 
 unfolding geographic_reference fields_fault
 geographic_is_read h counts back fits = rw (back.dspm, le-leb _ _ fits) refl
 
--- a record that fits has a name of its kind
-good_names : (nall : ℕ) (r : Rec) → unfitness nall r ≡ None → has_good_names r ≡ true
-unfolding unfitness
-good_names nall r fit = by (has_good_names r) (has_good_texts nall r) (nat_lt length_limit (written_length nall r)) fit
-  where
-    by : (names texts long : Bool) → (if not names then Some BadName else (if not texts then Some BadText else (if long then Some TooLong else None))) ≡ None → names ≡ true
-    by true texts long e = refl
-    by false texts long e = absurd cc
-
+-- a feature has a feature's name
 feature_kind : (kind : Kind) (others : Bool) → (is_feature_kind kind && others) ≡ true → kind ≡ Fe
 feature_kind Vi others e = absurd cc
 feature_kind Vc others e = absurd cc
@@ -62,12 +53,12 @@ feature_kind Fe others e = refl
 record_is_read : (c : Cell) (n : ℕ) (r : Rec) → RecordIsReadBack c.head.nall r → unfitness c.head.nall r ≡ None → list_any (is_named (name_of r)) (all_records c) ≡ false
     → length (all_records c) < record_limit → record_behind c (record_fields c.head.nall n r) ≡ Ok r
 unfolding record_behind
-record_is_read c n (V v) back fit new room = rw (vector_is_read_back n v back, new, le-leb _ _ (written_fits c.head.nall 0 (V v) fit), lt-ltb _ _ room) refl
+record_is_read c n (V v) back fit new room = rw (vector_is_read_back n v back, new, le-leb _ _ (fit_is_found c.head.nall (V v) fit).short, lt-ltb _ _ room) refl
 record_is_read c n (F f) back fit new room =
-    rw (feature_is_read_back c.head.nall n f (feature_kind f.name.kind _ (good_names c.head.nall (F f) fit)) back, new, le-leb _ _ (written_fits c.head.nall 0 (F f) fit), lt-ltb _ _ room) refl
+    rw (feature_is_read_back c.head.nall n f (feature_kind f.name.kind _ (fit_is_found c.head.nall (F f) fit).names) back, new, le-leb _ _ (fit_is_found c.head.nall (F f) fit).short, lt-ltb _ _ room) refl
 
 -- a cell with one record more
-or_parts : (a b : Bool) → (a || b) ≡ false → (a ≡ false) × (b ≡ false)
+pub or_parts : (a b : Bool) → (a || b) ≡ false → (a ≡ false) × (b ≡ false)
 or_parts true b e = absurd cc
 or_parts false b e = (refl, e)
 

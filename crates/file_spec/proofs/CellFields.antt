@@ -101,7 +101,7 @@ descriptive_can aall nall =
     can_be_written (descriptive_fields aall nall) (record { tag = refl; some = omega arith }, descriptions_whole (descriptions aall nall)) (omega (arith, descriptive_length aall nall))
 
 -- the head records
-both : (x y : Bool) → (x && y) ≡ true → (x ≡ true) × (y ≡ true)
+pub both : (x y : Bool) → (x && y) ≡ true → (x ≡ true) × (y ≡ true)
 both true y e = (refl, e)
 both false y e = absurd cc
 
@@ -156,18 +156,25 @@ same_length : (nall n : ℕ) (r : Rec) → record_length (field_lengths (record_
 same_length nall n (V v) = refl
 same_length nall n (F f) = refl
 
-pub written_fits : (nall n : ℕ) (r : Rec) → unfitness nall r ≡ None → record_length (field_lengths (record_fields nall n r)) ≤ 99999
+-- what a record that can be written is found to be
+pub record IsFound (nall : ℕ) (r : Rec) : Type 0 where
+  pub names : has_good_names r ≡ true
+  pub texts : has_good_texts nall r ≡ true
+  pub short : written_length nall r ≤ 99999
+
+pub fit_is_found : (nall : ℕ) (r : Rec) → unfitness nall r ≡ None → IsFound nall r
 unfolding unfitness
-written_fits nall n r fit = subst (λ (k : ℕ). k ≤ 99999) (sym (same_length nall n r)) (by (has_good_names r) (has_good_texts nall r) (nat_lt length_limit (written_length nall r)) refl fit)
+fit_is_found nall r fit = by (has_good_names r) (has_good_texts nall r) (nat_lt length_limit (written_length nall r)) refl refl refl fit
   where
-    by : (names texts long : Bool) → nat_lt length_limit (written_length nall r) ≡ long → (if not names then Some BadName else (if not texts then Some BadText else (if long then Some TooLong else None))) ≡ None → written_length nall r ≤ 99999
-    by false texts long is e = absurd cc
-    by true false long is e = absurd cc
-    by true true true is e = absurd cc
-    by true true false is e = ltb-false _ _ is
+    by : (names texts long : Bool) → has_good_names r ≡ names → has_good_texts nall r ≡ texts → nat_lt length_limit (written_length nall r) ≡ long
+        → (if not names then Some BadName else (if not texts then Some BadText else (if long then Some TooLong else None))) ≡ None → IsFound nall r
+    by true true false names texts long e = record { names = names; texts = texts; short = ltb-false _ _ long }
+    by true true true names texts long e = absurd cc
+    by true false long names texts is e = absurd cc
+    by false texts long names is short e = absurd cc
 
 record_can : (nall n : ℕ) (r : Rec) → unfitness nall r ≡ None → CanBeWritten (record_fields nall n r)
-record_can nall n r fit = can_be_written (record_fields nall n r) (recursion_from_All IsWhole _ (record_whole nall n r)) (written_fits nall n r fit)
+record_can nall n r fit = can_be_written (record_fields nall n r) (recursion_from_All IsWhole _ (record_whole nall n r)) (subst (λ (k : ℕ). k ≤ 99999) (sym (same_length nall n r)) (fit_is_found nall r fit).short)
 
 records_can : (nall n : ℕ) (records : List Rec) → AllByRecursion (λ r. unfitness nall r ≡ None) records
     → AllByRecursion CanBeWritten (map (λ (p : ℕ × Rec). record_fields nall (record_number p.0) p.1) (enumerate_from n records))

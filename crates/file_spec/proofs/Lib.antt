@@ -4,3 +4,4 @@ pub mod RecordSteps
 pub mod WrittenFile
 pub mod RecordBack
 pub mod CellBack
+pub mod RoundTrip

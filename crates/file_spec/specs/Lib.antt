@@ -9,3 +9,4 @@ pub mod DescriptiveRecord
 pub mod EncodedCell
 pub mod WrittenFile
 pub mod ReadBack
+pub mod RoundTrip

@@ -1,7 +1,10 @@
 //! Laws of the definitions, each the contract of a function that does nothing.
 
 ghost use Rattle.file_spec.specs.ReadBack.{CellIsReadBack};
+ghost use Rattle.file_spec.specs.RoundTrip.{RoundTrip};
 ghost use Rattle.file_spec.specs.WrittenFile.{CellRecordsAreFound, WrittenRecordsAreFound};
+
+use field_spec::{repeating_rows_read_back, rows_read_back};
 
 /// The records of a file that was written are those that were written, and the file of a writable cell has the cell's.
 pub fn written_records_are_found()
@@ -13,3 +16,11 @@ pub fn written_records_are_found()
 pub fn written_cell_is_read()
     ensures { CellIsReadBack }
 {}
+
+/// What is written of a writable cell is that cell when it is read.
+pub fn round_trip()
+    ensures { RoundTrip }
+{
+    rows_read_back();
+    repeating_rows_read_back();
+}

@@ -6,5 +6,5 @@ mod law;
 mod tag;
 
 pub use fault::RecordFault;
-pub use law::{written_cell_is_read, written_records_are_found};
+pub use law::{round_trip, written_cell_is_read, written_records_are_found};
 pub use tag::{FieldTag, RecordType};
