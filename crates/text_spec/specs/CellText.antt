@@ -6,14 +6,13 @@ use Rattle.std.specs.List.{flat_map}
 use Rattle.s57_types.specs.declared.name.Kind.{Kind}
 use Rattle.s57_types.specs.declared.name.Kind.TheVariants.{Vi, Vc, Ve, Fe}
 use Rattle.s57_types.specs.declared.name.RecName.{RecName}
-use Rattle.s57_types.specs.declared.name.Lnam.{Lnam}
 use Rattle.s57_types.specs.declared.cell.Cell.{Cell}
 use Rattle.cell_spec.specs.declared.finding.Finding.{Finding}
 use Rattle.cell_spec.specs.declared.key.Subject.{Subject}
 use Rattle.cell_spec.specs.declared.key.Subject.TheVariants.{Rec, Side, Pair, Ident}
 use Rattle.rule_spec.specs.Kinds.{kind_name, number_count}
 use Rattle.rule_spec.specs.Findings.{all_findings}
-use Rattle.text_spec.specs.Lines.{spaced_words, line}
+use Rattle.text_spec.specs.Lines.{line}
 
 abbrev pub kind_word : Kind → List ℕ
 kind_word Vi = codes "vi"
