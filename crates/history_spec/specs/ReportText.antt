@@ -1,5 +1,5 @@
 -- The report of a run of scripts on a cell. This project's own text.
-use Rattle.std.specs.Prelude.{ℕ, ◌+◌, ◌-◌, List, [], ◌∷◌, ◌++◌, length, map, take, codes}
+use Rattle.std.specs.Prelude.{ℕ, ◌+◌, List, [], ◌∷◌, ◌++◌, length, map, take, codes}
 use Rattle.std.specs.Fmt.{decimal}
 use Rattle.std.specs.List.{flat_map, enumerate_from, range_with_len}
 use Rattle.s57_types.specs.declared.cell.Cell.{Cell}
@@ -11,7 +11,7 @@ use Rattle.rule_spec.specs.Findings.{all_findings, finding_total}
 use Rattle.edit_sets.specs.declared.fault.FormFault.{FormFault}
 use Rattle.edit_sets.specs.declared.fault.FormFault.TheVariants.{Empty, TooMany, Twice, Unfit as UnfitAt}
 use Rattle.text_spec.specs.Lines.{line}
-use Rattle.text_spec.specs.CellText.{name_words, cell_text, finding_line, row_lines}
+use Rattle.text_spec.specs.CellText.{name_words, cell_text, finding_line}
 use Rattle.text_spec.specs.EditLine.{edit_line}
 use Rattle.text_spec.specs.OrderLine.{order_line}
 use Rattle.text_spec.specs.declared.command.Command.{Command}

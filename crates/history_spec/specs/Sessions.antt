@@ -1,14 +1,13 @@
 -- Sessions that share a cell: what each asks, and the history in which they ask it. This project's own rules.
-use Rattle.std.specs.Prelude.{ℕ, ◌+◌, ◌-◌, ◌==◌, Bool, List, [], ◌∷◌, ◌++◌, map, take, filter, filter_map, fold, count_by, slice_get, slice_index_or, Option, None, Some}
+use Rattle.std.specs.Prelude.{ℕ, ◌-◌, ◌==◌, List, [], ◌∷◌, ◌++◌, map, take, filter, filter_map, fold, count_by, slice_get, slice_index_or, Option}
 use Rattle.std.specs.List.{enumerate_from}
 use Rattle.std.specs.Option.{option_map, option_map_or}
-use Rattle.s57_types.specs.declared.cell.Cell.{Cell}
 use Rattle.cell_spec.specs.declared.edit.Edit.{Edit}
 use Rattle.edit_sets.specs.FormFault.{form_fault}
 use Rattle.text_spec.specs.declared.command.Command.{Command}
 use Rattle.text_spec.specs.declared.command.Command.TheVariants.{View, Commit, Drop, List as Findings, Push}
 use Rattle.history_spec.specs.declared.reply.Reply.{Reply}
-use Rattle.history_spec.specs.Steps.{History, Event, view, faulty, commit, opening, step}
+use Rattle.history_spec.specs.Steps.{History, Event, view, faulty, commit, step}
 
 -- what a shared command asks: to see, or to commit a draft
 pub data Request : Type 0 where

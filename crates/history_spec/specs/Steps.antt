@@ -1,5 +1,5 @@
 -- One step of the editing history of a cell: a view, a commit with a fault of form, or a commit. This project's own rules.
-use Rattle.std.specs.Prelude.{ℕ, zero, suc, ◌+◌, ◌==◌, Bool, nat_lt, List, [], ◌∷◌, ◌++◌, length, map, take, drop, filter, filter_map, find, fold, is_some, Option, None, Some, if◌then◌else◌}
+use Rattle.std.specs.Prelude.{ℕ, ◌+◌, ◌==◌, nat_lt, List, [], ◌∷◌, ◌++◌, length, map, take, drop, filter, filter_map, find, fold, is_some, Option, None, Some, if◌then◌else◌}
 use Rattle.std.specs.List.{list_any, enumerate_from}
 use Rattle.std.specs.Option.{option_map, option_map_or, option_and_then}
 use Rattle.s57_types.specs.declared.name.RecName.{RecName}

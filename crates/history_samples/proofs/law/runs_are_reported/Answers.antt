@@ -1,6 +1,8 @@
 use Rattle.std.proofs.Common.{refl}
 use Rattle.std.specs.Fmt.{digits}
+use Rattle.s57_types.specs.Fitness.{unfitness}
 use Rattle.cell_spec.specs.Edits.{apply_edits}
+use Rattle.edit_sets.specs.FormFault.{form_fault}
 use Rattle.geometry_spec.specs.Signs.{meeting_of, lies_on}
 use Rattle.rule_spec.specs.Boundary.{boundary_of, has_usable_boundary}
 use Rattle.rule_spec.specs.EdgePoints.{edge_line_of}
@@ -11,17 +13,17 @@ use Rattle.history_spec.specs.ReportText.{report}
 use Rattle.history_samples.proofs.law.runs_are_reported.Goals as goal
 
 pub returns-clause-minimal : goal.returns-clause-minimal
-unfolding digits report text_with all_findings findings_of_subject subjects meeting_of lies_on boundary_of has_usable_boundary edge_line_of uses_of apply_edits
+unfolding digits form_fault unfitness report text_with all_findings findings_of_subject subjects meeting_of lies_on boundary_of has_usable_boundary edge_line_of uses_of apply_edits
 returns-clause-minimal c = refl
 
 pub returns-clause-clash : goal.returns-clause-clash
-unfolding digits report text_with all_findings findings_of_subject subjects meeting_of lies_on boundary_of has_usable_boundary edge_line_of uses_of apply_edits
+unfolding digits form_fault unfitness report text_with all_findings findings_of_subject subjects meeting_of lies_on boundary_of has_usable_boundary edge_line_of uses_of apply_edits
 returns-clause-clash c = refl
 
 pub returns-clause-until_a_view : goal.returns-clause-until_a_view
-unfolding digits report text_with all_findings findings_of_subject subjects meeting_of lies_on boundary_of has_usable_boundary edge_line_of uses_of apply_edits
+unfolding digits form_fault unfitness report text_with all_findings findings_of_subject subjects meeting_of lies_on boundary_of has_usable_boundary edge_line_of uses_of apply_edits
 returns-clause-until_a_view c = refl
 
 pub returns-clause-two_sessions : goal.returns-clause-two_sessions
-unfolding digits report text_with all_findings findings_of_subject subjects meeting_of lies_on boundary_of has_usable_boundary edge_line_of uses_of apply_edits
+unfolding digits form_fault unfitness report text_with all_findings findings_of_subject subjects meeting_of lies_on boundary_of has_usable_boundary edge_line_of uses_of apply_edits
 returns-clause-two_sessions c = refl

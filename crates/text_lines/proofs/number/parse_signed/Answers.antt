@@ -1,4 +1,4 @@
-use Rattle.std.proofs.Common.{arith, rules, sym, ◌∙◌, w32}
+use Rattle.std.proofs.Common.{rules, sym, ◌∙◌, w32}
 use Rattle.std.proofs.lemmas.Fmt.{parse-signed_decimal}
 use Rattle.text_lines.proofs.Numbers.{mag_fits, utf8_signed}
 use Rattle.text_lines.proofs.number.parse_signed.Goals as goal
