@@ -1,9 +1,13 @@
+ghost use Rattle.std.specs.Prelude.{◌<◌, ◌^◌, length};
+
 use super::*;
 use std::alloc::Global;
 use std::test::Fail;
 
 /// The first bad place of a text for two and four shared commands, or none.
-fn bad_place(alloc: Global, text: &[u8]) -> Result<Option<u32>, Fail> {
+fn bad_place(alloc: Global, text: &[u8]) -> Result<Option<u32>, Fail>
+    requires { length text.now < 2 ^ 32 }
+{
     match read_order(alloc, text, &[2, 4]) {
         Ok(_) => Ok(None),
         Err(OrderRefusal::BadPlace(place)) => Ok(Some(place)),
@@ -22,16 +26,12 @@ fn orders_are_read(rt: HostRuntime) -> Result<(), Fail> {
 
 #[test]
 fn bad_places_are_told(rt: HostRuntime) -> Result<(), Fail> {
-    let cases: [(&[u8], u32); 6] = [
-        (b"", 0),
-        (b"order 3\n", 1),
-        (b"order 1  2\n", 2),
-        (b"order 1 2 1 2 2\n", 6),
-        (b"order 1 2 1 2 2 2", 7),
-        (b"order 1 2 1 2 2 2\n\n", 7),
-    ];
-    for (text, place) in &cases {
-        assert_eq!(rt; bad_place(rt.alloc(), text)?, Some(*place));
-    }
+    let alloc = rt.alloc();
+    assert_eq!(rt; bad_place(alloc, b"")?, Some(0));
+    assert_eq!(rt; bad_place(alloc, b"order 3\n")?, Some(1));
+    assert_eq!(rt; bad_place(alloc, b"order 1  2\n")?, Some(2));
+    assert_eq!(rt; bad_place(alloc, b"order 1 2 1 2 2\n")?, Some(6));
+    assert_eq!(rt; bad_place(alloc, b"order 1 2 1 2 2 2")?, Some(7));
+    assert_eq!(rt; bad_place(alloc, b"order 1 2 1 2 2 2\n\n")?, Some(7));
     Ok(())
 }
