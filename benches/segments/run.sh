@@ -4,17 +4,12 @@
 # The runs take turns, and the least time of each counts, since other work may disturb them.
 set -e
 here=$(cd "$(dirname "$0")" && pwd)
-work=$(mktemp -d)
-trap 'rm -rf "$work"' EXIT
-
-(cd "$here/../../crates/measure" && rt run measure -- baseline 1 >"$work/build" 2>&1) || { cat "$work/build"; exit 1; }
-cp "$here/../../crates/measure/out/measure" "$work/measure"
-rustc -O -o "$work/segments" "$here/segments.rs"
+. "$here/../built.sh"
 
 for turn in 1 2 3 4 5 6 7 8 9 10 11 12 13 14 15; do
     for rounds in 1 17; do
         "$work/measure" segments $rounds 2>>"$work/rattle_times_$rounds" >"$work/rattle_$rounds"
-        "$work/segments" $rounds 2>>"$work/rust_times_$rounds" >"$work/rust_$rounds"
+        "$work/plain" $rounds 2>>"$work/rust_times_$rounds" >"$work/rust_$rounds"
         cmp "$work/rattle_$rounds" "$work/rust_$rounds"
     done
 done

@@ -8,12 +8,7 @@ set -eu
 here=$(cd "$(dirname "$0")" && pwd)
 size=${1:-262144}
 runs=${2:-7}
-built=$(mktemp -d)
-trap 'rm -rf "$built"' EXIT
-
-(cd "$here/../../crates/measure" && rt run -- baseline 1 >/dev/null 2>&1)
-cp "$here/../../crates/measure/out/measure" "$built/measure"
-rustc -O -o "$built/table" "$here/table.rs"
+. "$here/../built.sh"
 
 # the least time of a program's work, in nanoseconds
 least() {
@@ -22,10 +17,10 @@ least() {
     done | sort -n | head -1
 }
 
-for work in ascending puts gets changes; do
-    ours=$("$built/measure" "table_$work" "$size" 2>/dev/null)
-    theirs=$("$built/table" "$work" "$size" 2>/dev/null)
-    [ "${ours##* }" = "${theirs##* }" ] || { echo "$work: the answers differ: $ours, $theirs" >&2; exit 1; }
+for what in ascending puts gets changes; do
+    ours=$("$work/measure" "table_$what" "$size" 2>/dev/null)
+    theirs=$("$work/plain" "$what" "$size" 2>/dev/null)
+    [ "${ours##* }" = "${theirs##* }" ] || { echo "$what: the answers differ: $ours, $theirs" >&2; exit 1; }
 done
 
 row() {
@@ -37,21 +32,21 @@ row() {
 }
 
 printf '%-34s %9s %9s\n' "$size rows, least of $runs runs" 'ms' 'net ms'
-table_fill=$(least "$built/measure" table_ascending)
-map_fill=$(least "$built/table" ascending)
-vec_fill=$(least "$built/table" vec_ascending)
-row 'ascending: table in blocks' 0 "$built/measure" table_ascending
-row 'ascending: BTreeMap' 0 "$built/table" ascending
-row 'ascending: sorted Vec' 0 "$built/table" vec_ascending
-row 'random puts: table in blocks' 0 "$built/measure" table_puts
-row 'random puts: BTreeMap' 0 "$built/table" puts
+table_fill=$(least "$work/measure" table_ascending)
+map_fill=$(least "$work/plain" ascending)
+vec_fill=$(least "$work/plain" vec_ascending)
+row 'ascending: table in blocks' 0 "$work/measure" table_ascending
+row 'ascending: BTreeMap' 0 "$work/plain" ascending
+row 'ascending: sorted Vec' 0 "$work/plain" vec_ascending
+row 'random puts: table in blocks' 0 "$work/measure" table_puts
+row 'random puts: BTreeMap' 0 "$work/plain" puts
 several=$runs
 runs=1
-row 'random puts: sorted Vec (one run)' 0 "$built/table" vec_puts
+row 'random puts: sorted Vec (one run)' 0 "$work/plain" vec_puts
 runs=$several
-row '1,000,000 gets: table in blocks' "$table_fill" "$built/measure" table_gets
-row '1,000,000 gets: table in one vector' "$vec_fill" "$built/measure" table_flat_gets
-row '1,000,000 gets: BTreeMap' "$map_fill" "$built/table" gets
-row '1,000,000 gets: sorted Vec' "$vec_fill" "$built/table" vec_gets
-row '1,000,000 takes + puts: blocks' "$table_fill" "$built/measure" table_changes
-row '1,000,000 takes + puts: BTreeMap' "$map_fill" "$built/table" changes
+row '1,000,000 gets: table in blocks' "$table_fill" "$work/measure" table_gets
+row '1,000,000 gets: table in one vector' "$vec_fill" "$work/measure" table_flat_gets
+row '1,000,000 gets: BTreeMap' "$map_fill" "$work/plain" gets
+row '1,000,000 gets: sorted Vec' "$vec_fill" "$work/plain" vec_gets
+row '1,000,000 takes + puts: blocks' "$table_fill" "$work/measure" table_changes
+row '1,000,000 takes + puts: BTreeMap' "$map_fill" "$work/plain" changes

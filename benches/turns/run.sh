@@ -3,17 +3,12 @@
 # The runs take turns, and the least time of each counts, since other work may disturb them.
 set -e
 here=$(cd "$(dirname "$0")" && pwd)
-work=$(mktemp -d)
-trap 'rm -rf "$work"' EXIT
-
-(cd "$here/../../crates/measure" && rt run measure -- turns 1 >"$work/build" 2>&1) || { cat "$work/build"; exit 1; }
-cp "$here/../../crates/measure/out/measure" "$work/measure"
-rustc -O -o "$work/turns" "$here/turns.rs"
+. "$here/../built.sh"
 
 for round in 1 2 3 4 5 6 7 8 9 10; do
     for threads in 1 2 4 8 16; do
         "$work/measure" turns $threads 2>>"$work/rattle_$threads" >"$work/rattle_said"
-        "$work/turns" $threads 2>>"$work/rust_$threads" >"$work/rust_said"
+        "$work/plain" $threads 2>>"$work/rust_$threads" >"$work/rust_said"
         cmp "$work/rattle_said" "$work/rust_said"
     done
 done
