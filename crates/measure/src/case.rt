@@ -1,6 +1,6 @@
 //! The cases by their names.
 
-use crate::table::Work;
+use crate::{lookups, table};
 use std::fmt;
 
 /// What is timed.
@@ -13,7 +13,9 @@ pub enum Case {
     /// Turns under the ticket lock: the size is the number of threads.
     Turns,
     /// Work with a sorted table.
-    Table(Work),
+    Table(table::Work),
+    /// Look-ups in a cell.
+    Lookups(lookups::Work),
 }
 
 impl Case {
@@ -23,7 +25,9 @@ impl Case {
             "baseline" => Some(Case::Baseline),
             "segments" => Some(Case::Segments),
             "turns" => Some(Case::Turns),
-            _ => Work::of(name).map(Case::Table),
+            _ => table::Work::of(name)
+                .map(Case::Table)
+                .or_else(|| lookups::Work::of(name).map(Case::Lookups)),
         }
     }
 }
@@ -35,6 +39,7 @@ impl fmt::Display for Case {
             Case::Segments => f.write_str("segments"),
             Case::Turns => f.write_str("turns"),
             Case::Table(work) => work.fmt(f),
+            Case::Lookups(work) => work.fmt(f),
         }
     }
 }

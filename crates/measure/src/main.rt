@@ -6,6 +6,7 @@
 
 mod baseline;
 mod case;
+mod lookups;
 mod segments;
 mod table;
 mod turns;
@@ -31,6 +32,7 @@ fn outcome<R: Threads + Wait + Sync>(
         Case::Segments => segments::meetings(alloc, size),
         Case::Turns => turns::sum_of_numbers(rt, alloc, size),
         Case::Table(work) => table::outcome(alloc, work, size),
+        Case::Lookups(work) => lookups::outcome(alloc, work, size),
     }
 }
 

@@ -1,0 +1,9 @@
+use Rattle.std.proofs.Common.{refl}
+use Rattle.s57_types.specs.declared.name.Kind.TheVariants.{Fe}
+use Rattle.chain_topo.proofs.SmallRecords.{feature-fits-with}
+use Rattle.measure.proofs.lookups.feature.Goals as goal
+
+pub returns-clause-fits : goal.returns-clause-fits
+returns-clause-fits c =
+    feature-fits-with (record { kind = Fe; id = c.args.id }) c.args.foid c.make.result c.make-2.result c.make-3.result c.of_vec.result c.args.places.items
+    c.make.ensures c.make-2.ensures c.make-3.ensures c.of_vec.ensures refl c.requires.targets c.requires.few
