@@ -7,12 +7,7 @@ set -eu
 here=$(cd "$(dirname "$0")" && pwd)
 size=${1:-262144}
 runs=${2:-7}
-built=$(mktemp -d)
-trap 'rm -rf "$built"' EXIT
-
-(cd "$here/../../crates/measure" && rt run -- baseline 1 >/dev/null 2>&1)
-cp "$here/../../crates/measure/out/measure" "$built/measure"
-rustc -O -o "$built/lookups" "$here/lookups.rs"
+. "$here/../built.sh"
 
 # the least time of a program's work, in nanoseconds
 least() {
@@ -21,10 +16,10 @@ least() {
     done | sort -n | head -1
 }
 
-for work in build gets refs bearers; do
-    ours=$("$built/measure" "lookups_$work" "$size" 2>/dev/null)
-    theirs=$("$built/lookups" "$work" "$size" 2>/dev/null)
-    [ "${ours##* }" = "${theirs##* }" ] || { echo "$work: the answers differ: $ours, $theirs" >&2; exit 1; }
+for what in build gets refs bearers; do
+    ours=$("$work/measure" "lookups_$what" "$size" 2>/dev/null)
+    theirs=$("$work/plain" "$what" "$size" 2>/dev/null)
+    [ "${ours##* }" = "${theirs##* }" ] || { echo "$what: the answers differ: $ours, $theirs" >&2; exit 1; }
 done
 
 row() {
@@ -36,11 +31,11 @@ row() {
 }
 
 printf '%-34s %9s %9s\n' "$size records, least of $runs runs" 'ms' 'net ms'
-list_fill=$(least "$built/measure" lookups_build)
-map_fill=$(least "$built/lookups" build)
-row 'built: sorted lists' 0 "$built/measure" lookups_build
-row 'built: HashMap' 0 "$built/lookups" build
+list_fill=$(least "$work/measure" lookups_build)
+map_fill=$(least "$work/plain" build)
+row 'built: sorted lists' 0 "$work/measure" lookups_build
+row 'built: HashMap' 0 "$work/plain" build
 for work in gets refs bearers; do
-    row "1,000,000 $work: sorted lists" "$list_fill" "$built/measure" "lookups_$work"
-    row "1,000,000 $work: HashMap" "$map_fill" "$built/lookups" "$work"
+    row "1,000,000 $work: sorted lists" "$list_fill" "$work/measure" "lookups_$work"
+    row "1,000,000 $work: HashMap" "$map_fill" "$work/plain" "$work"
 done
