@@ -1,0 +1,16 @@
+//! Scripts: the commands of one session, a line each.
+#![tactic(auto)]
+
+mod cut;
+mod item;
+mod reading;
+mod refusal;
+mod script;
+mod spelling;
+mod value;
+mod vector;
+
+pub use reading::{read_command, read_minimal_script};
+pub use refusal::MinimalScriptRefusal;
+pub use script::Script;
+pub use text_spec::Command;
