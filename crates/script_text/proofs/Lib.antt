@@ -1,3 +1,5 @@
 pub mod Cuts
 pub mod Words
 pub mod Lists
+pub mod Vectors
+pub mod Commands

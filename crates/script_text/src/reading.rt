@@ -1,6 +1,8 @@
 //! Reading minimal scripts. A line is taken only where it is the line of the command that was read from it.
 
 ghost use Rattle.std.specs.Prelude.{◌≡◌, ◌∷◌, ◌++◌, [], ◌<◌, List, length, true, IfOk, OnOk, MatchResult, if◌then◌else◌};
+ghost use Rattle.cell_spec.specs.declared.edit.Edit.{Edit};
+ghost use Rattle.text_spec.specs.EditLine.{is_minimal_edit};
 ghost use Rattle.text_spec.specs.Lines.{spaced_words};
 ghost use Rattle.text_spec.specs.ScriptLines.{command_line, is_minimal_command as is_minimal_command_lem, is_skipped as is_skipped_lem, IsCommand};
 ghost use Rattle.text_spec.specs.declared.command.Command.{Command};
@@ -40,9 +42,9 @@ fn command_of(alloc: Global, first: &[u8], others: &[u8]) -> Result<Command, All
 
 /// The same for the words of an edit.
 fn edit_of(alloc: Global, first: &[u8], others: &[u8]) -> Result<Edit, AllocError>
-    ensures width { IfOk result (λ edit. is_minimal_command_lem (Command.Push edit) ≡ true → IsCommand (Command.Push edit)) }
-    ensures found { (command : Command) → IsMinimalCommand command → first.now ≡ first_word command
-        → others.now ≡ spaced_words (other_words command) → IfOk result (λ read. Command.Push read ≡ command) }
+    ensures width { IfOk result (λ edit. is_minimal_edit edit ≡ true → IsCommand (Command.Push edit)) }
+    ensures found { (edit : Edit) → IsMinimalCommand (Command.Push edit) → first.now ≡ first_word (Command.Push edit)
+        → others.now ≡ spaced_words (other_words (Command.Push edit)) → IfOk result (λ read. read ≡ edit) }
 {
     if is_word(first, "add") {
         return Ok(Edit::Add(Rec::V(vector_of(alloc, others)?)));
