@@ -1,6 +1,8 @@
 -- Which command the words of a line are.
-use Rattle.std.proofs.Common.{◌≡◌, ℕ, ◌==◌, ◌&&◌, true, not, List, [], ◌∷◌, ◌++◌, length, codes, get_or, All, refl, sym, ap, ◌∙◌, arith}
-use Rattle.std.proofs.lemmas.Bool.{and_parts, eqb-true}
+use Rattle.std.proofs.Common.{◌≡◌, ℕ, ◌==◌, ◌&&◌, true, false, Bool, ◌↔◌, Some, not, List, [], ◌∷◌, ◌++◌, length, codes, get_or, All, refl, sym, ap, ◌∙◌, arith}
+use Rattle.std.proofs.lemmas.Bool.{and_parts, eqb-true, false≢true}
+use Rattle.std.proofs.lemmas.List.{same_from_push}
+use Rattle.std.specs.Bool.{then_some}
 use Rattle.s57_types.specs.declared.name.Kind.{Kind}
 use Rattle.s57_types.specs.declared.name.Kind.TheVariants.{Vi, Vc, Ve, Fe}
 use Rattle.s57_types.specs.declared.name.RecName.{RecName}
@@ -12,11 +14,13 @@ use Rattle.cell_spec.specs.declared.edit.Edit.{Edit}
 use Rattle.cell_spec.specs.declared.edit.Edit.TheVariants.{Add, Set, Del}
 use Rattle.text_spec.specs.Lines.{spaced_words}
 use Rattle.text_spec.specs.EditLine.{vector_words, record_words, is_node_or_edge, is_feature, is_minimal_record, is_minimal_edit, record_has_line, has_line}
-use Rattle.text_spec.specs.ScriptLines.{IsOfWidth, record_subfields, vector_subfields, IsCommand, is_minimal_command}
+use Rattle.text_spec.specs.ScriptLines.{command_line, IsOfWidth, record_subfields, vector_subfields, IsCommand, is_minimal_command}
 use Rattle.text_spec.specs.declared.command.Command.{Command}
 use Rattle.text_spec.specs.declared.command.Command.TheVariants.{View, Commit, Drop, List as Findings, Push}
-use Rattle.script_text.specs.Guess.{first_word, other_words, IsMinimalCommand}
+use Rattle.script_text.specs.Guess.{HasLine, IsReadOf, command_text, first_word, other_words, IsMinimalCommand}
 use Rattle.script_text.specs.Widths.{IsNameOfWidth, IsVectorOfWidth}
+use Rattle.script_text.proofs.Cuts.{IsCut, cut_of}
+use Rattle.script_text.proofs.Words.{IsFree, from_parts}
 use Rattle.script_text.proofs.Vectors.{width_of_vector, vector_of_width, width_of_name, name_of_width}
 
 empty_of : {X : Type 0} (xs : List X) → (length xs == 0) ≡ true → xs ≡ []
@@ -57,7 +61,7 @@ pub record IsVectorOf (r : Rec) : Type 0 where
   pub no_attrs : vector.attrs ≡ []
   pub no_deep : vector.deep ≡ []
 
-vector_by : (r : Rec) → is_minimal_record r ≡ true → All IsOfWidth (record_subfields r) → IsVectorOf r
+pub vector_by : (r : Rec) → is_minimal_record r ≡ true → All IsOfWidth (record_subfields r) → IsVectorOf r
 vector_by (V v) minimal width = let p = plain v minimal in record { vector = v; is = refl; width = vector_of_width v width; no_attrs = p.no_attrs; no_deep = p.no_deep }
 vector_by (F f) minimal width = absurd (cc)
 
@@ -139,3 +143,39 @@ push_of Commit minimal not_view not_commit not_drop = absurd (not_commit refl)
 push_of Drop minimal not_view not_commit not_drop = absurd (not_drop refl)
 push_of (Findings shown) minimal not_view not_commit not_drop = absurd (let no = minimal.minimal in cc)
 push_of (Push edit) minimal not_view not_commit not_drop = record { edit = edit; is = refl; minimal = minimal; words = refl }
+
+-- a line is its words and a line feed
+pub line_is : (c : Command) → command_line c ≡ command_text c ++ 10 ∷ []
+line_is View = refl
+line_is Commit = refl
+line_is Drop = refl
+line_is (Findings shown) = refl
+line_is (Push (Add r)) = refl
+line_is (Push (Set r)) = refl
+line_is (Push (Del n)) = refl
+
+free_first : (c : Command) → IsFree 32 (first_word c)
+free_first View = record { free = refl }
+free_first Commit = record { free = refl }
+free_first Drop = record { free = refl }
+free_first (Findings shown) = record { free = refl }
+free_first (Push (Add r)) = record { free = refl }
+free_first (Push (Set r)) = record { free = refl }
+free_first (Push (Del n)) = record { free = refl }
+
+pub command_cut : (c : Command) (line text : List ℕ) (end : ℕ) → line ≡ text ++ end ∷ [] → command_line c ≡ line → IsCut 32 text (first_word c) (spaced_words (other_words c))
+command_cut c line text end parts spelled =
+    let same = same_from_push text (command_text c) end 10 (sym parts ∙ sym spelled ∙ line_is c) in
+    cut_of 32 text (first_word c) (spaced_words (other_words c)) same.0 (free_first c).free (from_parts 32 (other_words c))
+
+pub read_by : (line : List ℕ) (c : Command) (same : Bool) → ((same ≡ true) ↔ HasLine line c) → (is_minimal_command c ≡ true → IsCommand c)
+    → ((d : Command) → IsMinimalCommand d → command_line d ≡ line → c ≡ d) → IsReadOf line (then_some same c)
+read_by line c true both width found =
+    let is = both.0 refl in
+    record { spelled = (record { command = width is.0; minimal = is.0 }, is.1); found = λ d minimal spelled. ap Some (found d minimal spelled) }
+read_by line c false both width found = record {
+  spelled = tt;
+  found = λ d minimal spelled.
+      let same = found d minimal spelled in
+      absurd (false≢true (both.1 (ap is_minimal_command same ∙ minimal.minimal, ap command_line same ∙ spelled)));
+}

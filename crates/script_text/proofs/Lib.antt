@@ -3,3 +3,6 @@ pub mod Words
 pub mod Lists
 pub mod Vectors
 pub mod Commands
+pub mod Fed
+pub mod Steps
+pub mod Scripts

@@ -37,6 +37,10 @@ pub record IsMinimalCommand (c : Command) : Type 0 where
   pub command : IsCommand c
   pub minimal : is_minimal_command c ≡ true
 
+-- the command may stand in a minimal script, and the bytes are its line
+abbrev pub HasLine : List ℕ → Command → Type 0
+HasLine line c = (is_minimal_command c ≡ true) × (command_line c ≡ line)
+
 -- the command whose line the bytes are, if there is one
 pub record IsReadOf (line : List ℕ) (read : Option Command) : Type 0 where
   pub spelled : IfSome read (λ c. IsMinimalCommand c × (command_line c ≡ line))

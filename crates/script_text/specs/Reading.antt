@@ -47,11 +47,13 @@ pub record IsRead (text : List ℕ) (earlier : List Command) (rest : List ℕ) (
   pub taken : List Command
   pub commands_are : commands ≡ earlier ++ taken
   pub step : IsStep text rest taken
+  pub few : length earlier ≤ command_limit → length commands ≤ command_limit
 
 -- a line is of a command that there is room for
 pub record IsTaken (line : List ℕ) (earlier commands : List Command) : Type 0 where
   pub taken : Command
   pub commands_are : commands ≡ earlier ++ taken ∷ []
+  pub room : length earlier < command_limit
   pub minimal : IsMinimalCommand taken
   pub spelled : command_line taken ≡ line
   pub only : (c : Command) → IsMinimalCommand c → command_line c ≡ line → c ≡ taken

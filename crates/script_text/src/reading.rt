@@ -1,12 +1,12 @@
 //! Reading minimal scripts. A line is taken only where it is the line of the command that was read from it.
 
-ghost use Rattle.std.specs.Prelude.{◌≡◌, ◌∷◌, ◌++◌, [], ◌<◌, List, length, true, IfOk, OnOk, MatchResult, if◌then◌else◌};
+ghost use Rattle.std.specs.Prelude.{◌≡◌, ◌↔◌, IsTrue, ◌∷◌, ◌++◌, [], ◌<◌, List, length, true, IfOk, OnOk, MatchResult, if◌then◌else◌};
 ghost use Rattle.cell_spec.specs.declared.edit.Edit.{Edit};
 ghost use Rattle.text_spec.specs.EditLine.{is_minimal_edit};
 ghost use Rattle.text_spec.specs.Lines.{spaced_words};
 ghost use Rattle.text_spec.specs.ScriptLines.{command_line, is_minimal_command as is_minimal_command_lem, is_skipped as is_skipped_lem, IsCommand};
 ghost use Rattle.text_spec.specs.declared.command.Command.{Command};
-ghost use Rattle.script_text.specs.Guess.{first_word, other_words, IsMinimalCommand, IsReadOf};
+ghost use Rattle.script_text.specs.Guess.{HasLine, first_word, other_words, IsMinimalCommand, IsReadOf};
 ghost use Rattle.script_text.specs.Reading.{IsMinimalRefusal, IsOnlyScript, IsNotTaken, IsRead, IsStuck, IsTaken};
 
 use crate::cut::cut_at;
@@ -55,22 +55,44 @@ fn edit_of(alloc: Global, first: &[u8], others: &[u8]) -> Result<Edit, AllocErro
     Ok(Edit::Del(name_of_words(others)))
 }
 
+/// The command that a line is of, if it is of a command of a minimal script, and some command else.
+///
+/// An `Err` is want of memory.
+fn guess(alloc: Global, line: &[u8]) -> Result<Command, AllocError>
+    ensures width { IfOk result (λ command. is_minimal_command_lem command ≡ true → IsCommand command) }
+    ensures found { (command : Command) → IsMinimalCommand command → command_line command ≡ line.now → IfOk result (λ read. read ≡ command) }
+{
+    match line.split_last() {
+        Some((_, text)) => {
+            let (first, others) = cut_at(b' ', text);
+            command_of(alloc, first, others)
+        }
+        None => Ok(Command::View),
+    }
+}
+
+/// Whether a command may stand in a minimal script and has this line.
+///
+/// An `Err` is want of memory.
+fn has_line(alloc: Global, command: &Command, line: &[u8]) -> Result<bool, AllocError>
+    ensures { IfOk result (λ same. IsTrue same ↔ HasLine line.now command.now) }
+{
+    if !is_minimal_command(command) {
+        return Ok(false);
+    }
+    let spelled = spelling(alloc, command)?;
+    Ok(spelled.as_slice() == line)
+}
+
 /// The command of a minimal script that has this line, the line feed included, if there is one.
 ///
 /// An `Err` is want of memory.
 pub fn read_command(alloc: Global, line: &[u8]) -> Result<Option<Command>, AllocError>
     ensures { IfOk result (IsReadOf line.now) }
 {
-    let Some((_, text)) = line.split_last() else {
-        return Ok(None);
-    };
-    let (first, others) = cut_at(b' ', text);
-    let command = command_of(alloc, first, others)?;
-    if is_minimal_command(&command) && spelling(alloc, &command)?.as_slice() == line {
-        Ok(Some(command))
-    } else {
-        Ok(None)
-    }
+    let command = guess(alloc, line)?;
+    let same = has_line(alloc, &command, line)?;
+    Ok(same.then_some(command))
 }
 
 /// Whether a line is passed over: an empty one, and one that begins with a number sign.
@@ -90,7 +112,7 @@ fn take_command(alloc: Global, line: &[u8], script: &mut Script) -> Result<(), M
     let Some(command) = read_command(alloc, line)? else {
         return Err(MinimalScriptRefusal::NotMinimal);
     };
-    if script.commands().len() == MOST_COMMANDS {
+    if script.commands().len() >= MOST_COMMANDS {
         return Err(MinimalScriptRefusal::NotMinimal);
     }
     script.push(command)?;
@@ -108,9 +130,10 @@ fn take_line<'a>(alloc: Global, text: &'a [u8], script: &mut Script) -> Result<&
         return Err(MinimalScriptRefusal::NotMinimal);
     }
     let (line, rest) = text.split_at(front.len() + 1);
-    if !is_skipped(front) {
-        take_command(alloc, line, script)?;
+    if is_skipped(front) {
+        return Ok(rest);
     }
+    take_command(alloc, line, script)?;
     Ok(rest)
 }
 
