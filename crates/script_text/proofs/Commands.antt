@@ -13,8 +13,8 @@ use Rattle.s57_types.specs.FieldRows.{name_row}
 use Rattle.cell_spec.specs.declared.edit.Edit.{Edit}
 use Rattle.cell_spec.specs.declared.edit.Edit.TheVariants.{Add, Set, Del}
 use Rattle.text_spec.specs.Lines.{spaced_words}
-use Rattle.text_spec.specs.EditLine.{vector_words, record_words, is_node_or_edge, is_feature, is_minimal_record, is_minimal_edit, record_has_line, has_line}
-use Rattle.text_spec.specs.ScriptLines.{command_line, IsOfWidth, record_subfields, vector_subfields, IsCommand, is_minimal_command}
+use Rattle.text_spec.specs.EditLine.{vector_words, record_words, is_node_or_edge, is_feature, is_minimal_record, record_has_line, has_line}
+use Rattle.text_spec.specs.ScriptLines.{command_line, IsOfWidth, record_subfields, IsCommand, is_minimal_command}
 use Rattle.text_spec.specs.declared.command.Command.{Command}
 use Rattle.text_spec.specs.declared.command.Command.TheVariants.{View, Commit, Drop, List as Findings, Push}
 use Rattle.script_text.specs.Guess.{HasLine, IsReadOf, command_text, first_word, other_words, IsMinimalCommand}

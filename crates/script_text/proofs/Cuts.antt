@@ -1,7 +1,7 @@
 -- What cuts at a mark give.
-use Rattle.std.proofs.Common.{◌≡◌, ℕ, ◌+◌, ◌<◌, ◌≤◌, ◌==◌, Bool, true, false, List, [], ◌∷◌, ◌++◌, length, take, drop, cond, refl, sym, ap, ◌∙◌, arith, ◌||◌, subst, Option, Some, None, ltb, eqb}
+use Rattle.std.proofs.Common.{◌≡◌, ℕ, ◌+◌, ◌≤◌, ◌==◌, Bool, true, false, List, [], ◌∷◌, ◌++◌, length, take, drop, cond, refl, sym, ap, ◌∙◌, arith, subst, Option, Some, None, ltb, eqb}
 use Rattle.std.specs.List.{position_or_len}
-use Rattle.std.proofs.lemmas.Bool.{eq-eqb, ne_eqb, eqb-true, or_parts, or_from, ltb-false}
+use Rattle.std.proofs.lemmas.Bool.{eq-eqb, eqb-true, or_parts, or_from, ltb-false}
 use Rattle.std.proofs.lemmas.List.{length-append}
 use Rattle.std.proofs.Math.Seq.{take-append_seam, drop-append_seam}
 use Rattle.std.specs.Option.{unwrap_or}
@@ -51,8 +51,8 @@ whole_by : (mark b : ℕ) (text : List ℕ) (t : Bool) → (b == mark) ≡ t →
 whole_by mark b text true here tail = whole_cons mark b text [] (b ∷ text) (cut_here mark b text (eqb-true b mark here)) refl refl (eqb-true b mark here)
 whole_by mark b text false other tail =
     whole_cons mark b text (b ∷ before mark text) (from mark text)
-        (cut_later mark b text (before mark text) (from mark text) other (record { front_is = refl; rest_is = refl }))
-        (ap (λ t. b ∷ t) tail.joined) (or_from (b == mark) (holds mark (before mark text)) other tail.free) tail.begins
+    (cut_later mark b text (before mark text) (from mark text) other (record { front_is = refl; rest_is = refl }))
+    (ap (λ t. b ∷ t) tail.joined) (or_from (b == mark) (holds mark (before mark text)) other tail.free) tail.begins
 
 pub whole : (mark : ℕ) (text : List ℕ) → IsWhole mark text
 whole mark [] = record { joined = refl; free = refl; begins = tt }

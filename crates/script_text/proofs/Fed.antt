@@ -1,15 +1,14 @@
 -- The line of a minimal script has one line feed, at its end.
-use Rattle.std.proofs.Common.{◌≡◌, ℕ, ℤ, ◌<◌, ◌+◌, ◌==◌, true, false, List, [], ◌∷◌, ◌++◌, length, map, codes, All, refl, sym, ap, ◌∙◌, arith, subst}
+use Rattle.std.proofs.Common.{◌≡◌, ℕ, ℤ, false, List, [], ◌∷◌, ◌++◌, codes, All, refl, sym, arith, subst}
 use Rattle.std.proofs.lemmas.List.Elements.{All-head, All-tail}
 use Rattle.s57_types.specs.Subfield.{holds}
 use Rattle.s57_types.specs.declared.record.End.{End}
 use Rattle.s57_types.specs.declared.record.Vector.{Vector}
 use Rattle.s57_types.specs.declared.record.Rec.{Rec}
-use Rattle.cell_spec.specs.declared.edit.Edit.{Edit}
 use Rattle.cell_spec.specs.declared.edit.Edit.TheVariants.{Add, Set, Del}
 use Rattle.text_spec.specs.Lines.{spaced_words}
-use Rattle.text_spec.specs.EditLine.{end_item, plane_item, vector_words, record_words}
-use Rattle.text_spec.specs.ScriptLines.{ScriptLine, skipped, spoken, line_text, command_line, is_skipped}
+use Rattle.text_spec.specs.EditLine.{vector_words, record_words}
+use Rattle.text_spec.specs.ScriptLines.{ScriptLine, skipped, spoken, line_text}
 use Rattle.text_spec.specs.declared.command.Command.{Command}
 use Rattle.text_spec.specs.declared.command.Command.TheVariants.{View, Commit, Drop, List as Findings, Push}
 use Rattle.script_text.specs.Widths.{IsEndOfWidth, IsPointOfWidth, IsVectorOfWidth}

@@ -1,5 +1,5 @@
 -- The items of a minimal vector record, taken one after the other.
-use Rattle.std.proofs.Common.{◌≡◌, ℕ, ℤ, ◌<◌, ◌+◌, false, List, [], ◌∷◌, ◌++◌, length, map, All, refl, sym, ap, ◌∙◌, arith, append_assoc}
+use Rattle.std.proofs.Common.{◌≡◌, ℕ, ℤ, ◌<◌, false, List, [], ◌∷◌, ◌++◌, length, map, All, refl, sym, ap, ◌∙◌, arith, append_assoc}
 use Rattle.std.proofs.lemmas.List.{append-nil}
 use Rattle.std.proofs.lemmas.List.Elements.{All-head, All-tail}
 use Rattle.s57_types.specs.Subfield.{holds}
@@ -25,7 +25,13 @@ pub record IsLeft (ends : List End) (plane : List (ℤ × ℤ)) (ends_taken : Li
 
 pub left_whole : (ends : List End) (plane : List (ℤ × ℤ)) (text : List ℕ) → All IsEndOfWidth ends → All IsPointOfWidth plane → text ≡ items_text ends plane → IsLeft ends plane [] [] text
 left_whole ends plane text ends_width plane_width text_is = record {
-  more_ends = ends; more_plane = plane; ends_width = ends_width; plane_width = plane_width; ends_are = refl; plane_is = refl; rest_is = text_is;
+  more_ends = ends;
+  more_plane = plane;
+  ends_width = ends_width;
+  plane_width = plane_width;
+  ends_are = refl;
+  plane_is = refl;
+  rest_is = text_is;
 }
 
 -- what the next word of a text is
@@ -47,7 +53,10 @@ left_by ends plane es ps rest word behind es_now ps_now some next taken (e ∷ m
     let cut = next 32 (end_item e) (items_text more points) (free_end 32 e (omega arith) width).free (from_parts 32 (map end_item more ++ map plane_item points)) rest_is in
     let now = taken.end e width cut.0 in
     record {
-      more_ends = more; more_plane = points; ends_width = All-tail IsEndOfWidth e more ends_width; plane_width = plane_width;
+      more_ends = more;
+      more_plane = points;
+      ends_width = All-tail IsEndOfWidth e more ends_width;
+      plane_width = plane_width;
       ends_are = ends_are ∙ sym (append_assoc es (e ∷ []) more) ∙ ap (λ t. t ++ more) (sym now.0);
       plane_is = plane_is ∙ ap (λ t. t ++ points) (sym now.1);
       rest_is = cut.1;
@@ -57,7 +66,10 @@ left_by ends plane es ps rest word behind es_now ps_now some next taken [] (p �
     let cut = next 32 (plane_item p) (items_text [] points) (free_point 32 p (omega arith) width).free (from_parts 32 (map plane_item points)) rest_is in
     let now = taken.point p width cut.0 in
     record {
-      more_ends = []; more_plane = points; ends_width = ends_width; plane_width = All-tail IsPointOfWidth p points plane_width;
+      more_ends = [];
+      more_plane = points;
+      ends_width = ends_width;
+      plane_width = All-tail IsPointOfWidth p points plane_width;
       ends_are = ends_are ∙ ap (λ t. t ++ []) (sym now.0);
       plane_is = plane_is ∙ sym (append_assoc ps (p ∷ []) points) ∙ ap (λ t. t ++ points) (sym now.1);
       rest_is = cut.1;

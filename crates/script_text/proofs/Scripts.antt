@@ -1,12 +1,11 @@
 -- Minimal scripts as lines.
-use Rattle.std.proofs.Common.{◌≡◌, ℕ, ◌≤◌, ◌<◌, ◌+◌, ◌&&◌, true, List, [], ◌∷◌, ◌++◌, length, All, refl, sym, ap, ◌∙◌, arith, subst, append_assoc}
+use Rattle.std.proofs.Common.{◌≡◌, ℕ, ◌≤◌, ◌<◌, true, List, [], ◌∷◌, ◌++◌, length, All, refl, sym, ap, ◌∙◌, arith, subst, append_assoc}
 use Rattle.std.specs.List.{filter_map, flat_map, list_all}
 use Rattle.std.proofs.lemmas.Bool.{and_parts, and_from}
 use Rattle.std.proofs.lemmas.List.{length-append, append-nil}
 use Rattle.std.proofs.lemmas.List.Elements.{All-nil, All-cons, All-head, All-tail, All-weaker}
-use Rattle.text_spec.specs.ScriptLines.{ScriptLine, skipped, spoken, line_text, spoken_command, IsLine, is_minimal_command, IsScript, IsMinimalScript, command_limit}
+use Rattle.text_spec.specs.ScriptLines.{ScriptLine, skipped, spoken, line_text, spoken_command, IsLine, is_minimal_command, IsMinimalScript, command_limit}
 use Rattle.text_spec.specs.declared.command.Command.{Command}
-use Rattle.script_text.specs.Guess.{IsMinimalCommand}
 use Rattle.script_text.specs.Reading.{IsMinimalLine, IsLines, IsStep, IsStuckBehind, IsStuck, IsOnlyScript, IsMinimalRefusal}
 use Rattle.script_text.specs.declared.refusal.MinimalScriptRefusal.{MinimalScriptRefusal}
 use Rattle.script_text.specs.declared.refusal.MinimalScriptRefusal.TheVariants.{NotMinimal, NoMemory}

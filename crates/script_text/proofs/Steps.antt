@@ -4,7 +4,7 @@ use Rattle.std.specs.List.{flat_map, filter_map}
 use Rattle.std.proofs.lemmas.Bool.{false≢true}
 use Rattle.std.proofs.Math.Seq.{take-append-add, drop-append-add}
 use Rattle.std.proofs.lemmas.List.{length-append, append-nil, same_from_push}
-use Rattle.std.proofs.lemmas.List.Elements.{All-nil, All-cons, All-head, All-tail}
+use Rattle.std.proofs.lemmas.List.Elements.{All-cons, All-head, All-tail}
 use Rattle.s57_types.specs.Subfield.{holds}
 use Rattle.text_spec.specs.ScriptLines.{ScriptLine, skipped, spoken, line_text, spoken_command, command_line, is_skipped, command_limit}
 use Rattle.text_spec.specs.declared.command.Command.{Command}
@@ -17,7 +17,7 @@ use Rattle.script_text.specs.declared.refusal.MinimalScriptRefusal.{MinimalScrip
 use Rattle.script_text.specs.declared.refusal.MinimalScriptRefusal.TheVariants.{NotMinimal, NoMemory}
 use Rattle.script_text.proofs.Cuts.{whole, cut_between, cut_of}
 use Rattle.script_text.proofs.Commands.{line_is}
-use Rattle.script_text.proofs.Fed.{IsFed, fed}
+use Rattle.script_text.proofs.Fed.{fed}
 
 -- a text is cut at its first line feed in one way
 record IsSame (line line' rest rest' : List ℕ) : Type 0 where
@@ -50,10 +50,12 @@ first_by line rest all free (l ∷ lines) each text_is all_are =
     let good = All-head IsMinimalLine l lines each in
     let f = fed l good in
     let text : line ++ (10 ∷ rest) ≡ f.text ++ (10 ∷ flat_map line_text lines) =
-        text_is ∙ ap (λ t. t ++ flat_map line_text lines) f.is ∙ append_assoc f.text (10 ∷ []) (flat_map line_text lines) in
+    text_is ∙ ap (λ t. t ++ flat_map line_text lines) f.is ∙ append_assoc f.text (10 ∷ []) (flat_map line_text lines) in
     let same = first_feed line f.text rest (flat_map line_text lines) free f.free text in
     record {
-      first = l; good = good; spelled = f.is ∙ ap (λ t. t ++ 10 ∷ []) same.line_is;
+      first = l;
+      good = good;
+      spelled = f.is ∙ ap (λ t. t ++ 10 ∷ []) same.line_is;
       others = filter_map spoken_command lines;
       lines = record { lines = lines; each = All-tail IsMinimalLine l lines each; text_is = sym same.rest_is; commands_are = refl };
       all_are = all_are ∙ cons_commands l lines;
@@ -131,7 +133,7 @@ no_feed_by text some free [] each text_is = omega (arith, ap length text_is)
 no_feed_by text some free (l ∷ lines) each text_is =
     let f = fed l (All-head IsMinimalLine l lines each) in
     let parts : text ≡ f.text ++ (10 ∷ flat_map line_text lines) =
-        text_is ∙ ap (λ t. t ++ flat_map line_text lines) f.is ∙ append_assoc f.text (10 ∷ []) (flat_map line_text lines) in
+    text_is ∙ ap (λ t. t ++ flat_map line_text lines) f.is ∙ append_assoc f.text (10 ∷ []) (flat_map line_text lines) in
     let whole_text : text ≡ text ++ [] = sym (append-nil text) in
     let one = cut_of 10 text text [] whole_text free tt in
     let other = cut_of 10 text f.text (10 ∷ flat_map line_text lines) parts f.free refl in
@@ -175,14 +177,16 @@ unfed text front front_is same =
 -- what the first line does
 pub read_skipped : (text front line rest : List ℕ) (script : List Command) → IsParted text front line rest → is_skipped front ≡ true → IsRead text script rest script
 read_skipped text front line rest script p passed = record {
-  taken = []; commands_are = sym (append-nil script);
+  taken = [];
+  commands_are = sym (append-nil script);
   step = subst (λ (t : List ℕ). IsStep t rest []) (sym p.text_is) (step_skipped front rest p.free passed);
   few = λ few. few;
 }
 
 pub read_spoken : (text front line rest : List ℕ) (earlier commands : List Command) → IsParted text front line rest → is_skipped front ≡ false → IsTaken line earlier commands → IsRead text earlier rest commands
 read_spoken text front line rest earlier commands p not_passed t = record {
-  taken = t.taken ∷ []; commands_are = t.commands_are;
+  taken = t.taken ∷ [];
+  commands_are = t.commands_are;
   step = subst (λ (x : List ℕ). IsStep x rest (t.taken ∷ [])) (sym p.text_is)
       (step_spoken front rest t.taken p.free not_passed t.minimal (t.spelled ∙ p.line_is) (λ d minimal spelled. t.only d minimal (spelled ∙ sym p.line_is)));
   few = λ few. omega (arith, t.room, ap length t.commands_are, length-append earlier (t.taken ∷ []));

@@ -1,11 +1,10 @@
 -- The words of a vector record without attributes and soundings, and the widths of its values.
-use Rattle.std.proofs.Common.{◌≡◌, ℕ, ℤ, ◌<◌, ◌^◌, ◌+◌, ◌==◌, ◌&&◌, true, List, [], ◌∷◌, ◌++◌, length, map, All, refl, sym, ap, ◌∙◌, arith, subst, w32}
+use Rattle.std.proofs.Common.{◌≡◌, ℕ, ℤ, ◌<◌, List, [], ◌∷◌, ◌++◌, map, All, sym, ap, ◌∙◌, arith, subst}
 use Rattle.std.specs.Fmt.{decimal}
 use Rattle.std.specs.List.{flat_map}
-use Rattle.std.proofs.lemmas.Bool.{and_parts, eqb-true}
 use Rattle.std.proofs.lemmas.List.{append-nil}
 use Rattle.std.proofs.lemmas.List.Elements.{All-nil, All-cons, All-head, All-tail, All-append, All-from_recursion, recursion_from_All}
-use Rattle.s57_types.specs.Subfield.{Subfield, unsigned_of, signed_of}
+use Rattle.s57_types.specs.Subfield.{Subfield, unsigned_of}
 use Rattle.s57_types.specs.FieldRows.{rcnm_of, name_row, attribute_row, end_row, plane_row, deep_row}
 use Rattle.s57_types.specs.declared.name.Kind.{Kind}
 use Rattle.s57_types.specs.declared.name.Kind.TheVariants.{Vi, Vc, Ve, Fe}
@@ -13,7 +12,7 @@ use Rattle.s57_types.specs.declared.name.RecName.{RecName}
 use Rattle.s57_types.specs.declared.record.Attr.{Attr}
 use Rattle.s57_types.specs.declared.record.End.{End}
 use Rattle.s57_types.specs.declared.record.Vector.{Vector}
-use Rattle.text_spec.specs.CellText.{kind_word, name_words}
+use Rattle.text_spec.specs.CellText.{kind_word}
 use Rattle.text_spec.specs.EditLine.{attribute_item, end_item, plane_item, deep_item, vector_words}
 use Rattle.text_spec.specs.Lines.{spaced_words}
 use Rattle.text_spec.specs.ScriptLines.{IsOfWidth, vector_subfields}

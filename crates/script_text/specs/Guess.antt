@@ -1,7 +1,6 @@
 -- The words of a command's line. This project's own.
-use Rattle.std.specs.Prelude.{◌≡◌, ℕ, List, [], ◌∷◌, ◌++◌, codes, true, Option, None, Some, IfSome}
+use Rattle.std.specs.Prelude.{◌≡◌, ℕ, List, [], ◌∷◌, ◌++◌, codes, true, Option, Some, IfSome}
 use Rattle.std.specs.Fmt.{decimal}
-use Rattle.cell_spec.specs.declared.edit.Edit.{Edit}
 use Rattle.cell_spec.specs.declared.edit.Edit.TheVariants.{Add, Set, Del}
 use Rattle.text_spec.specs.Lines.{spaced_words}
 use Rattle.text_spec.specs.CellText.{name_words}

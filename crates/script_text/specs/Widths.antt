@@ -1,5 +1,5 @@
 -- Values of the parts of minimal edits that fit their fields (S-57 Part 3, 7.7.1). This project's own.
-use Rattle.std.specs.Prelude.{ℕ, ℤ, ◌<◌, ◌^◌, List, FitsSigned, All}
+use Rattle.std.specs.Prelude.{ℤ, ◌<◌, ◌^◌, FitsSigned, All}
 use Rattle.std.specs.Int.{w32}
 use Rattle.s57_types.specs.declared.name.RecName.{RecName}
 use Rattle.s57_types.specs.declared.record.End.{End}

@@ -14,3 +14,6 @@ pub use reading::{read_command, read_minimal_script};
 pub use refusal::MinimalScriptRefusal;
 pub use script::Script;
 pub use text_spec::Command;
+
+#[cfg(test)]
+mod tests;

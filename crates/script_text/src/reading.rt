@@ -120,7 +120,11 @@ fn take_command(alloc: Global, line: &[u8], script: &mut Script) -> Result<(), M
 }
 
 /// Takes the first line of a text into a script, and gives what follows it.
-fn take_line<'a>(alloc: Global, text: &'a [u8], script: &mut Script) -> Result<&'a [u8], MinimalScriptRefusal>
+fn take_line<'a>(
+    alloc: Global,
+    text: &'a [u8],
+    script: &mut Script,
+) -> Result<&'a [u8], MinimalScriptRefusal>
     requires { 0 < length text.now }
     ensures read { MatchResult result (λ rest. IsRead text.now script.old rest.now script.new) (IsStuck (length script.old) text.now) }
     ensures shorter { IfOk result (λ rest. length rest.now < length text.now) }

@@ -1,5 +1,4 @@
-use Rattle.std.proofs.Common.{◌≡◌, ◌<◌, ◌++◌, length, ap, ◌∙◌, arith}
-use Rattle.script_text.specs.Cuts.{before, from}
+use Rattle.std.proofs.Common.{◌≡◌, ◌++◌, length, ap, ◌∙◌, arith}
 use Rattle.script_text.proofs.Cuts.{cut_of, length_rest}
 use Rattle.script_text.proofs.cut.next_part.Goals as goal
 

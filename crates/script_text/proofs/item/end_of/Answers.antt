@@ -22,4 +22,4 @@ returns-clause-found c = λ end width spelled.
     let five = c.next_part-5.ensures.part 58 (decimal end.topi) (rest mask) (number end.topi (omega (arith, width.topi))).free refl four.1 in
     let six = c.next_part-6.ensures.part 58 (decimal end.mask) [] (number end.mask (omega (arith, width.mask))).free tt five.1 in
     same_end _ _ _ _ _ end (c.name_of.ensures end.to width.to one.0 two.0) (c.byte_of.ensures end.ornt width.ornt three.0)
-        (c.byte_of-2.ensures end.usag width.usag four.0) (c.byte_of-3.ensures end.topi width.topi five.0) (c.byte_of-4.ensures end.mask width.mask six.0)
+    (c.byte_of-2.ensures end.usag width.usag four.0) (c.byte_of-3.ensures end.topi width.topi five.0) (c.byte_of-4.ensures end.mask width.mask six.0)

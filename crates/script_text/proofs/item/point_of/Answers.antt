@@ -1,4 +1,4 @@
-use Rattle.std.proofs.Common.{◌≡◌, ℤ, List, [], ◌∷◌, ◌++◌, refl, ap, ◌∙◌, arith, w32, FitsSigned}
+use Rattle.std.proofs.Common.{◌≡◌, ℤ, [], ◌∷◌, ◌++◌, refl, ap, ◌∙◌, arith, w32, FitsSigned}
 use Rattle.std.proofs.lemmas.Int.{to_z-of_z}
 use mir.Val.{to_z, of_z}
 use Rattle.std.specs.Fmt.{signed_decimal}
@@ -15,4 +15,4 @@ returns-clause-found c = λ point width spelled.
     let latitude = c.coordinate_of.ensures point.0 width.latitude one.0 in
     let longitude = c.coordinate_of-2.ensures point.1 width.longitude two.0 in
     same_point _ _ point (ap (λ (z : ℤ). to_z w32 (of_z w32 z)) latitude ∙ to_z-of_z w32 point.0 width.latitude)
-        (ap (λ (z : ℤ). to_z w32 (of_z w32 z)) longitude ∙ to_z-of_z w32 point.1 width.longitude)
+    (ap (λ (z : ℤ). to_z w32 (of_z w32 z)) longitude ∙ to_z-of_z w32 point.1 width.longitude)

@@ -1,4 +1,4 @@
-use Rattle.std.proofs.Common.{◌≡◌, refl, sym, ◌∙◌}
+use Rattle.std.proofs.Common.{refl, sym, ◌∙◌}
 use Rattle.cell_spec.specs.declared.edit.Edit.TheVariants.{Add, Set}
 use Rattle.script_text.proofs.Commands.{record_width, add_of, set_of, put_found}
 use Rattle.script_text.proofs.reading.edit_of.Goals as goal

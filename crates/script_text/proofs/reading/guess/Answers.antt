@@ -1,4 +1,4 @@
-use Rattle.std.proofs.Common.{◌≡◌, ◌∙◌}
+use Rattle.std.proofs.Common.{◌∙◌}
 use Rattle.script_text.proofs.Commands.{command_cut}
 use Rattle.script_text.proofs.reading.guess.Goals as goal
 

@@ -1,4 +1,4 @@
-use Rattle.std.proofs.Common.{◌≡◌, sym, subst}
+use Rattle.std.proofs.Common.{sym, subst}
 use Rattle.script_text.specs.Guess.{IsReadOf}
 use Rattle.script_text.proofs.Commands.{read_by}
 use Rattle.script_text.proofs.reading.read_command.Goals as goal

@@ -1,4 +1,4 @@
-use Rattle.std.proofs.Common.{◌≡◌, ◌+◌, List, length, sym, ap, ◌∙◌, arith}
+use Rattle.std.proofs.Common.{length, sym, ap, ◌∙◌, arith}
 use Rattle.std.proofs.lemmas.Result.{err_from_is_err_and}
 use Rattle.script_text.proofs.Cuts.{length_front}
 use Rattle.script_text.proofs.Steps.{stuck_unfed, unfed, parted, read_skipped, read_spoken, stuck_spoken}

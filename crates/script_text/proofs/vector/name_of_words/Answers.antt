@@ -1,4 +1,4 @@
-use Rattle.std.proofs.Common.{◌≡◌, List, [], ◌∷◌, ◌++◌, refl, arith}
+use Rattle.std.proofs.Common.{[], ◌∷◌, ◌++◌, refl, arith}
 use Rattle.std.specs.Fmt.{decimal}
 use Rattle.text_spec.specs.CellText.{kind_word}
 use Rattle.script_text.proofs.Words.{free_kind, free_decimal}

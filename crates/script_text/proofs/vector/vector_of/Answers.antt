@@ -1,8 +1,8 @@
-use Rattle.std.proofs.Common.{◌≡◌, List, ◌∷◌, ◌++◌, refl, sym, ◌∙◌, arith}
+use Rattle.std.proofs.Common.{◌≡◌, ◌∷◌, ◌++◌, refl, sym, ◌∙◌, arith}
 use Rattle.std.specs.Fmt.{decimal}
 use Rattle.text_spec.specs.CellText.{kind_word}
 use Rattle.script_text.proofs.Lists.{items_text}
-use Rattle.script_text.proofs.Words.{free_kind, free_decimal, from_parts}
+use Rattle.script_text.proofs.Words.{free_kind, free_decimal}
 use Rattle.script_text.proofs.Vectors.{vector_text, same_vector, from_items}
 use Rattle.script_text.proofs.vector.vector_of.Goals as goal
 
@@ -17,4 +17,4 @@ returns-clause-found c = λ vector width no_attrs no_deep spelled.
     let three = c.next_part-3.ensures.part 32 (decimal vector.rver) items (free_decimal 32 vector.rver (λ d below here. omega arith) (omega (arith, width.rver))).free (from_items vector.ends vector.plane) two.1 in
     let lists = c.in_ok-lists.ensures.found vector.ends vector.plane width.ends width.plane three.1 in
     same_vector _ _ _ _ _ _ vector (c.name_of.ensures vector.name width.name one.0 two.0) (c.version_of.ensures vector.rver width.rver three.0)
-        (c.make.ensures ∙ sym no_attrs) lists.0 lists.1 (c.make-2.ensures ∙ sym no_deep)
+    (c.make.ensures ∙ sym no_attrs) lists.0 lists.1 (c.make-2.ensures ∙ sym no_deep)
