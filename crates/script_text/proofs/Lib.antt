@@ -6,3 +6,5 @@ pub mod Commands
 pub mod Fed
 pub mod Steps
 pub mod Scripts
+pub mod Alike
+pub mod AlikeScripts

@@ -87,3 +87,6 @@ no_script bytes rest commands step stuck all is =
 pub refused : (bytes rest : List ℕ) (commands : List Command) → IsStep bytes rest commands → (refusal : MinimalScriptRefusal) → IsStuck (length commands) rest refusal → IsMinimalRefusal bytes refusal
 refused bytes rest commands step NotMinimal stuck = no_script bytes rest commands step stuck
 refused bytes rest commands step NoMemory stuck = tt
+
+pub no_commands : (text : List ℕ) (all : List Command) → text ≡ [] → IsLines text all → all ≡ []
+no_commands text all none is = is.commands_are ∙ no_commands_by is.lines is.each (sym none ∙ is.text_is)

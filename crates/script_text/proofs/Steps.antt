@@ -75,7 +75,7 @@ before_lines l line rest others good spelled lines = record {
 }
 
 -- no command's line is passed over
-spoken_by : (c : Command) → is_skipped (command_text c) ≡ false
+pub spoken_by : (c : Command) → is_skipped (command_text c) ≡ false
 spoken_by View = refl
 spoken_by Commit = refl
 spoken_by Drop = refl

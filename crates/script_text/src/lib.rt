@@ -3,6 +3,7 @@
 
 mod cut;
 mod item;
+mod law;
 mod reading;
 mod refusal;
 mod script;
@@ -10,6 +11,7 @@ mod spelling;
 mod value;
 mod vector;
 
+pub use law::{a_line_is_of_one_command, a_text_is_one_script};
 pub use reading::{read_command, read_minimal_script};
 pub use refusal::MinimalScriptRefusal;
 pub use script::Script;
