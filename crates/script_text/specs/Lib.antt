@@ -1,0 +1,4 @@
+pub mod Cuts
+pub mod Widths
+pub mod Guess
+pub mod Reading

@@ -1,0 +1,78 @@
+//! A script.
+
+ghost use Rattle.std.specs.Prelude.{◌≡◌, ◌≤◌, ◌<◌, ◌++◌, ◌∷◌, [], length, count_by, OnOk};
+ghost use Rattle.text_spec.specs.ScriptLines.{command_limit, is_shared as is_shared_lem};
+
+use std::alloc::{AllocError, Global};
+use std::marker::Model;
+use text_spec::Command;
+
+/// The most commands of a script.
+pub(crate) const MOST_COMMANDS: usize = 50_000;
+
+/// The commands of one session, at most 50,000. It is seen as their list.
+#[derive(Debug, Drop)]
+pub struct Script {
+    commands: Vec<Command>,
+}
+
+impl Model for Script {
+    ghost use Rattle.std.specs.Prelude.{List, length, ◌≤◌};
+    ghost use Rattle.text_spec.specs.declared.command.Command.{Command};
+    ghost use Rattle.text_spec.specs.ScriptLines.{command_limit};
+
+    ghost Value = { List Command };
+
+    ghost view = { λ script. script.commands.items };
+
+    ghost invariant = { λ script. length script.commands.items ≤ command_limit };
+}
+
+impl Script {
+    /// The script of no command.
+    pub(crate) fn make(alloc: Global) -> Script
+        ensures { result ≡ [] }
+    {
+        Script {
+            commands: Vec::new(alloc),
+        }
+    }
+
+    /// Appends a command.
+    ///
+    /// An `Err` is want of memory.
+    pub(crate) fn push(&mut self, command: Command) -> Result<(), AllocError>
+        requires { length self.old < command_limit }
+        ensures { OnOk result (self.new ≡ self.old ++ command ∷ []) }
+    {
+        self.commands.push(command)?;
+        Ok(())
+    }
+
+    /// The commands one after the other.
+    pub fn commands(&self) -> &[Command]
+        ensures { result.now ≡ self.now }
+    {
+        self.commands.as_slice()
+    }
+
+    /// How many commands there are that every session sees: views and commits.
+    pub fn shared(&self) -> u32
+        ensures { result ≡ count_by is_shared_lem self.now }
+    {
+        let mut shared = 0;
+        for command in self.commands.as_slice() {
+            if is_shared(command) {
+                shared += 1;
+            }
+        }
+        shared
+    }
+}
+
+/// Whether every session sees a command.
+fn is_shared(command: &Command) -> bool
+    ensures { result ≡ is_shared_lem command.now }
+{
+    matches!(command, Command::View | Command::Commit)
+}

@@ -1,0 +1,68 @@
+//! The values that words stand for. A word that stands for none gives some value: whoever asks writes the value again and
+//! compares.
+
+ghost use Rattle.std.specs.Prelude.{◌≡◌, ◌↔◌, IsTrue, ℕ, ℤ, ◌<◌, ◌^◌, decimal, FitsSigned};
+ghost use Rattle.std.specs.Fmt.{signed_decimal};
+ghost use Rattle.std.specs.Int.{w32};
+ghost use Rattle.s57_types.specs.declared.name.Kind.{Kind};
+ghost use Rattle.s57_types.specs.declared.name.RecName.{RecName};
+ghost use Rattle.text_spec.specs.CellText.{kind_word};
+ghost use Rattle.script_text.specs.Widths.{IsNameOfWidth};
+
+use s57_types::{Kind, RecName};
+use text_lines::{read_signed, read_unsigned};
+
+/// Whether a word is this text.
+pub fn is_word(word: &[u8], text: &str) -> bool
+    ensures { IsTrue result ↔ word.now ≡ text.now }
+{
+    word == text.as_bytes()
+}
+
+pub fn number_of(word: &[u8]) -> u32
+    ensures { (number : ℕ) → number < 2 ^ 32 → word.now ≡ decimal number → result ≡ number }
+{
+    read_unsigned(word).unwrap_or(0)
+}
+
+pub fn byte_of(word: &[u8]) -> u8
+    ensures { (number : ℕ) → number < 2 ^ 8 → word.now ≡ decimal number → result ≡ number }
+{
+    u8::try_from(number_of(word)).unwrap_or(0)
+}
+
+pub fn version_of(word: &[u8]) -> u16
+    ensures { (number : ℕ) → number < 2 ^ 16 → word.now ≡ decimal number → result ≡ number }
+{
+    u16::try_from(number_of(word)).unwrap_or(0)
+}
+
+/// In integer coordinate units.
+pub fn coordinate_of(word: &[u8]) -> i32
+    ensures { (number : ℤ) → FitsSigned w32 number → word.now ≡ signed_decimal number → result ≡ number }
+{
+    read_signed(word).unwrap_or(0)
+}
+
+pub fn kind_of(word: &[u8]) -> Kind
+    ensures { (kind : Kind) → word.now ≡ kind_word kind → result ≡ kind }
+{
+    if is_word(word, "vi") {
+        Kind::Vi
+    } else if is_word(word, "vc") {
+        Kind::Vc
+    } else if is_word(word, "ve") {
+        Kind::Ve
+    } else {
+        Kind::Fe
+    }
+}
+
+pub fn name_of(kind: &[u8], id: &[u8]) -> RecName
+    ensures { (name : RecName) → IsNameOfWidth name → kind.now ≡ kind_word name.kind → id.now ≡ decimal name.id → result ≡ name }
+{
+    RecName {
+        kind: kind_of(kind),
+        id: number_of(id),
+    }
+}
