@@ -1,35 +1,12 @@
 #!/bin/sh
 # Times the sorted table beside Rust's BTreeMap and a sorted Vec: benches/table/run.sh [SIZE] [RUNS]
 #
-# Each figure is the least of RUNS runs, in milliseconds, with the programs in turn. `gets` and `changes` fill their
-# table in ascending order first: the column `net` takes the time of that filling off. The random puts of the sorted
-# Vec, which move half of it each, run once.
+# `gets` and `changes` fill their table in ascending order first: the column `net` takes the time of that filling off.
+# The random puts of the sorted Vec, which move half of it each, run once.
 set -eu
 here=$(cd "$(dirname "$0")" && pwd)
-size=${1:-262144}
-runs=${2:-7}
-. "$here/../built.sh"
-
-# the least time of a program's work, in nanoseconds
-least() {
-    for _ in $(seq "$runs"); do
-        "$@" "$size" 2>&1 >/dev/null | sed -n 's/ ns$//p'
-    done | sort -n | head -1
-}
-
-for what in ascending puts gets changes; do
-    ours=$("$work/measure" "table_$what" "$size" 2>/dev/null)
-    theirs=$("$work/plain" "$what" "$size" 2>/dev/null)
-    [ "${ours##* }" = "${theirs##* }" ] || { echo "$what: the answers differ: $ours, $theirs" >&2; exit 1; }
-done
-
-row() {
-    name=$1
-    fill=$2
-    shift 2
-    time=$(least "$@")
-    awk -v name="$name" -v time="$time" -v fill="$fill" 'BEGIN { printf "%-34s %9.1f %9.1f\n", name, time / 1e6, (time - fill) / 1e6 }'
-}
+. "$here/../rows.sh"
+same_answers table ascending puts gets changes
 
 printf '%-34s %9s %9s\n' "$size rows, least of $runs runs" 'ms' 'net ms'
 table_fill=$(least "$work/measure" table_ascending)
