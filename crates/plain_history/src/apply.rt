@@ -42,6 +42,19 @@ fn push_changed(
     Ok(())
 }
 
+/// Appends what edits make of a record of the cell.
+fn push_edited_record(
+    alloc: Global,
+    list: &mut Vec<Rec>,
+    rec: &Rec,
+    edits: &[Edit],
+) -> Result<(), AllocError>
+    ensures { OnOk result (list.new.items ≡ list.old.items ++ option_to_list (edited_record edits.now rec.now)) }
+{
+    let edit = edit_named(edits, name_of(rec));
+    push_changed(alloc, list, rec, edit)
+}
+
 /// Appends the record that an edit adds, if it adds one of this kind.
 fn push_added(alloc: Global, list: &mut Vec<Rec>, kind: Kind, edit: &Edit) -> Result<(), AllocError>
     ensures { OnOk result (list.new.items ≡ list.old.items ++ filter (λ r. spec_is_of_kind kind (spec_name_of r)) (option_to_list (added_by edit.now))) }
@@ -64,7 +77,7 @@ fn push_edited(
     ensures { OnOk result (list.new.items ≡ list.old.items ++ filter_map (edited_record edits.now) recs.now) }
 {
     for rec in recs {
-        push_changed(alloc, list, rec, edit_named(edits, name_of(rec)))?;
+        push_edited_record(alloc, list, rec, edits)?;
     }
     Ok(())
 }
