@@ -1,5 +1,6 @@
 -- The first of a list, and the items of a list after some, with their numbers.
-use Rattle.std.proofs.Common.{◌≡◌, ℕ, zero, suc, ◌+◌, ◌<◌, List, [], ◌∷◌, length, drop, get_or, refl, sym, ◌∙◌, ap, arith, slice_get, add-zero, add-one}
+use Rattle.std.proofs.Common.{◌≡◌, ℕ, zero, suc, ◌+◌, ◌<◌, List, [], ◌∷◌, length, drop, get_or, refl, sym, ◌∙◌, ap, arith, slice_get, add-zero, min}
+use Rattle.std.proofs.Math.Seq.{drop-nil}
 use Rattle.std.specs.List.{enumerate_from}
 use Rattle.history_spec.specs.Steps.{first_of}
 
@@ -7,7 +8,11 @@ pub first_at_zero : {X : Type 0} (xs : List X) → first_of xs ≡ slice_get xs 
 first_at_zero [] = refl
 first_at_zero (x ∷ xs) = refl
 
-pub drop-enumerate : {X : Type 0} (b n : ℕ) (xs : List X) → drop b (enumerate_from n xs) ≡ enumerate_from (n + b) (drop b xs)
-drop-enumerate zero n xs = ap (λ m. enumerate_from m xs) (sym (add-zero n))
-drop-enumerate (suc b) n [] = refl
-drop-enumerate (suc b) n (x ∷ xs) = drop-enumerate b (n + 1) xs ∙ (let e : n + 1 + b ≡ n + suc b = omega arith in ap (λ m. enumerate_from m (drop b xs)) e)
+-- the items after the first ones, where there may be fewer
+pub numbered_from : {X : Type 0} (m b n : ℕ) (xs : List X) → m ≡ min b (length xs) → enumerate_from (n + m) (drop m xs) ≡ drop b (enumerate_from n xs)
+numbered_from m b n [] is = ap (λ ys. enumerate_from (n + m) ys) (drop-nil m) ∙ sym (drop-nil b)
+numbered_from m zero n (x ∷ xs) is =
+    (let none : m ≡ 0 = omega arith in ap (λ k. enumerate_from (n + k) (drop k (x ∷ xs))) none) ∙ ap (λ k. enumerate_from k (x ∷ xs)) (add-zero n)
+numbered_from zero (suc b) n (x ∷ xs) is = absurd (omega arith)
+numbered_from (suc m) (suc b) n (x ∷ xs) is =
+    (let e : n + suc m ≡ n + 1 + m = omega arith in ap (λ k. enumerate_from k (drop m xs)) e) ∙ numbered_from m b (n + 1) xs (omega arith)

@@ -4,8 +4,12 @@
 mod accepted;
 mod apply;
 mod count;
+mod finder;
 mod newer;
+mod trial;
 
 pub use accepted::Accepted;
 pub use apply::apply_edits;
+pub use finder::Finder;
 pub use newer::newer_answer;
+pub use trial::{Trial, state_refusal, try_edits};

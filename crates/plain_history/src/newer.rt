@@ -27,6 +27,20 @@ fn edit_named(edits: &[Edit], name: RecName) -> Option<&Edit>
     edits.iter().find(|edit| name == edit.name())
 }
 
+/// Appends a name, if one of the edits has it too.
+fn push_shared(
+    names: &mut Vec<RecName>,
+    name: RecName,
+    others: &[Edit],
+) -> Result<(), AllocError>
+    ensures { OnOk result (names.new.items ≡ names.old.items ++ filter (λ n. list_any (λ other. same_name n (name_of_edit other)) others.now) (name ∷ [])) }
+{
+    if is_named(others, name) {
+        names.push(name)?;
+    }
+    Ok(())
+}
+
 /// The names that both of two lists of edits have.
 fn shared_names(
     alloc: Global,
@@ -37,9 +51,7 @@ fn shared_names(
 {
     let mut names = Vec::new(alloc);
     for edit in edits {
-        if is_named(others, edit.name()) {
-            names.push(edit.name())?;
-        }
+        push_shared(&mut names, edit.name(), others)?;
     }
     Ok(names)
 }
@@ -99,6 +111,7 @@ fn first_clash(
 /// number, counted from 1, and the least such name in it.
 ///
 /// An `Err` is want of memory.
+#[tactic(auto, using(crate::proofs::Firsts::numbered_from))]
 pub fn newer_answer(
     alloc: Global,
     commits: &[Accepted],
