@@ -1,5 +1,5 @@
 -- What trying edits on a cell gives. This project's own.
-use Rattle.std.specs.Prelude.{◌≡◌, ℕ, List, Result, Ok, Err, Option, Some, None}
+use Rattle.std.specs.Prelude.{◌≡◌, ℕ, List, Result, Ok, Err, Some, None}
 use Rattle.s57_types.specs.declared.cell.Cell.{Cell}
 use Rattle.cell_spec.specs.Edits.{apply_edits}
 use Rattle.cell_spec.specs.declared.edit.Edit.{Edit as CellEdit}

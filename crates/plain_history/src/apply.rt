@@ -1,6 +1,6 @@
 //! A cell after edits.
 
-ghost use Rattle.std.specs.Prelude.{◌≡◌, ◌++◌, ◌∷◌, [], IfOk, OnOk, filter, filter_map, find, option_to_list};
+ghost use Rattle.std.specs.Prelude.{◌≡◌, ◌++◌, IfOk, OnOk, filter, filter_map, find, option_to_list};
 ghost use Rattle.std.specs.Option.{option_copied};
 ghost use Rattle.cell_spec.specs.Edits.{added_by, apply_edits as spec_apply_edits, changed_by, edited_record, name_of_edit};
 ghost use Rattle.cell_spec.specs.Lookup.{name_of as spec_name_of};

@@ -1,6 +1,6 @@
 //! The clash of a commit with a newer one.
 
-ghost use Rattle.std.specs.Prelude.{◌≡◌, ◌+◌, ◌<◌, ◌^◌, ◌++◌, ◌∷◌, [], IfOk, OnOk, filter, filter_map, find, length, map};
+ghost use Rattle.std.specs.Prelude.{◌≡◌, ◌+◌, ◌<◌, ◌^◌, ◌++◌, ◌∷◌, [], IfOk, OnOk, filter, filter_map, length};
 ghost use Rattle.std.specs.List.{enumerate_from, list_any};
 ghost use Rattle.std.specs.Option.{option_copied};
 ghost use Rattle.cell_spec.specs.Edits.{name_of_edit};
@@ -28,11 +28,7 @@ fn edit_named(edits: &[Edit], name: RecName) -> Option<&Edit>
 }
 
 /// Appends a name, if one of the edits has it too.
-fn push_shared(
-    names: &mut Vec<RecName>,
-    name: RecName,
-    others: &[Edit],
-) -> Result<(), AllocError>
+fn push_shared(names: &mut Vec<RecName>, name: RecName, others: &[Edit]) -> Result<(), AllocError>
     ensures { OnOk result (names.new.items ≡ names.old.items ++ filter (λ n. list_any (λ other. same_name n (name_of_edit other)) others.now) (name ∷ [])) }
 {
     if is_named(others, name) {
@@ -42,11 +38,7 @@ fn push_shared(
 }
 
 /// The names that both of two lists of edits have.
-fn shared_names(
-    alloc: Global,
-    edits: &[Edit],
-    others: &[Edit],
-) -> Result<Vec<RecName>, AllocError>
+fn shared_names(alloc: Global, edits: &[Edit], others: &[Edit]) -> Result<Vec<RecName>, AllocError>
     ensures { IfOk result (λ names. names.items ≡ spec_shared_names edits.now others.now) }
 {
     let mut names = Vec::new(alloc);
