@@ -13,3 +13,6 @@ pub use apply::apply_edits;
 pub use finder::Finder;
 pub use newer::newer_answer;
 pub use trial::{Trial, state_refusal, try_edits};
+
+#[cfg(test)]
+mod tests;

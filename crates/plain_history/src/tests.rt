@@ -1,0 +1,138 @@
+use super::*;
+use cell_spec::Edit;
+use edit_sets::{EditSet, FormRefusal};
+use history_spec::{Reply, StateRefusal};
+use plain_lookups::name_of;
+use s57_types::{Attrs, Cell, Deep, Ends, Head, Kind, Plane, Rec, RecName, Recs, Text, Vector};
+use std::alloc::{AllocError, Global};
+use std::test::Fail;
+
+/// A finder that wants more memory than there is.
+struct Unable;
+
+impl Finder for Unable {
+    fn count(&self, _alloc: Global, _asked: &[u8], _cell: &Cell) -> Result<u32, AllocError> {
+        Err(AllocError)
+    }
+}
+
+fn name(id: u32) -> RecName {
+    RecName { kind: Kind::Vc, id }
+}
+
+fn node(alloc: Global, id: u32) -> Rec {
+    Rec::V(Vector {
+        name: name(id),
+        rver: 1,
+        attrs: Attrs::make(alloc),
+        ends: Ends::make(alloc),
+        plane: Plane::make(alloc),
+        deep: Deep::make(alloc),
+    })
+}
+
+fn head(alloc: Global) -> Head {
+    Head {
+        dsid_rcid: 1,
+        intu: 5,
+        dsnm: Text::make(alloc),
+        edtn: Text::make(alloc),
+        updn: Text::make(alloc),
+        uadt: [48; 8],
+        isdt: [48; 8],
+        sted: [48; 4],
+        prsp: 1,
+        psdn: Text::make(alloc),
+        pred: Text::make(alloc),
+        prof: 1,
+        agen: 1,
+        dsid_comt: Text::make(alloc),
+        aall: 0,
+        nall: 0,
+        dspm_rcid: 1,
+        hdat: 2,
+        vdat: 23,
+        sdat: 23,
+        cscl: 10_000,
+        duni: 1,
+        huni: 1,
+        puni: 1,
+        coun: 1,
+        comf: 10_000_000,
+        somf: 10,
+        dspm_comt: Text::make(alloc),
+    }
+}
+
+/// A cell of two connected nodes.
+fn cell(alloc: Global) -> Result<Cell, AllocError> {
+    let mut vc = Recs::make(alloc);
+    vc.push(node(alloc, 5))?;
+    vc.push(node(alloc, 2))?;
+    Ok(Cell {
+        head: head(alloc),
+        vi: Recs::make(alloc),
+        vc,
+        ve: Recs::make(alloc),
+        fe: Recs::make(alloc),
+    })
+}
+
+fn set(alloc: Global, edits: &[Edit]) -> Result<EditSet, FormRefusal> {
+    if edits.len() > 9 {
+        return Err(FormRefusal::NoMemory);
+    }
+    EditSet::make(alloc, edits, 0)
+}
+
+#[test]
+fn an_added_record_goes_last(rt: HostRuntime) -> Result<(), Fail> {
+    let alloc = rt.alloc();
+    let cell = cell(alloc)?;
+    let edits = [Edit::Add(node(alloc, 1)), Edit::Del(name(5))];
+    let edited = apply_edits(alloc, &cell, &edits)?;
+    let nodes = edited.vc.as_slice();
+    assert_eq!(rt; nodes.len(), 2);
+    assert_eq!(rt; name_of(nodes.last().ok_or("no node")?), name(1));
+    Ok(())
+}
+
+#[test]
+fn the_first_edit_that_a_cell_does_not_take_is_told(rt: HostRuntime) -> Result<(), Fail> {
+    let alloc = rt.alloc();
+    let cell = cell(alloc)?;
+    let edits = [
+        Edit::Del(name(5)),
+        Edit::Del(name(4)),
+        Edit::Add(node(alloc, 2)),
+    ];
+    let refusal = state_refusal(alloc, &Unable, &[2, 3], &cell, &edits)?;
+    assert_eq!(rt; refusal, Some(StateRefusal::DelMissing(name(4))));
+    assert!(rt; state_refusal(alloc, &Unable, &[2, 3], &cell, &[]).is_err());
+    Ok(())
+}
+
+#[test]
+fn a_commit_clashes_with_the_first_newer_one(rt: HostRuntime) -> Result<(), Fail> {
+    let alloc = rt.alloc();
+    let mut commits = Vec::new(alloc);
+    let first = set(alloc, &[Edit::Del(name(3)), Edit::Del(name(1))])?;
+    commits.push(Accepted::make(7, first))?;
+    let second = set(alloc, &[Edit::Del(name(3))])?;
+    commits.push(Accepted::make(8, second))?;
+    let edits = [Edit::Del(name(3)), Edit::Del(name(1))];
+    let told = match newer_answer(alloc, &commits, 0, &edits)? {
+        Some(
+            Reply::Newer {
+                number,
+                name,
+                desk,
+                ..
+            },
+        ) => Some((number, name, desk)),
+        _ => None,
+    };
+    assert_eq!(rt; told, Some((1, name(1), 7)));
+    assert!(rt; newer_answer(alloc, &commits, 2, &edits)?.is_none());
+    Ok(())
+}
