@@ -1,12 +1,5 @@
-pub mod RowTexts
 pub mod Puts
-pub mod Edges
 pub mod Ranges
 pub mod WordLists
 pub mod Outcomes
-pub mod Ascending
-pub mod SubjectOrder
-pub mod Nodes
-pub mod EdgeSubjects
-pub mod AllFindings
 pub mod MinimalCells

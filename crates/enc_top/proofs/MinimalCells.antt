@@ -24,9 +24,9 @@ use Rattle.cell_spec.specs.Names.{kind_rank, same_name}
 use Rattle.file_spec.specs.CellRecords.{empty_cell, with_record, with_record_of_kind, record_limit}
 use Rattle.file_spec.specs.FileRecords.{FileRecord, first_frame, file_records}
 use Rattle.file_spec.specs.MinimalFile.{has_tag, identification_of, head_of, is_minimal_identifier, may_follow, minimal_cell, minimal_cell_of, parameters_of, rows_of_tag, vector_of, vector_with, with_records}
-use Rattle.enc_top.specs.MinimalCell.{IsMinimalCell, is_vector_of}
-use Rattle.enc_top.proofs.AllFindings.{names_flip}
-use Rattle.enc_top.proofs.Nodes.{nodes_then_edges, records_are}
+use Rattle.edge_findings.specs.MinimalCell.{IsMinimalCell, is_vector_of}
+use Rattle.edge_findings.proofs.AllFindings.{names_flip}
+use Rattle.edge_findings.proofs.Nodes.{nodes_then_edges, records_are}
 
 -- ---- what an answer came from
 came_from : {A B : Type 0} (f : A → Option B) (o : Option A) (b : B) → option_and_then f o ≡ Some b → (a : A) × (o ≡ Some a) × (f a ≡ Some b)

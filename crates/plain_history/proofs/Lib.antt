@@ -1,1 +1,5 @@
 mod Firsts
+mod NameCounts
+mod MinimalEdits
+mod Bases
+mod StepStates

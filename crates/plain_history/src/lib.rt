@@ -4,15 +4,15 @@
 mod accepted;
 mod apply;
 mod count;
-mod finder;
+mod history;
 mod newer;
 mod trial;
 
 pub use accepted::Accepted;
 pub use apply::apply_edits;
-pub use finder::Finder;
+pub use history::History;
 pub use newer::newer_answer;
-pub use trial::{Trial, state_refusal, try_edits};
+pub use trial::{FINDING_LIMIT, Trial, try_edits};
 
 #[cfg(test)]
 mod tests;

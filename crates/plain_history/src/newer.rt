@@ -1,11 +1,12 @@
 //! The clash of a commit with a newer one.
 
-ghost use Rattle.std.specs.Prelude.{◌≡◌, ◌+◌, ◌<◌, ◌^◌, ◌++◌, ◌∷◌, [], IfOk, OnOk, filter, filter_map, length};
+ghost use Rattle.std.specs.Prelude.{◌≡◌, ◌+◌, ◌<◌, ◌^◌, ◌++◌, ◌∷◌, [], IfOk, IfSome, OnOk, filter, filter_map, length};
 ghost use Rattle.std.specs.List.{enumerate_from, list_any};
 ghost use Rattle.std.specs.Option.{option_copied};
 ghost use Rattle.cell_spec.specs.Edits.{name_of_edit};
 ghost use Rattle.cell_spec.specs.Names.{same_name};
 ghost use Rattle.history_spec.specs.Steps.{clash_with as spec_clash_with, edit_named as spec_edit_named, first_of, newer_answer as spec_newer_answer, shared_names as spec_shared_names};
+ghost use Rattle.plain_history.specs.Kept.{IsNewer};
 
 use crate::accepted::Accepted;
 use crate::count::narrow;
@@ -62,7 +63,8 @@ fn clash_with(
     number: u32,
     accepted: &Accepted,
 ) -> Result<Option<Reply>, AllocError>
-    ensures { IfOk result (λ reply. reply ≡ spec_clash_with edits.now (number, accepted.now)) }
+    ensures same { IfOk result (λ reply. reply ≡ spec_clash_with edits.now (number, accepted.now)) }
+    ensures newer { IfOk result (λ reply. IfSome reply IsNewer) }
 {
     let shared = shared_names(alloc, edits, accepted.edits())?;
     let names = ascending_names(alloc, &shared)?;
@@ -89,7 +91,8 @@ fn first_clash(
     newer: &[Accepted],
 ) -> Result<Option<Reply>, AllocError>
     requires { before + length newer.now < 2 ^ 32 }
-    ensures { IfOk result (λ reply. reply ≡ first_of (filter_map (spec_clash_with edits.now) (enumerate_from (before + 1) newer.now))) }
+    ensures same { IfOk result (λ reply. reply ≡ first_of (filter_map (spec_clash_with edits.now) (enumerate_from (before + 1) newer.now))) }
+    ensures newer { IfOk result (λ reply. IfSome reply IsNewer) }
 {
     for (k, accepted) in newer.iter().enumerate() {
         if let Some(reply) = clash_with(alloc, edits, before + k as u32 + 1, accepted)? {
@@ -110,7 +113,8 @@ pub fn newer_answer(
     base: u32,
     edits: &[Edit],
 ) -> Result<Option<Reply>, AllocError>
-    ensures { IfOk result (λ reply. reply ≡ spec_newer_answer commits.now base edits.now) }
+    ensures same { IfOk result (λ reply. reply ≡ spec_newer_answer commits.now base edits.now) }
+    ensures newer { IfOk result (λ reply. IfSome reply IsNewer) }
 {
     let number = narrow(commits.len())?;
     let before = base.min(number);

@@ -1,20 +1,17 @@
+ghost use Rattle.std.specs.Prelude.{◌≡◌, true};
+ghost use Rattle.std.specs.List.{list_all};
+ghost use Rattle.text_spec.specs.EditLine.{is_minimal_edit};
+ghost use Rattle.edge_findings.specs.MinimalCell.{IsMinimalCell};
+
 use super::*;
 use cell_spec::Edit;
+use edge_findings::find_all;
 use edit_sets::{EditSet, FormRefusal};
-use history_spec::{Reply, StateRefusal};
+use history_spec::Reply;
 use plain_lookups::name_of;
 use s57_types::{Attrs, Cell, Deep, Ends, Head, Kind, Plane, Rec, RecName, Recs, Text, Vector};
-use std::alloc::{AllocError, Global};
+use std::alloc::Global;
 use std::test::Fail;
-
-/// A finder that wants more memory than there is.
-struct Unable;
-
-impl Finder for Unable {
-    fn count(&self, _alloc: Global, _asked: &[u8], _cell: &Cell) -> Result<u32, AllocError> {
-        Err(AllocError)
-    }
-}
 
 fn name(id: u32) -> RecName {
     RecName { kind: Kind::Vc, id }
@@ -64,18 +61,16 @@ fn head(alloc: Global) -> Head {
     }
 }
 
-/// A cell of two connected nodes.
-fn cell(alloc: Global) -> Result<Cell, AllocError> {
-    let mut vc = Recs::make(alloc);
-    vc.push(node(alloc, 5))?;
-    vc.push(node(alloc, 2))?;
-    Ok(Cell {
+fn empty_cell(alloc: Global) -> Cell
+    ensures { IsMinimalCell result }
+{
+    Cell {
         head: head(alloc),
         vi: Recs::make(alloc),
-        vc,
+        vc: Recs::make(alloc),
         ve: Recs::make(alloc),
         fe: Recs::make(alloc),
-    })
+    }
 }
 
 fn set(alloc: Global, edits: &[Edit]) -> Result<EditSet, FormRefusal> {
@@ -85,30 +80,29 @@ fn set(alloc: Global, edits: &[Edit]) -> Result<EditSet, FormRefusal> {
     EditSet::make(alloc, edits, 0)
 }
 
+/// What a test tells of a reply: whether it is the answer to a view, a fault of form, a clash, a refusal or an
+/// acceptance, and its first number.
+fn told(reply: &Reply) -> (&'static str, u32) {
+    match reply {
+        Reply::Viewed { number, .. } => ("viewed", *number),
+        Reply::Formed(_) => ("formed", 0),
+        Reply::Newer { number, .. } => ("newer", *number),
+        Reply::Refused(_) => ("refused", 0),
+        Reply::Accepted { number, .. } => ("accepted", *number),
+    }
+}
+
 #[test]
 fn an_added_record_goes_last(rt: HostRuntime) -> Result<(), Fail> {
     let alloc = rt.alloc();
-    let cell = cell(alloc)?;
+    let mut cell = empty_cell(alloc);
+    cell.vc.push(node(alloc, 5))?;
+    cell.vc.push(node(alloc, 2))?;
     let edits = [Edit::Add(node(alloc, 1)), Edit::Del(name(5))];
     let edited = apply_edits(alloc, &cell, &edits)?;
     let nodes = edited.vc.as_slice();
     assert_eq!(rt; nodes.len(), 2);
     assert_eq!(rt; name_of(nodes.last().ok_or("no node")?), name(1));
-    Ok(())
-}
-
-#[test]
-fn the_first_edit_that_a_cell_does_not_take_is_told(rt: HostRuntime) -> Result<(), Fail> {
-    let alloc = rt.alloc();
-    let cell = cell(alloc)?;
-    let edits = [
-        Edit::Del(name(5)),
-        Edit::Del(name(4)),
-        Edit::Add(node(alloc, 2)),
-    ];
-    let refusal = state_refusal(alloc, &Unable, &[2, 3], &cell, &edits)?;
-    assert_eq!(rt; refusal, Some(StateRefusal::DelMissing(name(4))));
-    assert!(rt; state_refusal(alloc, &Unable, &[2, 3], &cell, &[]).is_err());
     Ok(())
 }
 
@@ -121,7 +115,7 @@ fn a_commit_clashes_with_the_first_newer_one(rt: HostRuntime) -> Result<(), Fail
     let second = set(alloc, &[Edit::Del(name(3))])?;
     commits.push(Accepted::make(8, second))?;
     let edits = [Edit::Del(name(3)), Edit::Del(name(1))];
-    let told = match newer_answer(alloc, &commits, 0, &edits)? {
+    let clash = match newer_answer(alloc, &commits, 0, &edits)? {
         Some(
             Reply::Newer {
                 number,
@@ -132,7 +126,33 @@ fn a_commit_clashes_with_the_first_newer_one(rt: HostRuntime) -> Result<(), Fail
         ) => Some((number, name, desk)),
         _ => None,
     };
-    assert_eq!(rt; told, Some((1, name(1), 7)));
+    assert_eq!(rt; clash, Some((1, name(1), 7)));
     assert!(rt; newer_answer(alloc, &commits, 2, &edits)?.is_none());
+    Ok(())
+}
+
+/// Edits that delete a connected node.
+fn deletion(id: u32) -> [Edit; 1]
+    ensures { list_all is_minimal_edit result ≡ true }
+{
+    [Edit::Del(RecName { kind: Kind::Vc, id })]
+}
+
+#[test]
+fn a_desk_is_answered(rt: HostRuntime) -> Result<(), Fail> {
+    let alloc = rt.alloc();
+    let cell = empty_cell(alloc);
+    let findings = find_all(alloc, &cell, FINDING_LIMIT)?;
+    let mut history = History::open(alloc, cell, findings);
+    assert_eq!(rt; told(&history.view(1)?), ("viewed", 0));
+    assert_eq!(rt;
+        told(&history.offer(alloc, 2, &deletion(5))?),
+        ("refused", 0)
+    );
+    assert_eq!(rt; told(&history.offer(alloc, 1, &[])?), ("formed", 0));
+    assert_eq!(rt;
+        history.cell().vc.len() + history.findings().len() + history.commits().len(),
+        0
+    );
     Ok(())
 }

@@ -1,14 +1,18 @@
-//! What a cell makes of edits: the edited cell, or why it doesn't take them.
+//! What a cell makes of edits: the edited cell and its findings, or why it doesn't take them.
 
-ghost use Rattle.std.specs.Prelude.{◌≡◌, IfOk, filter_map, is_some};
+ghost use Rattle.std.specs.Prelude.{◌≡◌, IfOk, filter_map, is_some, true};
+ghost use Rattle.std.specs.List.{list_all};
 ghost use Rattle.cell_spec.specs.Lookup.{lookup_record};
-ghost use Rattle.history_spec.specs.Steps.{edit_refusal as spec_edit_refusal, first_of, state_refusal as spec_state_refusal};
+ghost use Rattle.text_spec.specs.EditLine.{is_minimal_edit};
+ghost use Rattle.history_spec.specs.Steps.{edit_refusal as spec_edit_refusal, first_of};
+ghost use Rattle.edge_findings.specs.MinimalCell.{IsMinimalCell};
 ghost use Rattle.plain_history.specs.Trials.{IsSize, IsTrial};
 
 use crate::apply::apply_edits;
 use crate::count::record_count;
-use crate::finder::Finder;
 use cell_spec::Edit;
+use edge_findings::{FindingRefusal, Findings, find_all};
+use edit_sets::EditSet;
 use history_spec::StateRefusal;
 use plain_lookups::{name_of, record_named};
 use s57_types::{Cell, RecName};
@@ -18,12 +22,12 @@ use std::alloc::{AllocError, Global};
 const RECORD_LIMIT: u32 = 262_144;
 
 /// The most findings of a cell.
-const FINDING_LIMIT: u32 = 262_144;
+pub const FINDING_LIMIT: usize = 262_144;
 
-/// A cell after edits and how many findings it has, or why it isn't made.
+/// A cell after edits with its findings, or why it isn't made.
 #[derive(Debug, Drop)]
 pub enum Trial {
-    Edited(Cell, u32),
+    Edited(Cell, Findings),
     Refused(StateRefusal),
 }
 
@@ -62,60 +66,39 @@ fn first_edit_refusal(cell: &Cell, edits: &[Edit]) -> Option<StateRefusal>
     None
 }
 
-/// How many findings an edited cell has, or why it is too large.
-fn judge_size<F: Finder>(
-    alloc: Global,
-    finder: &F,
-    asked: &[u8],
-    edited: &Cell,
-) -> Result<Result<u32, StateRefusal>, AllocError>
-    ensures { IfOk result (IsSize asked.now edited.now) }
+/// The findings of an edited cell, or why it is too large.
+fn judge_size(alloc: Global, edited: &Cell) -> Result<Result<Findings, StateRefusal>, AllocError>
+    requires { IsMinimalCell edited.now }
+    ensures { IfOk result (IsSize edited.now) }
 {
     let records = record_count(edited)?;
     if records > RECORD_LIMIT {
         return Ok(Err(StateRefusal::CellFull(records)));
     }
-    let findings = finder.count(alloc, asked, edited)?;
-    if findings > FINDING_LIMIT {
-        return Ok(Err(StateRefusal::FindingsFull));
+    match find_all(alloc, edited, FINDING_LIMIT) {
+        Ok(findings) => Ok(Ok(findings)),
+        Err(FindingRefusal::TooMany) => Ok(Err(StateRefusal::FindingsFull)),
+        Err(FindingRefusal::NoMemory) => Err(AllocError),
     }
-    Ok(Ok(findings))
 }
 
-/// Tries edits on a cell.
-pub fn try_edits<F: Finder>(
-    alloc: Global,
-    finder: &F,
-    asked: &[u8],
-    cell: &Cell,
-    edits: &[Edit],
-) -> Result<Trial, AllocError>
-    ensures { IfOk result (IsTrial asked.now cell.now edits.now) }
+/// Tries a set of edits on a cell: the first edit that the cell doesn't take is told, or else the size of the edited
+/// cell.
+///
+/// An `Err` is want of memory.
+pub fn try_edits(alloc: Global, cell: &Cell, set: &EditSet) -> Result<Trial, AllocError>
+    requires cell { IsMinimalCell cell.now }
+    requires edits { list_all is_minimal_edit set.now.edits ≡ true }
+    ensures { IfOk result (IsTrial cell.now set.now.edits) }
 {
+    set.known();
+    let edits = set.edits();
     if let Some(refusal) = first_edit_refusal(cell, edits) {
         return Ok(Trial::Refused(refusal));
     }
     let edited = apply_edits(alloc, cell, edits)?;
-    match judge_size(alloc, finder, asked, &edited)? {
+    match judge_size(alloc, &edited)? {
         Ok(findings) => Ok(Trial::Edited(edited, findings)),
         Err(refusal) => Ok(Trial::Refused(refusal)),
-    }
-}
-
-/// Why a cell doesn't take edits: the first edit that it doesn't take, or else the size of the edited cell.
-///
-/// An `Err` is want of memory.
-pub fn state_refusal<F: Finder>(
-    alloc: Global,
-    finder: &F,
-    asked: &[u8],
-    cell: &Cell,
-    edits: &[Edit],
-) -> Result<Option<StateRefusal>, AllocError>
-    ensures { IfOk result (λ refusal. refusal ≡ spec_state_refusal asked.now cell.now edits.now) }
-{
-    match try_edits(alloc, finder, asked, cell, edits)? {
-        Trial::Edited(_, _) => Ok(None),
-        Trial::Refused(refusal) => Ok(Some(refusal)),
     }
 }

@@ -1,0 +1,5 @@
+pub mod Rows
+pub mod Ends
+pub mod EdgeFindings
+pub mod MinimalCell
+pub mod AllFindings

@@ -1,0 +1,33 @@
+use Rattle.std.proofs.Common.{◌≡◌, sym, ap, ◌∙◌, subst, None, Some, filter_map, List}
+use Rattle.std.specs.Option.{option_map_or}
+use Rattle.cell_spec.specs.Edits.{apply_edits}
+use Rattle.cell_spec.specs.declared.edit.Edit.{Edit}
+use Rattle.rule_spec.specs.Kinds.{built_kinds}
+use Rattle.history_spec.specs.Steps.{edit_refusal, finding_limit, first_of, size_refusal}
+use Rattle.edge_findings.specs.AllFindings.{IsAllOf}
+use Rattle.edge_findings.specs.MinimalCell.{IsMinimalCell}
+use Rattle.plain_history.specs.Trials.{IsSize}
+use Rattle.plain_history.proofs.MinimalEdits.{minimal_after}
+use Rattle.plain_history.proofs.trial.try_edits.Goals as goal
+
+pub judge_size-requires : goal.judge_size-requires
+judge_size-requires c =
+    let cell = c.args.cell.now in
+    let same = c.edits-edits.ensures in
+    let taken = ap (λ edits. first_of (filter_map (edit_refusal cell) edits)) (sym same) ∙ sym c.first_edit_refusal.ensures ∙ c.in_default.is in
+    subst IsMinimalCell (sym (c.in_ok-edited.ensures ∙ ap (λ edits. apply_edits edits cell) same))
+    (minimal_after cell c.args.set.now.edits c.requires.cell c.requires.edits c.known.ensures.parts.distinct taken)
+
+pub returns-in-Ok : goal.returns-in-Ok
+returns-in-Ok c =
+    let cell = c.args.cell.now in
+    let same = c.edits-edits.ensures in
+    let taken = ap (λ edits. first_of (filter_map (edit_refusal cell) edits)) (sym same) ∙ sym c.first_edit_refusal.ensures ∙ c.in_default.is in
+    let edited = c.in_ok-edited.ensures ∙ ap (λ edits. apply_edits edits cell) same in
+    let sized = subst (λ found. IsSize c.in_ok-edited.edited found) c.in-Ok.is c.in_ok-findings.ensures in
+    record {
+      none = ap (λ first. option_map_or Some first (size_refusal built_kinds (apply_edits c.args.set.now.edits cell))) taken ∙ ap (size_refusal built_kinds) (sym edited) ∙ sized.none;
+      cell_is = edited;
+      minimal = subst IsMinimalCell (sym edited) (minimal_after cell c.args.set.now.edits c.requires.cell c.requires.edits c.known.ensures.parts.distinct taken);
+      findings_are = sized.findings_are;
+    }

@@ -1,0 +1,52 @@
+-- A history as it is kept. This project's own.
+use Rattle.std.specs.Prelude.{◌≡◌, ℕ, List, slice_index_or, length}
+use Rattle.s57_types.specs.declared.cell.Cell.{Cell}
+use Rattle.history_spec.specs.declared.reply.Reply.{Reply}
+use Rattle.history_spec.specs.declared.reply.Reply.TheVariants.{Viewed, Formed, Newer, Refused, Accepted}
+use Rattle.history_spec.specs.Sessions.{Request, request_step}
+use Rattle.history_spec.specs.Steps.{AcceptedCommit, Event, History, answer, finding_limit, left_after}
+use Rattle.rule_spec.specs.Kinds.{built_kinds}
+use Rattle.edge_findings.specs.AllFindings.{IsAllOf}
+use Rattle.edge_findings.specs.MinimalCell.{IsMinimalCell}
+use Rattle.edge_findings.specs.declared.list.SubjectFinding.{SubjectFinding}
+
+-- the greatest number of a desk
+abbrev pub desk_limit : ℕ
+desk_limit = 16
+
+-- the base of a desk, by its number
+abbrev pub base_of : List ℕ → ℕ → ℕ
+base_of bases desk = slice_index_or bases desk 0
+
+-- a history, with the bases of the desks as a list
+pub record KeptHistory : Type 0 where
+  pub cell : Cell
+  pub commits : List AcceptedCommit
+  pub bases : List ℕ
+
+abbrev pub state_of : KeptHistory → History
+state_of kept = record { cell = kept.cell; commits = kept.commits; bases = base_of kept.bases }
+
+-- the cell is minimal, these are its findings, and each desk has a base
+pub record IsKept (c : Cell) (findings : List SubjectFinding) (bases : List ℕ) : Type 0 where
+  pub minimal : IsMinimalCell c
+  pub findings_are : IsAllOf c finding_limit findings
+  pub bases_are : length bases ≡ 17
+
+-- the answer tells of a newer commit
+abbrev pub IsNewer : Reply → Type 0
+IsNewer (Viewed number findings) = ⊥
+IsNewer (Formed fault) = ⊥
+IsNewer (Newer number name desk edit) = Unit {0}
+IsNewer (Refused refusal) = ⊥
+IsNewer (Accepted number findings) = ⊥
+
+-- an event of a desk has this answer and leaves this state
+pub record IsStep (before : History) (desk : ℕ) (event : Event) (reply : Reply) (after : History) : Type 0 where
+  pub reply_is : reply ≡ answer built_kinds before event
+  pub state_is : after ≡ left_after desk event reply before
+
+-- a request of a desk has this answer and leaves this state
+pub record IsAnswered (before : History) (desk : ℕ) (request : Request) (reply : Reply) (after : History) : Type 0 where
+  pub reply_is : reply ≡ (request_step built_kinds before (desk, request)).0
+  pub state_is : after ≡ (request_step built_kinds before (desk, request)).1
