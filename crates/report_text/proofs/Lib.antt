@@ -1,0 +1,2 @@
+mod EditLines
+mod Transcripts

@@ -1,0 +1,146 @@
+use super::*;
+use cell_spec::Edit;
+use edit_sets::{EditSet, FormFault, FormRefusal};
+use history_spec::{Reply, StateRefusal};
+use s57_types::{Attrs, Deep, End, Ends, Kind, Plane, Rec, RecName, Unfit, Vector};
+use std::alloc::{AllocError, Global};
+use std::test::Fail;
+use text_spec::Command;
+
+fn name(kind: Kind, id: u32) -> RecName {
+    RecName { kind, id }
+}
+
+fn end(id: u32, topi: u8) -> End {
+    End {
+        to: name(Kind::Vc, id),
+        ornt: 255,
+        usag: 255,
+        topi,
+        mask: 255,
+    }
+}
+
+/// The second version of an edge from connected node 1 to connected node 2.
+fn edge(alloc: Global) -> Result<Rec, AllocError> {
+    let mut ends = Ends::make(alloc);
+    ends.push(end(1, 1))?;
+    ends.push(end(2, 2))?;
+    let mut plane = Plane::make(alloc);
+    plane.push((50, 50))?;
+    Ok(Rec::V(Vector {
+        name: name(Kind::Ve, 2),
+        rver: 2,
+        attrs: Attrs::make(alloc),
+        ends,
+        plane,
+        deep: Deep::make(alloc),
+    }))
+}
+
+#[test]
+fn answers_have_their_lines(rt: HostRuntime) -> Result<(), Fail> {
+    let node = name(Kind::Vc, 1);
+    for (reply, line) in [
+        (
+            Reply::Newer {
+                number: 1,
+                name: node,
+                desk: 1,
+                edit: Edit::Del(node),
+            },
+            "commit refused newer 1 vc 1 desk 1\n",
+        ),
+        (
+            Reply::Formed(FormFault::TooMany(5000)),
+            "commit refused too many 5000\n",
+        ),
+        (
+            Reply::Formed(FormFault::Twice(2)),
+            "commit refused twice 2\n",
+        ),
+        (
+            Reply::Formed(FormFault::Unfit(1, Unfit::BadName)),
+            "commit refused unfit 1 bad name\n",
+        ),
+        (
+            Reply::Refused(StateRefusal::AddExists(node)),
+            "commit refused exists vc 1\n",
+        ),
+        (
+            Reply::Refused(StateRefusal::SetMissing(name(Kind::Ve, 7))),
+            "commit refused set missing ve 7\n",
+        ),
+        (
+            Reply::Refused(StateRefusal::CellFull(262_145)),
+            "commit refused cell full 262145\n",
+        ),
+        (
+            Reply::Refused(StateRefusal::FindingsFull),
+            "commit refused findings full\n",
+        ),
+    ] {
+        let mut out = Vec::new(rt.alloc());
+        push_reply(&mut out, &reply)?;
+        assert_eq!(rt; out.as_slice(), line.as_bytes(), "{line}");
+    }
+    Ok(())
+}
+
+#[test]
+fn a_session_has_the_lines_of_its_commands(rt: HostRuntime) -> Result<(), Fail> {
+    let alloc = rt.alloc();
+    let mut out = Vec::new(alloc);
+    push_order(&mut out, &[1, 2, 2, 1])?;
+    let commands = [
+        Command::View,
+        Command::Push(Edit::Set(edge(alloc)?)),
+        Command::Commit,
+    ];
+    let viewed = Reply::Viewed {
+        number: 0,
+        findings: 2,
+    };
+    let accepted = Reply::Accepted {
+        number: 1,
+        findings: 0,
+    };
+    push_session(&mut out, 1, &commands, &[&viewed, &accepted])?;
+    let text =
+        "order 1 2 2 1\nsession 1\nview seen 0 findings 2\ndraft 1\ncommit accepted 1 findings 0\n";
+    assert_eq!(rt; out.as_slice(), text.as_bytes());
+    Ok(())
+}
+
+#[test]
+fn a_session_ends_with_its_last_answer(rt: HostRuntime) -> Result<(), Fail> {
+    let mut out = Vec::new(rt.alloc());
+    let commands = [
+        Command::Commit,
+        Command::Push(Edit::Del(name(Kind::Vc, 9))),
+        Command::Commit,
+        Command::View,
+        Command::Drop,
+    ];
+    let empty = Reply::Formed(FormFault::Empty);
+    let missing = Reply::Refused(StateRefusal::DelMissing(name(Kind::Vc, 9)));
+    push_session(&mut out, 2, &commands, &[&empty, &missing])?;
+    let text = "session 2\ncommit refused empty\ndraft 1\ncommit refused del missing vc 9\n";
+    assert_eq!(rt; out.as_slice(), text.as_bytes());
+    push_draft(&mut out, 0)?;
+    assert!(rt; out.as_slice().ends_with(b"\ndraft 0\n"));
+    Ok(())
+}
+
+#[test]
+fn a_commit_has_its_edits(rt: HostRuntime) -> Result<(), Fail> {
+    let alloc = rt.alloc();
+    let set = EditSet::make(alloc, &[Edit::Set(edge(alloc)?)], 0)?;
+    known_lines(&set);
+    let mut out = Vec::new(alloc);
+    push_commit(alloc, &mut out, 1, 1, 0, set.edits())?;
+    let text =
+        "commit 1 desk 1 findings 0\nset ve 2 2 e=vc:1:255:255:1:255 e=vc:2:255:255:2:255 p=50,50\n";
+    assert_eq!(rt; out.as_slice(), text.as_bytes());
+    Ok(())
+}
