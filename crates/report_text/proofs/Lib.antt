@@ -1,2 +1,4 @@
 mod EditLines
+mod Lines
+mod Steps
 mod Transcripts
