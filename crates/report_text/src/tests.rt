@@ -38,109 +38,77 @@ fn edge(alloc: Global) -> Result<Rec, AllocError> {
     }))
 }
 
+fn reply_line(alloc: Global, reply: &Reply) -> Result<Vec<u8>, AllocError> {
+    let mut out = Vec::new(alloc);
+    push_reply(&mut out, reply)?;
+    Ok(out)
+}
+
 #[test]
-fn answers_have_their_lines(rt: HostRuntime) -> Result<(), Fail> {
-    let node = name(Kind::Vc, 1);
-    for (reply, line) in [
+fn a_clash_is_told(rt: HostRuntime) -> Result<(), Fail> {
+    let newer = Reply::Newer {
+        number: 1,
+        name: name(Kind::Vc, 1),
+        desk: 1,
+        edit: Edit::Del(name(Kind::Vc, 1)),
+    };
+    let line = reply_line(rt.alloc(), &newer)?;
+    assert_eq!(rt;
+        line.as_slice(),
+        b"commit refused newer 1 vc 1 desk 1\n".as_slice()
+    );
+    Ok(())
+}
+
+#[test]
+fn faults_of_drafts_are_told(rt: HostRuntime) -> Result<(), Fail> {
+    for (fault, text) in [
+        (FormFault::Empty, "commit refused empty\n"),
+        (FormFault::TooMany(5000), "commit refused too many 5000\n"),
+        (FormFault::Twice(2), "commit refused twice 2\n"),
         (
-            Reply::Newer {
-                number: 1,
-                name: node,
-                desk: 1,
-                edit: Edit::Del(node),
-            },
-            "commit refused newer 1 vc 1 desk 1\n",
-        ),
-        (
-            Reply::Formed(FormFault::TooMany(5000)),
-            "commit refused too many 5000\n",
-        ),
-        (
-            Reply::Formed(FormFault::Twice(2)),
-            "commit refused twice 2\n",
-        ),
-        (
-            Reply::Formed(FormFault::Unfit(1, Unfit::BadName)),
+            FormFault::Unfit(1, Unfit::BadName),
             "commit refused unfit 1 bad name\n",
         ),
-        (
-            Reply::Refused(StateRefusal::AddExists(node)),
-            "commit refused exists vc 1\n",
-        ),
-        (
-            Reply::Refused(StateRefusal::SetMissing(name(Kind::Ve, 7))),
-            "commit refused set missing ve 7\n",
-        ),
-        (
-            Reply::Refused(StateRefusal::CellFull(262_145)),
-            "commit refused cell full 262145\n",
-        ),
-        (
-            Reply::Refused(StateRefusal::FindingsFull),
-            "commit refused findings full\n",
-        ),
     ] {
-        let mut out = Vec::new(rt.alloc());
-        push_reply(&mut out, &reply)?;
-        assert_eq!(rt; out.as_slice(), line.as_bytes(), "{line}");
+        let line = reply_line(rt.alloc(), &Reply::Formed(fault))?;
+        assert_eq!(rt; line.as_slice(), text.as_bytes());
     }
     Ok(())
 }
 
 #[test]
-fn a_session_has_the_lines_of_its_commands(rt: HostRuntime) -> Result<(), Fail> {
-    let alloc = rt.alloc();
-    let mut out = Vec::new(alloc);
-    push_order(&mut out, &[1, 2, 2, 1])?;
-    let commands = [
-        Command::View,
-        Command::Push(Edit::Set(edge(alloc)?)),
-        Command::Commit,
-    ];
-    let viewed = Reply::Viewed {
-        number: 0,
-        findings: 2,
-    };
-    let accepted = Reply::Accepted {
-        number: 1,
-        findings: 0,
-    };
-    push_session(&mut out, 1, &commands, &[&viewed, &accepted])?;
-    let text =
-        "order 1 2 2 1\nsession 1\nview seen 0 findings 2\ndraft 1\ncommit accepted 1 findings 0\n";
-    assert_eq!(rt; out.as_slice(), text.as_bytes());
+fn refusals_are_told(rt: HostRuntime) -> Result<(), Fail> {
+    for (refusal, text) in [
+        (
+            StateRefusal::AddExists(name(Kind::Vc, 1)),
+            "commit refused exists vc 1\n",
+        ),
+        (
+            StateRefusal::SetMissing(name(Kind::Ve, 7)),
+            "commit refused set missing ve 7\n",
+        ),
+        (
+            StateRefusal::DelMissing(name(Kind::Vc, 9)),
+            "commit refused del missing vc 9\n",
+        ),
+        (
+            StateRefusal::CellFull(262_145),
+            "commit refused cell full 262145\n",
+        ),
+        (StateRefusal::FindingsFull, "commit refused findings full\n"),
+    ] {
+        let line = reply_line(rt.alloc(), &Reply::Refused(refusal))?;
+        assert_eq!(rt; line.as_slice(), text.as_bytes());
+    }
     Ok(())
 }
 
 #[test]
-fn a_session_ends_with_its_last_answer(rt: HostRuntime) -> Result<(), Fail> {
+fn an_order_and_a_draft_have_their_lines(rt: HostRuntime) -> Result<(), Fail> {
     let mut out = Vec::new(rt.alloc());
-    let commands = [
-        Command::Commit,
-        Command::Push(Edit::Del(name(Kind::Vc, 9))),
-        Command::Commit,
-        Command::View,
-        Command::Drop,
-    ];
-    let empty = Reply::Formed(FormFault::Empty);
-    let missing = Reply::Refused(StateRefusal::DelMissing(name(Kind::Vc, 9)));
-    push_session(&mut out, 2, &commands, &[&empty, &missing])?;
-    let text = "session 2\ncommit refused empty\ndraft 1\ncommit refused del missing vc 9\n";
-    assert_eq!(rt; out.as_slice(), text.as_bytes());
-    push_draft(&mut out, 0)?;
-    assert!(rt; out.as_slice().ends_with(b"\ndraft 0\n"));
-    Ok(())
-}
-
-#[test]
-fn a_commit_has_its_edits(rt: HostRuntime) -> Result<(), Fail> {
-    let alloc = rt.alloc();
-    let set = EditSet::make(alloc, &[Edit::Set(edge(alloc)?)], 0)?;
-    known_lines(&set);
-    let mut out = Vec::new(alloc);
-    push_commit(alloc, &mut out, 1, 1, 0, set.edits())?;
-    let text =
-        "commit 1 desk 1 findings 0\nset ve 2 2 e=vc:1:255:255:1:255 e=vc:2:255:255:2:255 p=50,50\n";
-    assert_eq!(rt; out.as_slice(), text.as_bytes());
+    push_order(&mut out, &[1, 2, 2, 1])?;
+    push_draft(&mut out, 1)?;
+    assert_eq!(rt; out.as_slice(), b"order 1 2 2 1\ndraft 1\n".as_slice());
     Ok(())
 }
