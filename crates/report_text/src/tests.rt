@@ -21,23 +21,6 @@ fn end(id: u32, topi: u8) -> End {
     }
 }
 
-/// The second version of an edge from connected node 1 to connected node 2.
-fn edge(alloc: Global) -> Result<Rec, AllocError> {
-    let mut ends = Ends::make(alloc);
-    ends.push(end(1, 1))?;
-    ends.push(end(2, 2))?;
-    let mut plane = Plane::make(alloc);
-    plane.push((50, 50))?;
-    Ok(Rec::V(Vector {
-        name: name(Kind::Ve, 2),
-        rver: 2,
-        attrs: Attrs::make(alloc),
-        ends,
-        plane,
-        deep: Deep::make(alloc),
-    }))
-}
-
 fn reply_line(alloc: Global, reply: &Reply) -> Result<Vec<u8>, AllocError> {
     let mut out = Vec::new(alloc);
     push_reply(&mut out, reply)?;
@@ -110,5 +93,56 @@ fn an_order_and_a_draft_have_their_lines(rt: HostRuntime) -> Result<(), Fail> {
     push_order(&mut out, &[1, 2, 2, 1])?;
     push_draft(&mut out, 1)?;
     assert_eq!(rt; out.as_slice(), b"order 1 2 2 1\ndraft 1\n".as_slice());
+    Ok(())
+}
+
+#[test]
+fn a_session_has_the_lines_of_its_commands(rt: HostRuntime) -> Result<(), Fail> {
+    let mut out = Vec::new(rt.alloc());
+    let empty = Reply::Formed(FormFault::Empty);
+    let missing = Reply::Refused(StateRefusal::DelMissing(name(Kind::Vc, 9)));
+    let commands = [
+        Command::Commit,
+        Command::Push(Edit::Del(name(Kind::Vc, 9))),
+        Command::Commit,
+        Command::View,
+    ];
+    push_session(&mut out, 2, &commands, &[&empty, &missing])?;
+    let text = "session 2\ncommit refused empty\ndraft 1\ncommit refused del missing vc 9\n";
+    assert_eq!(rt; out.as_slice(), text.as_bytes());
+    Ok(())
+}
+
+/// The second version of an edge from connected node 1 to connected node 2.
+fn edge(alloc: Global) -> Result<Rec, AllocError> {
+    let mut ends = Ends::make(alloc);
+    ends.push(end(1, 1))?;
+    ends.push(end(2, 2))?;
+    let mut plane = Plane::make(alloc);
+    plane.push((50, 50))?;
+    Ok(Rec::V(Vector {
+        name: name(Kind::Ve, 2),
+        rver: 2,
+        attrs: Attrs::make(alloc),
+        ends,
+        plane,
+        deep: Deep::make(alloc),
+    }))
+}
+
+fn edits(alloc: Global) -> Result<EditSet, FormRefusal> {
+    EditSet::make(alloc, &[Edit::Set(edge(alloc)?)], 0)
+}
+
+#[test]
+fn a_commit_has_its_edits(rt: HostRuntime) -> Result<(), Fail> {
+    let alloc = rt.alloc();
+    let set = edits(alloc)?;
+    known_lines(&set);
+    let mut out = Vec::new(alloc);
+    push_commit(alloc, &mut out, 1, 1, 0, set.edits())?;
+    let text =
+        "commit 1 desk 1 findings 0\nset ve 2 2 e=vc:1:255:255:1:255 e=vc:2:255:255:2:255 p=50,50\n";
+    assert_eq!(rt; out.as_slice(), text.as_bytes());
     Ok(())
 }
