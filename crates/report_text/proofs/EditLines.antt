@@ -1,5 +1,5 @@
 -- An edit whose record can be written has a line.
-use Rattle.std.proofs.Common.{◌≡◌, ℕ, Bool, true, false, ◌&&◌, not, List, Option, Some, None, refl, All, if◌then◌else◌, nat_lt}
+use Rattle.std.proofs.Common.{◌≡◌, ℕ, Bool, true, ◌&&◌, not, List, Option, Some, None, refl, All, if◌then◌else◌, nat_lt}
 use Rattle.std.specs.List.{list_all}
 use Rattle.s57_types.specs.Fitness.{unfitness, is_feature_kind, has_good_texts}
 use Rattle.s57_types.specs.RecordFields.{length_limit, written_length}

@@ -1,8 +1,5 @@
-use Rattle.std.proofs.Common.{◌∙◌, ap, map, ◌++◌, codes, ◌∷◌, []}
-use Rattle.std.specs.Fmt.{decimal}
-use Rattle.std.proofs.lemmas.List.{append_assoc}
+use Rattle.std.proofs.Common.{map}
 use Rattle.std.proofs.lemmas.Result.{on_ok_weaker}
-use Rattle.text_spec.specs.Lines.{line}
 use Rattle.report_text.proofs.Transcripts.{session_lines}
 use Rattle.report_text.proofs.session.push_session.Goals as goal
 
