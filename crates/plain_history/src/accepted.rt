@@ -43,4 +43,11 @@ impl Accepted {
     {
         self.set.edits()
     }
+
+    /// The set of edits.
+    pub fn set(&self) -> &EditSet
+        ensures { result.now.edits ≡ self.now.edits }
+    {
+        &self.set
+    }
 }

@@ -1,0 +1,40 @@
+-- One more request of a run.
+use Rattle.std.proofs.Common.{◌≡◌, ℕ, List, [], ◌∷◌, ◌++◌, refl, sym, ap, ◌∙◌, subst, append_assoc}
+use Rattle.std.proofs.lemmas.List.Sums.{fold-append}
+use Rattle.s57_types.specs.declared.cell.Cell.{Cell}
+use Rattle.rule_spec.specs.Kinds.{built_kinds}
+use Rattle.history_spec.specs.Sessions.{Request as Asked, history_after, replies_from, request_step}
+use Rattle.history_spec.specs.Steps.{History, opening}
+use Rattle.history_spec.specs.declared.reply.Reply.{Reply}
+use Rattle.plain_history.specs.Kept.{IsAnswered, KeptHistory, state_of}
+use Rattle.plain_replay.specs.Runs.{IsRun, accepted_text, commit_texts}
+use Rattle.plain_replay.specs.declared.run.Run.{Run}
+use Rattle.plain_replay.proofs.CommitTexts.{IsGrown, IsOn, grown}
+
+pub replies_more : (h : History) (asked : List (ℕ × Asked)) (told : ℕ × Asked)
+    → replies_from built_kinds h (asked ++ (told ∷ [])) ≡ replies_from built_kinds h asked ++ ((told.0, (request_step built_kinds (history_after built_kinds h asked) told).0) ∷ [])
+replies_more h [] told = refl
+replies_more h (first ∷ asked) told = ap (λ rest. (first.0, (request_step built_kinds h first).0) ∷ rest) (replies_more (request_step built_kinds h first).1 asked told)
+
+pub state_more : (h : History) (asked : List (ℕ × Asked)) (told : ℕ × Asked) → history_after built_kinds h (asked ++ (told ∷ [])) ≡ (request_step built_kinds (history_after built_kinds h asked) told).1
+state_more h asked told = fold-append (λ state request. (request_step built_kinds state request).1) h asked (told ∷ [])
+
+on_from : (c : Cell) (h : History) → IsOn c h → (asked : List (ℕ × Asked)) → IsOn c (history_after built_kinds h asked)
+on_from c h on [] = on
+on_from c h on (told ∷ asked) = on_from c (request_step built_kinds h told).1 (grown c h on told).on asked
+
+pub run_more : (c : Cell) (asked : List (ℕ × Asked)) (before after : Run) (desk : ℕ) (request : Asked) (reply : Reply) → IsRun c asked before → IsAnswered (state_of before.history) desk request reply (state_of after.history)
+    → after.commits.items ≡ before.commits.items ++ accepted_text after.history.commits reply → after.replies.items ≡ before.replies.items ++ ((desk, reply) ∷ []) → IsRun c (asked ++ ((desk, request) ∷ [])) after
+run_more c asked before after desk request reply run answered texts replies =
+    let told : ℕ × Asked = (desk, request) in
+    let h = history_after built_kinds (opening c) asked in
+    let state : state_of after.history ≡ (request_step built_kinds h told).1 = answered.state_is ∙ ap (λ (s : History). (request_step built_kinds s told).1) run.state_is in
+    let answer : reply ≡ (request_step built_kinds h told).0 = answered.reply_is ∙ ap (λ (s : History). (request_step built_kinds s told).0) run.state_is in
+    record {
+      state_is = state ∙ sym (state_more (opening c) asked told);
+      replies_are = replies ∙ (λ i. run.replies_are i ++ ((desk, answer i) ∷ [])) ∙ sym (replies_more (opening c) asked told);
+      commits_are =
+          texts ∙ (λ i. run.commits_are i ++ accepted_text (state i).commits (answer i))
+          ∙ sym (grown c h (on_from c (opening c) refl asked) told).texts
+          ∙ ap (λ (s : History). commit_texts c s.commits) (sym (state_more (opening c) asked told));
+    }

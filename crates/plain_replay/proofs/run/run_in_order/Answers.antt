@@ -1,0 +1,31 @@
+use Rattle.std.proofs.Common.{◌≡◌, ◌+◌, ◌-◌, ◌<◌, ◌≤◌, ◌++◌, ap, length, option_to_list, filter_map, get_or, take, take_all, subst, sym, ◌∙◌, refl, arith}
+use Rattle.std.specs.Prelude.{slice_index}
+use Rattle.std.specs.List.{enumerate_from}
+use Rattle.std.proofs.lemmas.List.FromFn.{length-enumerate_from}
+use Rattle.plain_replay.specs.Runs.{IsRun, asked_after, asked_at, asked_lists}
+use Rattle.plain_replay.proofs.Places.{asked_more, counts_more, read_there}
+use Rattle.plain_replay.proofs.run.run_in_order.Goals as goal
+
+pub loop-session-preserved : goal.loop-session-preserved
+loop-session-preserved c =
+    let order = c.args.order.now in
+    let lists = asked_lists c.args.requests.now in
+    let k = c.loop-session.session-index in
+    let session = get_or order k 0 in
+    let within : k < length order = c.loop-session-test.true in
+    let before = c.loop-session.invariant in
+    let in_range = c.requires.sessions k 0 within in
+    let below : session ≤ length c.loop-session.used.items = (let range = in_range.1 in let many = before.0 in omega (arith, range, many)) in
+    let asked =
+        asked_more lists order c.loop-session.used.items k session 0 within refl in_range.0 below before.1
+        ∙ ap (λ n. filter_map (asked_at lists order) (take k (enumerate_from 0 order)) ++ option_to_list (asked_after lists session n)) (read_there c.loop-session.used.items (session - 1) c.index-before.result.now (let above = in_range.0 in omega (arith, above, below)) c.index-before.ensures) in (
+      c.count_up.ensures.length ∙ before.0,
+      counts_more order c.count_up.new.used.items k session 0 within refl (c.count_up.ensures.counts (take k order) before.1),
+      (λ cell opened. subst (λ told. IsRun cell told c.answer_next.new.run) (sym asked) (c.in_ok-answer_next.ensures cell _ (before.2 cell opened))),
+    )
+
+pub returns : goal.returns
+returns c = λ cell opened.
+    subst (λ told. IsRun cell (filter_map (asked_at (asked_lists c.args.requests.now) c.args.order.now) told) c.loop-session.run)
+    (take_all c.loop-session.session-index (enumerate_from 0 c.args.order.now) (let all = c.loop-session-test.false in omega (arith, all, length-enumerate_from 0 c.args.order.now)))
+    (c.loop-session.invariant.2 cell opened)

@@ -1,0 +1,74 @@
+//! What the commands of a script ask of the history.
+
+ghost use Rattle.std.specs.Prelude.{◌≡◌, ◌+◌, ◌^◌, ◌<◌, ◌≤◌, ◌++◌, All, IfOk, OnOk, length, map, true};
+ghost use Rattle.std.specs.List.{list_all};
+ghost use Rattle.text_spec.specs.EditLine.{is_minimal_edit};
+ghost use Rattle.text_spec.specs.ScriptLines.{is_minimal_command};
+ghost use Rattle.history_spec.specs.Sessions.{requests_of as requests_of_lem};
+ghost use Rattle.plain_replay.specs.Requests.{IsFewer, asked_by, draft_after, request_of};
+
+use cell_spec::Edit;
+use s57_types::{Duplicate, Items};
+use std::alloc::{AllocError, Global};
+use std::mem;
+use text_spec::Command;
+
+/// What a view or a commit of a session asks of the history.
+#[derive(Debug, Drop)]
+pub enum Request {
+    /// To see the newest state.
+    See,
+    /// To commit these edits.
+    Offer(Items<Edit>),
+}
+
+/// The requests of some commands, and the edits since the last commit.
+#[derive(Debug, Drop)]
+struct Gathered {
+    requests: Vec<Request>,
+    draft: Items<Edit>,
+}
+
+/// Takes in a command.
+fn gather(alloc: Global, gathered: &mut Gathered, command: &Command) -> Result<(), AllocError>
+    requires few { length gathered.old.draft + 1 < 2 ^ 32 }
+    requires command { is_minimal_command command.now ≡ true }
+    requires draft { list_all is_minimal_edit gathered.old.draft ≡ true }
+    requires fewer { All IsFewer gathered.old.requests.items }
+    ensures asked { OnOk result (map request_of gathered.new.requests.items ≡ map request_of gathered.old.requests.items ++ asked_by command.now gathered.old.draft) }
+    ensures left { OnOk result (gathered.new.draft ≡ draft_after command.now gathered.old.draft) }
+    ensures short { OnOk result (length gathered.new.draft ≤ length gathered.old.draft + 1) }
+    ensures draft { OnOk result (list_all is_minimal_edit gathered.new.draft ≡ true) }
+    ensures fewer { OnOk result (All IsFewer gathered.new.requests.items) }
+{
+    match command {
+        Command::View => gathered.requests.push(Request::See)?,
+        Command::Commit => {
+            let draft = mem::replace(&mut gathered.draft, Items::make(alloc));
+            gathered.requests.push(Request::Offer(draft))?;
+        }
+        Command::Drop => gathered.draft = Items::make(alloc),
+        Command::List(_) => {}
+        Command::Push(edit) => gathered.draft.push(edit.copy(alloc)?)?,
+    }
+    Ok(())
+}
+
+/// The requests of a minimal script's commands.
+///
+/// An `Err` is want of memory.
+pub fn requests_of(alloc: Global, commands: &[Command]) -> Result<Vec<Request>, AllocError>
+    requires few { length commands.now < 2 ^ 32 }
+    requires minimal { list_all is_minimal_command commands.now ≡ true }
+    ensures asked { IfOk result (λ requests. map request_of requests.items ≡ requests_of_lem commands.now) }
+    ensures minimal { IfOk result (λ requests. All IsFewer requests.items) }
+{
+    let mut gathered = Gathered {
+        requests: Vec::new(alloc),
+        draft: Items::make(alloc),
+    };
+    for command in commands {
+        gather(alloc, &mut gathered, command)?;
+    }
+    Ok(gathered.requests)
+}
