@@ -1,5 +1,8 @@
 pub mod Puts
 pub mod Ranges
 pub mod WordLists
-pub mod Outcomes
 pub mod MinimalCells
+pub mod Answered
+pub mod Sessions
+pub mod Causes
+pub mod FormWords

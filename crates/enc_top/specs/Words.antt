@@ -1,5 +1,5 @@
 -- The forms of words of a call.
-use Rattle.std.specs.Prelude.{◌≡◌, ℕ, ◌+◌, ◌&&◌, ◌||◌, Bool, true, false, nat_le, List, [], ◌∷◌, length, codes, nat_eq}
+use Rattle.std.specs.Prelude.{◌≡◌, ℕ, ◌+◌, ◌&&◌, ◌||◌, Bool, true, false, nat_le, List, [], ◌∷◌, length, codes, nat_eq, if◌then◌else◌}
 use Rattle.std.specs.List.{list_any, range_with_len}
 use Rattle.std.specs.Cmp.Lexicographic.{pointwise}
 use Rattle.std.specs.Fmt.{decimal}
@@ -27,10 +27,33 @@ abbrev pub is_drill : List (List ℕ) → Bool
 is_drill (n ∷ k ∷ []) = is_number_up_to 100 n && is_number_up_to 16 k
 is_drill other = false
 
--- the forms that aren't built yet: replay CELL OUT ORDER S1 .. Sk, room CELL OUT S1 .. Sk with k from 1 to 16, make N OUT,
--- drill N K
+-- the forms that aren't built yet: room CELL OUT S1 .. Sk with k from 1 to 16, make N OUT, drill N K
 abbrev pub is_later_form : List (List ℕ) → Bool
 is_later_form [] = false
 is_later_form (first ∷ others) =
-    (is_word (codes "replay") first && is_between 4 19 (length others)) || (is_word (codes "room") first && is_between 3 18 (length others))
-    || (is_word (codes "make") first && is_make others) || (is_word (codes "drill") first && is_drill others)
+    if is_word (codes "room") first then is_between 3 18 (length others) else
+    (if is_word (codes "make") first then is_make others else (is_word (codes "drill") first && is_drill others))
+
+-- what the words of a call ask for, with the names of files
+pub data Form : Type 0 where
+  check_form : List ℕ → Form
+  replay_form : (cell out order : List ℕ) → List (List ℕ) → Form
+  later_form : Form
+  no_form : Form
+
+-- the words behind `check`: CELL
+abbrev pub check_among : List (List ℕ) → Form
+check_among (cell ∷ []) = check_form cell
+check_among other = no_form
+
+-- the words behind `replay`: CELL OUT ORDER S1 .. Sk with k from 1 to 16
+abbrev pub replay_among : List (List ℕ) → Form
+replay_among (cell ∷ out ∷ order ∷ scripts) = if is_between 1 16 (length scripts) then replay_form cell out order scripts else no_form
+replay_among other = no_form
+
+unfoldable pub form_of : List (List ℕ) → Form
+form_of [] = no_form
+form_of (first ∷ others) =
+    if is_word (codes "check") first then check_among others else
+    (if is_word (codes "replay") first then replay_among others else
+    (if is_later_form (first ∷ others) then later_form else no_form))

@@ -62,6 +62,16 @@ impl Status {
     }
 }
 
+impl From<AllocError> for Status {
+    ghost use Rattle.enc_top.specs.declared.status.Status.TheVariants.{NoMemory};
+
+    ghost from_gives = { λ _ status. status ≡ NoMemory };
+
+    fn from(_error: AllocError) -> Status {
+        Status::NoMemory
+    }
+}
+
 /// Appends the line of a status, with its line feed, or nothing where all is done.
 pub fn print_status(_alloc: Global, status: &Status, out: &mut Vec<u8>) -> Result<(), AllocError>
     ensures { OnOk result (out.new.items ≡ out.old.items ++ status_line status.now) }

@@ -1,32 +1,31 @@
 //! The program as one call.
 
-ghost use Rattle.std.specs.Prelude.{◌≡◌, ◌↔◌, ◌∷◌, [], codes, map, string_bytes, true, false, None, Some, IfOk, IfErr};
-ghost use Rattle.file_spec.specs.MinimalFile.{minimal_cell};
-ghost use Rattle.s57_types.specs.declared.cell.Cell.{Cell as SpecCell};
-ghost use Rattle.rule_spec.specs.Kinds.{built_kinds};
-ghost use Rattle.text_spec.specs.CellText.{cell_text as cell_text_lem};
-ghost use Rattle.cell_read.specs.declared.refusal.MinimalRefusal.TheVariants.{NotMinimal};
-ghost use Rattle.enc_top.specs.Refused.{IsRefusal};
-ghost use Rattle.enc_top.specs.Outcome.{outside, has_form, IsCause, IsExact};
-ghost use Rattle.enc_top.specs.Words.{is_later_form as is_later_form_lem};
+ghost use Rattle.std.specs.Prelude.{◌≡◌, ◌⊎◌, ◌↔◌, ◌≤◌, All, IfErr, IfOk, length, map, string_bytes};
+ghost use Rattle.edge_findings.specs.AllFindings.{IsAllOf};
+ghost use Rattle.edge_findings.specs.MinimalCell.{IsMinimalCell};
+ghost use Rattle.history_spec.specs.Steps.{finding_limit};
+ghost use Rattle.plain_replay.specs.Requests.{IsRunnable};
+ghost use Rattle.enc_top.specs.Inputs.{IsAmong, IsInputStatus, IsReportOf, OrderedRunIs, RunIs, Tells};
+ghost use Rattle.enc_top.specs.Outcome.{IsAskedBy, IsCause, IsExact, IsPut, outside};
+ghost use Rattle.enc_top.specs.Words.{check_among, form_of, later_form, no_form, replay_among};
 
-use crate::findings::find_all;
-use crate::input::{InputRefusal, read_file};
+use crate::inputs::{Checked, quotas_of, read_cell, read_scripts, read_sessions};
 use crate::output::put_all;
 use crate::status::Status;
-use crate::text::cell_text;
 use crate::words::is_later_form;
-use cell_read::{MinimalRefusal, read_minimal_cell};
+use edge_findings::push_cell;
 use enc_outside::{Meet, Shelf, Sink};
-use s57_types::Text;
+use plain_replay::replay;
+use script_text::Script;
 use std::alloc::Global;
 use std::thread::Threads;
 
-/// How many bytes a cell file may have.
-const CELL_LIMIT: usize = 16_777_216;
+/// The most sessions of a call.
+const SESSION_LIMIT: usize = 16;
 
-/// Does what the words say: `check CELL` puts the numbers of records and all findings of the cell. The words are those
-/// after the program's name; `_meet` is for sessions in threads, which aren't built yet.
+/// Does what the words say: `check CELL` puts the numbers of records and all findings of the cell, and
+/// `replay CELL OUT ORDER S1 .. Sk` the report of running k scripts on it in the order of the order file; OUT isn't
+/// made yet. The words are those after the program's name; `_meet` is for sessions in threads, which aren't built yet.
 pub fn run<R: Threads + Sync, H: Shelf, O: Sink, M: Meet + Sync>(
     rt: &R,
     alloc: Global,
@@ -41,8 +40,8 @@ pub fn run<R: Threads + Sync, H: Shelf, O: Sink, M: Meet + Sync>(
     ensures exact { IsExact (map string_bytes words.now)
         (outside (H.files shelf.old) (H.read_faults shelf.old) (O.written out.old) (O.faults out.old))
         (outside (H.files shelf.new) (H.read_faults shelf.new) (O.written out.new) (O.faults out.new)) result }
-    ensures usage { (result ≡ Status.Usage) ↔ (has_form (map string_bytes words.now) ≡ false) }
-    ensures later { is_later_form_lem (map string_bytes words.now) ≡ true → (result ≡ Status.NotYet) × (shelf.new ≡ shelf.old) × (out.new ≡ out.old) }
+    ensures usage { (result ≡ Status.Usage) ↔ (form_of (map string_bytes words.now) ≡ no_form) }
+    ensures later { form_of (map string_bytes words.now) ≡ later_form → (result ≡ Status.NotYet) × (shelf.new ≡ shelf.old) × (out.new ≡ out.old) }
     ensures files { H.files shelf.new ≡ H.files shelf.old }
     ensures write_faults { H.write_faults shelf.new ≡ H.write_faults shelf.old }
 {
@@ -63,88 +62,142 @@ pub fn run_plain<R: Threads + Sync, H: Shelf, O: Sink>(
     ensures exact { IsExact (map string_bytes words.now)
         (outside (H.files shelf.old) (H.read_faults shelf.old) (O.written out.old) (O.faults out.old))
         (outside (H.files shelf.new) (H.read_faults shelf.new) (O.written out.new) (O.faults out.new)) result }
-    ensures usage { (result ≡ Status.Usage) ↔ (has_form (map string_bytes words.now) ≡ false) }
-    ensures later { is_later_form_lem (map string_bytes words.now) ≡ true → (result ≡ Status.NotYet) × (shelf.new ≡ shelf.old) × (out.new ≡ out.old) }
+    ensures usage { (result ≡ Status.Usage) ↔ (form_of (map string_bytes words.now) ≡ no_form) }
+    ensures later { form_of (map string_bytes words.now) ≡ later_form → (result ≡ Status.NotYet) × (shelf.new ≡ shelf.old) × (out.new ≡ out.old) }
     ensures files { H.files shelf.new ≡ H.files shelf.old }
     ensures write_faults { H.write_faults shelf.new ≡ H.write_faults shelf.old }
 {
-    if is_later_form(words) {
-        return Status::NotYet;
+    match asked_text(alloc, words, shelf) {
+        Ok(text) => put_text(out, &text),
+        Err(status) => status,
     }
-    check_words(alloc, words, shelf, out)
 }
 
-/// Does what words of no later form say.
-fn check_words<H: Shelf, O: Sink>(
-    alloc: Global,
-    words: &[String],
-    shelf: &mut H,
-    out: &mut O,
-) -> Status
-    requires { is_later_form_lem (map string_bytes words.now) ≡ false }
-    ensures cause { IsCause (map string_bytes words.now)
-        (outside (H.files shelf.old) (H.read_faults shelf.old) (O.written out.old) (O.faults out.old))
-        (outside (H.files shelf.new) (H.read_faults shelf.new) (O.written out.new) (O.faults out.new)) result }
-    ensures files { H.files shelf.new ≡ H.files shelf.old }
-    ensures write_faults { H.write_faults shelf.new ≡ H.write_faults shelf.old }
+/// Puts the text that the words ask for.
+fn put_text<O: Sink>(out: &mut O, text: &[u8]) -> Status
+    ensures { IsPut text.now (O.written out.old) (O.written out.new) (O.faults out.old) (O.faults out.new) result }
 {
-    let [first, name] = words else {
-        return Status::Usage;
-    };
-    if first.as_str() != "check" {
-        return Status::Usage;
-    }
-    check(alloc, name.as_str(), shelf, out)
-}
-
-/// Checks one cell.
-fn check<H: Shelf, O: Sink>(alloc: Global, name: &str, shelf: &mut H, out: &mut O) -> Status
-    ensures cause { IsCause (codes "check" ∷ name.now ∷ [])
-        (outside (H.files shelf.old) (H.read_faults shelf.old) (O.written out.old) (O.faults out.old))
-        (outside (H.files shelf.new) (H.read_faults shelf.new) (O.written out.new) (O.faults out.new)) result }
-    ensures files { H.files shelf.new ≡ H.files shelf.old }
-    ensures write_faults { H.write_faults shelf.new ≡ H.write_faults shelf.old }
-{
-    let bytes = match read_file(alloc, shelf, name, CELL_LIMIT) {
-        Ok(bytes) => bytes,
-        Err(refusal) => return refused(alloc, name, refusal),
-    };
-    let text = match checked_text(alloc, &bytes) {
-        Ok(text) => text,
-        Err(MinimalRefusal::NotMinimal) => return Status::NotYet,
-        Err(MinimalRefusal::NoMemory) => return Status::NoMemory,
-    };
-    match put_all(out, &text) {
+    match put_all(out, text) {
         Ok(()) => Status::Done,
         Err(_) => Status::WriteFault,
     }
 }
 
-/// The text of the cell of a minimal file.
-fn checked_text(alloc: Global, bytes: &[u8]) -> Result<Vec<u8>, MinimalRefusal>
-    ensures ok { IfOk result (λ text. (cell : SpecCell) × (minimal_cell bytes.now ≡ Some cell) × (text.items ≡ cell_text_lem built_kinds cell)) }
-    ensures err { IfErr result (λ e. e ≡ NotMinimal → minimal_cell bytes.now ≡ None) }
+/// The text that words ask for.
+fn asked_text<H: Shelf>(alloc: Global, words: &[String], shelf: &mut H) -> Result<Vec<u8>, Status>
+    ensures asked { IsAskedBy (form_of (map string_bytes words.now)) (H.files shelf.old) (H.read_faults shelf.old) (H.read_faults shelf.new) result }
+    ensures later { form_of (map string_bytes words.now) ≡ later_form → shelf.new ≡ shelf.old }
+    ensures files { H.files shelf.new ≡ H.files shelf.old }
+    ensures write_faults { H.write_faults shelf.new ≡ H.write_faults shelf.old }
 {
-    let cell = match read_minimal_cell(alloc, bytes) {
-        Ok(cell) => cell,
-        Err(refusal) => return Err(refusal),
+    let [first, others @ ..] = words else {
+        return Err(Status::Usage);
     };
-    let findings = find_all(alloc, &cell)?;
-    Ok(cell_text(alloc, &cell, &findings)?)
+    let first = first.as_str();
+    if first == "check" {
+        return check(alloc, others, shelf);
+    }
+    if first == "replay" {
+        return run_scripts(alloc, others, shelf);
+    }
+    if is_later_form(words) {
+        return Err(Status::NotYet);
+    }
+    Err(Status::Usage)
 }
 
-/// The status of a refused input.
-fn refused(alloc: Global, name: &str, refusal: InputRefusal) -> Status
-    ensures { IsRefusal name.now refusal result }
+/// The text of the cell that the words behind `check` name.
+fn check<H: Shelf>(alloc: Global, others: &[String], shelf: &mut H) -> Result<Vec<u8>, Status>
+    ensures asked { IsAskedBy (check_among (map string_bytes others.now)) (H.files shelf.old) (H.read_faults shelf.old) (H.read_faults shelf.new) result }
+    ensures files { H.files shelf.new ≡ H.files shelf.old }
+    ensures write_faults { H.write_faults shelf.new ≡ H.write_faults shelf.old }
 {
-    let Ok(name) = Vec::from_slice(alloc, name.as_bytes()) else {
-        return Status::NoMemory;
+    let [name] = others else {
+        return Err(Status::Usage);
     };
-    let name = Text::of_vec(name);
-    match refusal {
-        InputRefusal::Absent => Status::Absent(name),
-        InputRefusal::ReadFault => Status::ReadFault(name),
-        InputRefusal::TooLarge => Status::TooLarge(name),
-        InputRefusal::NoMemory => Status::NoMemory,
+    let checked = match read_cell(alloc, shelf, name.as_str()) {
+        Ok(checked) => checked,
+        Err(status) => return Err(status),
+    };
+    let mut text = Vec::new(alloc);
+    push_cell(&mut text, &checked.cell, &checked.findings)?;
+    Ok(text)
+}
+
+/// The report of the run that the words behind `replay` name.
+fn run_scripts<H: Shelf>(alloc: Global, others: &[String], shelf: &mut H) -> Result<Vec<u8>, Status>
+    ensures asked { IsAskedBy (replay_among (map string_bytes others.now)) (H.files shelf.old) (H.read_faults shelf.old) (H.read_faults shelf.new) result }
+    ensures files { H.files shelf.new ≡ H.files shelf.old }
+    ensures write_faults { H.write_faults shelf.new ≡ H.write_faults shelf.old }
+{
+    let [cell, _out, order, names @ ..] = others else {
+        return Err(Status::Usage);
+    };
+    if names.is_empty() || names.len() > SESSION_LIMIT {
+        return Err(Status::Usage);
     }
+    let checked = match read_cell(alloc, shelf, cell.as_str()) {
+        Ok(checked) => checked,
+        Err(status) => return Err(status),
+    };
+    run_on(alloc, shelf, checked, order.as_str(), names)
+}
+
+/// The report of running the scripts of input files on a cell in the order of another.
+fn run_on<H: Shelf>(
+    alloc: Global,
+    shelf: &mut H,
+    checked: Checked,
+    order: &str,
+    names: &[String],
+) -> Result<Vec<u8>, Status>
+    requires minimal { IsMinimalCell checked.cell }
+    requires findings { IsAllOf checked.cell finding_limit checked.findings }
+    requires few { length names.now ≤ 16 }
+    ensures tells { Tells (λ text. text.items) (RunIs checked.cell order.now (map string_bytes names.now)) (H.files shelf.old) (H.read_faults shelf.old) (H.read_faults shelf.new) result }
+    ensures report { IfOk result (λ text. IsReportOf checked.cell text.items) }
+    ensures status { IfErr result (IsInputStatus (λ n. (n ≡ order.now) ⊎ IsAmong (map string_bytes names.now) n)) }
+    ensures files { H.files shelf.new ≡ H.files shelf.old }
+    ensures read_faults { H.read_faults shelf.old ≤ H.read_faults shelf.new }
+    ensures write_faults { H.write_faults shelf.new ≡ H.write_faults shelf.old }
+{
+    let scripts = match read_scripts(alloc, shelf, names) {
+        Ok(scripts) => scripts,
+        Err(status) => return Err(status),
+    };
+    run_in_order_of(alloc, shelf, checked, order, &scripts)
+}
+
+/// The report of running scripts on a cell in the order of an input file.
+fn run_in_order_of<H: Shelf>(
+    alloc: Global,
+    shelf: &mut H,
+    checked: Checked,
+    order: &str,
+    scripts: &[Script],
+) -> Result<Vec<u8>, Status>
+    requires minimal { IsMinimalCell checked.cell }
+    requires findings { IsAllOf checked.cell finding_limit checked.findings }
+    requires few { length scripts.now ≤ 16 }
+    requires runnable { All IsRunnable scripts.now }
+    ensures tells { Tells (λ text. text.items) (OrderedRunIs checked.cell order.now scripts.now) (H.files shelf.old) (H.read_faults shelf.old) (H.read_faults shelf.new) result }
+    ensures report { IfOk result (λ text. IsReportOf checked.cell text.items) }
+    ensures status { IfErr result (IsInputStatus (λ n. n ≡ order.now)) }
+    ensures files { H.files shelf.new ≡ H.files shelf.old }
+    ensures read_faults { H.read_faults shelf.old ≤ H.read_faults shelf.new }
+    ensures write_faults { H.write_faults shelf.new ≡ H.write_faults shelf.old }
+{
+    let quotas = quotas_of(alloc, scripts)?;
+    let sessions = match read_sessions(alloc, shelf, order, &quotas) {
+        Ok(sessions) => sessions,
+        Err(status) => return Err(status),
+    };
+    let text = replay(
+        alloc,
+        checked.cell,
+        checked.findings,
+        scripts,
+        sessions.as_slice(),
+    )?;
+    Ok(text)
 }

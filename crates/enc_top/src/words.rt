@@ -62,11 +62,12 @@ pub fn is_later_form(words: &[String]) -> bool
     let [first, others @ ..] = words else {
         return false;
     };
-    match first.as_str() {
-        "replay" => 4 <= others.len() && others.len() <= 19,
-        "room" => 3 <= others.len() && others.len() <= 18,
-        "make" => is_make(others),
-        "drill" => is_drill(others),
-        _ => false,
+    let first = first.as_str();
+    if first == "room" {
+        return 3 <= others.len() && others.len() <= 18;
     }
+    if first == "make" {
+        return is_make(others);
+    }
+    first == "drill" && is_drill(others)
 }

@@ -99,7 +99,6 @@ pub fn replay(
     requires findings { IsAllOf cell finding_limit findings }
     requires few { length scripts.now ≤ desk_limit }
     requires minimal { All IsRunnable scripts.now }
-    requires short { length order.now < 2 ^ 32 - 1 }
     requires sessions { All (λ session. (1 ≤ session) × (session ≤ length scripts.now)) order.now }
     ensures { IfOk result (λ text. text.items ≡ report built_kinds cell scripts.now order.now) }
 {

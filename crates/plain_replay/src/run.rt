@@ -79,10 +79,10 @@ fn take_in(alloc: Global, run: &mut Run, session: u32, request: &Request) -> Res
 }
 
 /// One more request of a session.
-fn count_up(used: &mut Vec<u32>, session: u32)
+fn count_up(used: &mut Vec<usize>, session: u32)
     requires from_one { 1 ≤ session }
     requires within { session ≤ length used.old.items }
-    requires room { slice_index used.old.items (session - 1) < 2 ^ 32 - 1 }
+    requires room { slice_index used.old.items (session - 1) < 2 ^ 64 - 1 }
     ensures counts { (order : List ℕ) → AreCounts order used.old.items → AreCounts (order ++ session ∷ []) used.new.items }
     ensures length { length used.new.items ≡ length used.old.items }
 {
@@ -95,7 +95,7 @@ fn answer_next(
     run: &mut Run,
     requests: &[Vec<Request>],
     session: u32,
-    before: u32,
+    before: usize,
 ) -> Result<(), AllocError>
     requires from_one { 1 ≤ session }
     requires within { session ≤ length requests.now }
@@ -104,7 +104,7 @@ fn answer_next(
     ensures { (c : SpecCell) (asked : List (ℕ × Asked)) → IsRun c asked run.old
         → OnOk result (IsRun c (asked ++ option_to_list (asked_after (asked_lists requests.now) session before)) run.new) }
 {
-    let Some(request) = requests[session as usize - 1].get(before as usize) else {
+    let Some(request) = requests[session as usize - 1].get(before) else {
         return Ok(());
     };
     take_in(alloc, run, session, request)
@@ -120,13 +120,12 @@ pub fn run_in_order(
     order: &[u32],
 ) -> Result<Run, AllocError>
     requires few { length requests.now ≤ desk_limit }
-    requires short { length order.now < 2 ^ 32 - 1 }
     requires sessions { All (λ session. (1 ≤ session) × (session ≤ length requests.now)) order.now }
     requires fewer { All (λ list. All IsFewer list.items) requests.now }
     ensures { (c : SpecCell) → state_of history ≡ opening c
         → IfOk result (IsRun c (filter_map (asked_at (asked_lists requests.now) order.now) (enumerate_from 0 order.now))) }
 {
-    let mut used = vec![in alloc; 0u32; requests.len()]?;
+    let mut used = vec![in alloc; 0usize; requests.len()]?;
     let mut run = Run {
         history,
         replies: Vec::new(alloc),

@@ -1,0 +1,131 @@
+-- What the answers of steps tell of the steps that they are part of.
+use Rattle.std.proofs.Common.{◌≡◌, ◌⊎◌, inl, inr, ℕ, zero, suc, ◌+◌, ◌-◌, ◌<◌, ◌≤◌, List, [], ◌∷◌, ◌++◌, length, get_or, map, All, Option, Some, None, Result, Ok, Err, String, Global, string_bytes, refl, sym, ap, ◌∙◌, subst, length-append, arith, min}
+use Rattle.std.specs.Prelude.{IfErr, IfOk, IfSome, slice_index_or, Vec, ◌^◌}
+use Rattle.std.proofs.lemmas.List.{get_or-map}
+use Rattle.std.proofs.lemmas.Option.{get_or_from_slice_get, slice_get_read}
+use Rattle.std.proofs.lemmas.Bool.{cases_lt}
+use Rattle.enc_outside.specs.Count.{Rose}
+use Rattle.enc_outside.specs.Files.{Files}
+use Rattle.text_spec.specs.declared.command.Command.{Command}
+use Rattle.enc_top.specs.Inputs.{AreScripts, IsAmong, IsFirstBad, IsInputOf, IsInputStatus, OutputIs, ScriptIs, ScriptsAre, Tells}
+use Rattle.enc_top.specs.Outcome.{IsAskedBy, IsBuilt, IsOutput}
+use Rattle.enc_top.specs.Words.{Form, check_form, replay_form, later_form, no_form}
+use Rattle.enc_top.specs.declared.status.Status.{Status}
+use Rattle.enc_top.specs.declared.status.Status.TheVariants.{Done, Usage, Absent, BadCell, BadScript, ReadFault, WriteFault, TooLarge, NoMemory, BadOrder, Stuck, TooManyFindings, NotYet}
+
+pub both_told : {P Q R : Files → Type 0} (files : Option Files) → IfSome files P → IfSome files Q → ((fs : Files) → P fs → Q fs → R fs) → IfSome files R
+both_told None p q make = tt
+both_told (Some fs) p q make = make fs p q
+
+pub rose_earlier : (before mid after : ℕ) → before ≤ mid → Rose mid after → Rose before after
+rose_earlier before mid after le rose = omega (arith, le, rose)
+
+-- the status at which a later step ended, as that of the whole
+pub tells_later : {A B C D : Type 0} (seen : A → B) (other : C → D) (Step : Files → Result B Status → Type 0) (Whole : Files → Result D Status → Type 0) (P : Files → Type 0) (files : Option Files) (before mid after : ℕ) (status : Status)
+    → before ≤ mid → IfSome files P → ((fs : Files) → P fs → Step fs (Err status) → Whole fs (Err status)) → Tells seen Step files mid after (Err status) → Tells other Whole files before after (Err status)
+tells_later seen other Step Whole P files before mid after Done le known make tells = both_told files known tells make
+tells_later seen other Step Whole P files before mid after Usage le known make tells = both_told files known tells make
+tells_later seen other Step Whole P files before mid after (Absent name) le known make tells = both_told files known tells make
+tells_later seen other Step Whole P files before mid after (BadCell fault) le known make tells = both_told files known tells make
+tells_later seen other Step Whole P files before mid after (BadScript session line code) le known make tells = both_told files known tells make
+tells_later seen other Step Whole P files before mid after (ReadFault name) le known make tells = rose_earlier before mid after le tells
+tells_later seen other Step Whole P files before mid after WriteFault le known make tells = both_told files known tells make
+tells_later seen other Step Whole P files before mid after (TooLarge name) le known make tells = both_told files known tells make
+tells_later seen other Step Whole P files before mid after NoMemory le known make tells = tt
+tells_later seen other Step Whole P files before mid after (BadOrder place) le known make tells = both_told files known tells make
+tells_later seen other Step Whole P files before mid after (Stuck desk serial) le known make tells = both_told files known tells make
+tells_later seen other Step Whole P files before mid after TooManyFindings le known make tells = both_told files known tells make
+tells_later seen other Step Whole P files before mid after NotYet le known make tells = both_told files known tells make
+
+pub status_of_more : (P Q : List ℕ → Type 0) (status : Status) → ((name : List ℕ) → P name → Q name) → IsInputStatus P status → IsInputStatus Q status
+status_of_more P Q Done more is = is
+status_of_more P Q Usage more is = is
+status_of_more P Q (Absent name) more is = more name is
+status_of_more P Q (BadCell fault) more is = is
+status_of_more P Q (BadScript session line code) more is = is
+status_of_more P Q (ReadFault name) more is = more name is
+status_of_more P Q WriteFault more is = is
+status_of_more P Q (TooLarge name) more is = more name is
+status_of_more P Q NoMemory more is = is
+status_of_more P Q (BadOrder place) more is = is
+status_of_more P Q (Stuck desk serial) more is = is
+status_of_more P Q TooManyFindings more is = is
+status_of_more P Q NotYet more is = is
+
+-- the status at which the input files of a built form end a call
+pub asked_status : (seen : Vec ℕ Global → List ℕ) (form : Form) (files : Option Files) (before after : ℕ) (status : Status) → IsBuilt form → IsInputStatus (IsInputOf form) status
+    → Tells seen (OutputIs form) files before after (Err status) → IsAskedBy form files before after (Err status)
+asked_status seen form files before after Done built is tells = absurd is
+asked_status seen form files before after Usage built is tells = absurd is
+asked_status seen form files before after (Absent name) built is tells = (is, built, tells)
+asked_status seen form files before after (BadCell fault) built is tells = absurd is
+asked_status seen form files before after (BadScript session line code) built is tells = absurd is
+asked_status seen form files before after (ReadFault name) built is tells = (is, tells)
+asked_status seen form files before after WriteFault built is tells = absurd is
+asked_status seen form files before after (TooLarge name) built is tells = (is, built, tells)
+asked_status seen form files before after NoMemory built is tells = built
+asked_status seen form files before after (BadOrder place) built is tells = (built, tells)
+asked_status seen form files before after (Stuck desk serial) built is tells = absurd is
+asked_status seen form files before after TooManyFindings built is tells = (built, tells)
+asked_status seen form files before after NotYet built is tells = inr (built, tells)
+
+-- ---- scripts one after the other
+pub name_there : (names : List (String Global)) (k : ℕ) (name : String Global) → k < length names → name ≡ get_or names k name → slice_index_or (map string_bytes names) k [] ≡ string_bytes name
+name_there names k name within is = get_or-map string_bytes names k name [] within ∙ ap string_bytes (sym is)
+
+at_last : (scripts : List (List Command)) (script : List Command) → slice_index_or (scripts ++ (script ∷ [])) (length scripts) [] ≡ script
+at_last [] script = refl
+at_last (first ∷ scripts) script = at_last scripts script
+
+at_earlier : (scripts : List (List Command)) (script : List Command) (k : ℕ) → k < length scripts → slice_index_or (scripts ++ (script ∷ [])) k [] ≡ slice_index_or scripts k []
+at_earlier [] script k within = absurd (omega (arith, within))
+at_earlier (first ∷ scripts) script zero within = refl
+at_earlier (first ∷ scripts) script (suc k) within = at_earlier scripts script k (omega (arith, within))
+
+pub scripts_more : (names : List (List ℕ)) (fs : Files) (scripts : List (List Command)) (name : List ℕ) (script : List Command) → slice_index_or names (length scripts) [] ≡ name
+    → AreScripts names fs scripts → ScriptIs name fs (Ok script) → AreScripts names fs (scripts ++ (script ∷ []))
+scripts_more names fs scripts name script there good next = record { each = λ k within. by_place k within (cases_lt k (length scripts)) }
+  where
+    by_place : (k : ℕ) → k < length (scripts ++ (script ∷ [])) → (k < length scripts) ⊎ (length scripts ≤ k) → ScriptIs (slice_index_or names k []) fs (Ok (slice_index_or (scripts ++ (script ∷ [])) k []))
+    by_place k within (inl below) = subst (λ s. ScriptIs (slice_index_or names k []) fs (Ok s)) (sym (at_earlier scripts script k below)) (good.each k below)
+    by_place k within (inr past) =
+        let last : length scripts ≡ k = omega (arith, within, past, length-append scripts (script ∷ [])) in
+        subst (λ n. ScriptIs (slice_index_or names n []) fs (Ok (slice_index_or (scripts ++ (script ∷ [])) n []))) last
+        (subst (λ n. ScriptIs n fs (Ok (slice_index_or (scripts ++ (script ∷ [])) (length scripts) []))) (sym there)
+        (subst (λ s. ScriptIs name fs (Ok s)) (sym (at_last scripts script)) next))
+
+pub first_bad : (names : List (List ℕ)) (fs : Files) (scripts : List (List Command)) (name : List ℕ) (status : Status) → length scripts < length names → slice_index_or names (length scripts) [] ≡ name
+    → AreScripts names fs scripts → ScriptIs name fs (Err status) → ScriptsAre names fs (Err status)
+first_bad names fs scripts name status within there good bad =
+    record { before = scripts; within = within; good = good; bad = subst (λ n. ScriptIs n fs (Err status)) (sym there) bad }
+
+any_told : (files : Option Files) → IfSome files (λ fs. Unit {0})
+any_told None = tt
+any_told (Some fs) = tt
+
+-- the status at which a first step ended, as that of the whole
+pub tells_first : {A B C D : Type 0} (seen : A → B) (other : C → D) (Step : Files → Result B Status → Type 0) (Whole : Files → Result D Status → Type 0) (files : Option Files) (before after : ℕ) (status : Status)
+    → ((fs : Files) → Step fs (Err status) → Whole fs (Err status)) → Tells seen Step files before after (Err status) → Tells other Whole files before after (Err status)
+tells_first seen other Step Whole files before after status make tells =
+    tells_later seen other Step Whole (λ fs. Unit {0}) files before before after status (omega arith) (any_told files) (λ fs _ step. make fs step) tells
+
+-- what a last step answered, as the answer of the whole
+pub tells_last : {A B : Type 0} (seen : A → B) (Step Whole : Files → Result B Status → Type 0) (P : Files → Type 0) (files : Option Files) (before mid after : ℕ) (result : Result A Status)
+    → before ≤ mid → IfSome files P → ((fs : Files) (answer : Result B Status) → P fs → Step fs answer → Whole fs answer) → Tells seen Step files mid after result → Tells seen Whole files before after result
+tells_last seen Step Whole P files before mid after (Ok a) le known make tells = both_told files known tells (λ fs p step. make fs (Ok (seen a)) p step)
+tells_last seen Step Whole P files before mid after (Err status) le known make tells =
+    tells_later seen seen Step Whole P files before mid after status le known (λ fs p step. make fs (Err status) p step) tells
+
+-- an answer of a built form
+pub asked_answer : (form : Form) (files : Option Files) (before after : ℕ) (result : Result (Vec ℕ Global) Status) → IsBuilt form → IfOk result (λ text. IsOutput form text.items) → IfErr result (IsInputStatus (IsInputOf form))
+    → Tells (λ (text : Vec ℕ Global). text.items) (OutputIs form) files before after result → IsAskedBy form files before after result
+asked_answer form files before after (Ok text) built output is tells = (output, tells)
+asked_answer form files before after (Err status) built output is tells = asked_status (λ (text : Vec ℕ Global). text.items) form files before after status built is tells
+
+pub if_err_more : {A : Type 0} (P Q : List ℕ → Type 0) (result : Result A Status) → ((name : List ℕ) → P name → Q name) → IfErr result (IsInputStatus P) → IfErr result (IsInputStatus Q)
+if_err_more P Q (Ok a) more is = is
+if_err_more P Q (Err status) more is = status_of_more P Q status more is
+
+pub if_ok_more : {A E : Type 0} (P Q : A → Type 0) (result : Result A E) → ((a : A) → P a → Q a) → IfOk result P → IfOk result Q
+if_ok_more P Q (Ok a) more is = more a is
+if_ok_more P Q (Err e) more is = tt

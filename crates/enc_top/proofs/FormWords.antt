@@ -1,0 +1,105 @@
+-- The form of the words of a call, by its first word and the others.
+use Rattle.std.proofs.Common.{◌≡◌, ℕ, zero, suc, ◌-◌, ◌<◌, ◌≤◌, take, take_all, ◌&&◌, Bool, true, false, List, [], ◌∷◌, length, map, get_or, drop, cond, String, Global, string_bytes, refl, sym, ap, ◌∙◌, arith}
+use Rattle.std.specs.Prelude.{codes, nat_le}
+use Rattle.std.proofs.lemmas.Bool.Decides.{nat_tests}
+use Rattle.std.proofs.lemmas.List.{length-drop, length-map}
+use Rattle.enc_top.specs.Words.{Form, check_among, check_form, form_of, is_between, is_later_form, is_word, later_form, no_form, replay_among, replay_form}
+
+-- the words behind the first ones
+pub behind : (n : ℕ) (words : List (String Global)) → take (length words - n) (drop n words) ≡ drop n words
+behind n words = take_all (length words - n) (drop n words) (let rest = length-drop n words in omega (arith, rest))
+
+-- ---- the words behind the first
+pub one_word : (others : List (String Global)) (name : String Global) → length others ≡ 1 → name ≡ get_or others 0 name → check_among (map string_bytes others) ≡ check_form (string_bytes name)
+one_word [] name one is = absurd (omega (arith, one))
+one_word (a ∷ []) name one is = ap (λ (s : String Global). check_form (string_bytes s)) (sym is)
+one_word (a ∷ b ∷ rest) name one is = absurd (omega (arith, one))
+
+pub not_one_word : (others : List (String Global)) → (length others ≡ 1 → ⊥) → check_among (map string_bytes others) ≡ no_form
+not_one_word [] other = refl
+not_one_word (a ∷ []) other = absurd (other refl)
+not_one_word (a ∷ b ∷ rest) other = refl
+
+pub few_words : (others : List (String Global)) → length others < 3 → replay_among (map string_bytes others) ≡ no_form
+few_words [] few = refl
+few_words (a ∷ []) few = refl
+few_words (a ∷ b ∷ []) few = refl
+few_words (a ∷ b ∷ d ∷ rest) few = absurd (omega (arith, few))
+
+between : (n : ℕ) → 1 ≤ n → n ≤ 16 → is_between 1 16 n ≡ true
+between n low high = grind (arith, nat_tests)
+
+pub replay_words : (others : List (String Global)) (cell order : String Global) (names : List (String Global)) → 3 ≤ length others → cell ≡ get_or others 0 cell → order ≡ get_or others 2 order → names ≡ drop 3 others
+    → 1 ≤ length names → length names ≤ 16 → (out : List ℕ) × (replay_among (map string_bytes others) ≡ replay_form (string_bytes cell) out (string_bytes order) (map string_bytes names))
+replay_words [] cell order names many is_cell is_order are low high = absurd (omega (arith, many))
+replay_words (a ∷ []) cell order names many is_cell is_order are low high = absurd (omega (arith, many))
+replay_words (a ∷ b ∷ []) cell order names many is_cell is_order are low high = absurd (omega (arith, many))
+replay_words (a ∷ b ∷ d ∷ rest) cell order names many is_cell is_order are low high =
+    let count : length (map string_bytes rest) ≡ length names = length-map rest string_bytes ∙ ap length (sym are) in
+    let right : is_between 1 16 (length (map string_bytes rest)) ≡ true = between (length (map string_bytes rest)) (omega (arith, low, count)) (omega (arith, high, count)) in (
+      string_bytes b,
+      ap (λ t. cond t (replay_form (string_bytes a) (string_bytes b) (string_bytes d) (map string_bytes rest)) no_form) right
+          ∙ (λ i. replay_form (string_bytes (sym is_cell i)) (string_bytes b) (string_bytes (sym is_order i)) (map string_bytes (sym are i))),
+    )
+
+not_between : (n : ℕ) → (1 ≤ n → n ≤ 16 → ⊥) → is_between 1 16 n ≡ false
+not_between n other = by_tests (nat_le 1 n) (nat_le n 16) refl refl
+  where
+    by_tests : (low high : Bool) → nat_le 1 n ≡ low → nat_le n 16 ≡ high → (low && high) ≡ false
+    by_tests false high is_low is_high = refl
+    by_tests true false is_low is_high = refl
+    by_tests true true is_low is_high = absurd (other (grind (arith, nat_tests)) (grind (arith, nat_tests)))
+
+pub wrong_count : (others names : List (String Global)) → 3 ≤ length others → names ≡ drop 3 others → (1 ≤ length names → length names ≤ 16 → ⊥) → replay_among (map string_bytes others) ≡ no_form
+wrong_count [] names many are other = absurd (omega (arith, many))
+wrong_count (a ∷ []) names many are other = absurd (omega (arith, many))
+wrong_count (a ∷ b ∷ []) names many are other = absurd (omega (arith, many))
+wrong_count (a ∷ b ∷ d ∷ rest) names many are other =
+    let count : length (map string_bytes rest) ≡ length names = length-map rest string_bytes ∙ ap length (sym are) in
+    ap (λ t. cond t (replay_form (string_bytes a) (string_bytes b) (string_bytes d) (map string_bytes rest)) no_form)
+    (not_between (length (map string_bytes rest)) (λ low high. other (omega (arith, low, count)) (omega (arith, high, count))))
+
+-- ---- all words
+split : (words : List (String Global)) (first : String Global) (others : List (String Global)) → 1 ≤ length words → first ≡ get_or words 0 first → others ≡ drop 1 words → map string_bytes words ≡ string_bytes first ∷ map string_bytes others
+split [] first others some is are = absurd (omega (arith, some))
+split (a ∷ rest) first others some is are = λ i. string_bytes (sym is i) ∷ map string_bytes (sym are i)
+
+module _ (words : List (String Global)) (first : String Global) (others : List (String Global)) (some : 1 ≤ length words) (is : first ≡ get_or words 0 first) (are : others ≡ drop 1 words) where
+  pub check_words : is_word (codes "check") (string_bytes first) ≡ true → form_of (map string_bytes words) ≡ check_among (map string_bytes others)
+  unfolding form_of
+  check_words check = ap form_of (split words first others some is are) ∙ (rw check refl)
+
+  pub run_words : is_word (codes "check") (string_bytes first) ≡ false → is_word (codes "replay") (string_bytes first) ≡ true → form_of (map string_bytes words) ≡ replay_among (map string_bytes others)
+  unfolding form_of
+  run_words check replay = ap form_of (split words first others some is are) ∙ (rw (check, replay) refl)
+
+  pub later_words : is_word (codes "check") (string_bytes first) ≡ false → is_word (codes "replay") (string_bytes first) ≡ false → is_later_form (map string_bytes words) ≡ true → form_of (map string_bytes words) ≡ later_form
+  unfolding form_of
+  later_words check replay later =
+      ap form_of (split words first others some is are) ∙ (let test : is_later_form (string_bytes first ∷ map string_bytes others) ≡ true = ap is_later_form (sym (split words first others some is are)) ∙ later in rw (check, replay, test) refl)
+
+  pub other_words : is_word (codes "check") (string_bytes first) ≡ false → is_word (codes "replay") (string_bytes first) ≡ false → is_later_form (map string_bytes words) ≡ false → form_of (map string_bytes words) ≡ no_form
+  unfolding form_of
+  other_words check replay later =
+      ap form_of (split words first others some is are) ∙ (let test : is_later_form (string_bytes first ∷ map string_bytes others) ≡ false = ap is_later_form (sym (split words first others some is are)) ∙ later in rw (check, replay, test) refl)
+
+pub no_words : (words : List (String Global)) → length words < 1 → form_of (map string_bytes words) ≡ no_form
+unfolding form_of
+no_words [] none = refl
+no_words (a ∷ rest) none = absurd (omega (arith, none))
+
+-- ---- words behind `check` and `replay` are of no later form
+pub check_not_later : (others : List (List ℕ)) → check_among others ≡ later_form → ⊥
+check_not_later [] is = cc (is)
+check_not_later (a ∷ []) is = cc (is)
+check_not_later (a ∷ b ∷ rest) is = cc (is)
+
+run_by : (b : Bool) (cell out order : List ℕ) (scripts : List (List ℕ)) → cond b (replay_form cell out order scripts) no_form ≡ later_form → ⊥
+run_by true cell out order scripts is = cc (is)
+run_by false cell out order scripts is = cc (is)
+
+pub run_not_later : (others : List (List ℕ)) → replay_among others ≡ later_form → ⊥
+run_not_later [] is = cc (is)
+run_not_later (a ∷ []) is = cc (is)
+run_not_later (a ∷ b ∷ []) is = cc (is)
+run_not_later (a ∷ b ∷ d ∷ rest) is = run_by (is_between 1 16 (length rest)) a b d rest is

@@ -1,0 +1,49 @@
+use Rattle.std.proofs.Common.{◌≡◌, ◌+◌, ◌<◌, ◌≤◌, length, map, string_bytes, sym, ap, ◌∙◌, subst, arith}
+use Rattle.std.proofs.Common.{[], ◌∷◌, ◌++◌, All, Err, Ok, Global, IfSome, length-append}
+use Rattle.std.specs.Prelude.{Vec, slice_index_or}
+use Rattle.script_text.specs.declared.script.Script.{Script}
+use Rattle.std.proofs.lemmas.List.{length-map}
+use Rattle.std.proofs.lemmas.List.Elements.{All-push}
+use Rattle.plain_replay.specs.Requests.{IsRunnable}
+use Rattle.enc_top.specs.Inputs.{AreScripts, IsAmong, ScriptIs, ScriptsAre, Tells}
+use Rattle.enc_top.proofs.Answered.{both_told, first_bad, name_there, scripts_more, status_of_more, tells_later}
+use Rattle.enc_top.proofs.inputs.read_scripts.Goals as goal
+
+pub returns-in-Err-clause-tells : goal.returns-in-Err-clause-tells
+returns-in-Err-clause-tells g c =
+    let names = map string_bytes c.args.names.now in
+    let before = c.loop-name.invariant in
+    let within = c.loop-name-test.true in
+    let there = ap (λ k. slice_index_or names k []) before.many ∙ name_there c.args.names.now c.loop-name.name-index c.name-item.result within c.name-item.is ∙ sym c.as_str.ensures.value in
+    let inside : length c.loop-name.scripts.items < length names = (let many = before.many in let all = length-map c.args.names.now string_bytes in omega (arith, within, many, all)) in
+    tells_later (λ script. script) (λ (scripts : Vec Script Global). scripts.items) (ScriptIs c.as_str.result.now) (ScriptsAre names) (λ fs. AreScripts names fs c.loop-name.scripts.items)
+    (g.H.Shelf.files c.args.shelf.now) (g.H.Shelf.read_faults c.args.shelf.now) (g.H.Shelf.read_faults c.loop-name.shelf) (g.H.Shelf.read_faults c.read_script.new.shelf) c.in-Err.status
+    before.read_faults before.good (λ fs good bad. first_bad names fs c.loop-name.scripts.items c.as_str.result.now c.in-Err.status inside there good bad)
+    (subst (λ files. Tells (λ script. script) (ScriptIs c.as_str.result.now) files (g.H.Shelf.read_faults c.loop-name.shelf) (g.H.Shelf.read_faults c.read_script.new.shelf) (Err c.in-Err.status)) before.files c.in-Err.ensures.tells)
+
+pub returns-in-Err-clause-status : goal.returns-in-Err-clause-status
+returns-in-Err-clause-status g c =
+    let names = map string_bytes c.args.names.now in
+    let within = c.loop-name-test.true in
+    let there = name_there c.args.names.now c.loop-name.name-index c.name-item.result within c.name-item.is ∙ sym c.as_str.ensures.value in
+    let inside : c.loop-name.name-index < length names = (let all = length-map c.args.names.now string_bytes in omega (arith, within, all)) in
+    status_of_more (λ n. n ≡ c.as_str.result.now) (IsAmong names) c.in-Err.status (λ n is. (c.loop-name.name-index, inside, is ∙ sym there)) c.in-Err.ensures.status
+
+pub loop-name-preserved : goal.loop-name-preserved
+loop-name-preserved g c =
+    let names = map string_bytes c.args.names.now in
+    let before = c.loop-name.invariant in
+    let within = c.loop-name-test.true in
+    let scripts = c.loop-name.scripts.items in
+    let there = ap (λ k. slice_index_or names k []) before.many ∙ name_there c.args.names.now c.loop-name.name-index c.name-item.result within c.name-item.is ∙ sym c.as_str.ensures.value in
+    let tells = subst (λ files. Tells (λ script. script) (ScriptIs c.as_str.result.now) files (g.H.Shelf.read_faults c.loop-name.shelf) (g.H.Shelf.read_faults c.read_script.new.shelf) (Ok c.in-Ok.script)) before.files c.in-Ok.ensures.tells in
+    let pushed = c.in_ok-push_script.ensures in
+    record {
+      many = (let one = ap length pushed in let more = length-append scripts (c.in-Ok.script ∷ []) in let many = before.many in omega (arith, one, more, many));
+      good = subst (λ all. IfSome (g.H.Shelf.files c.args.shelf.now) (λ fs. AreScripts names fs all)) (sym pushed)
+          (both_told (g.H.Shelf.files c.args.shelf.now) before.good tells (λ fs good next. scripts_more names fs scripts c.as_str.result.now c.in-Ok.script there good next));
+      runnable = subst (All IsRunnable) (sym pushed) (All-push IsRunnable scripts c.in-Ok.script before.runnable c.in-Ok.ensures.runnable);
+      files = c.in-Ok.ensures.files ∙ before.files;
+      read_faults = (let now = c.in-Ok.ensures.read_faults in let so_far = before.read_faults in omega (arith, now, so_far));
+      write_faults = c.in-Ok.ensures.write_faults ∙ before.write_faults;
+    }

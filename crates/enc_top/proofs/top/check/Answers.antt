@@ -1,0 +1,20 @@
+use Rattle.std.proofs.Common.{◌≡◌, ℕ, ◌++◌, [], Ok, Err, Global, IfSome, inl, length, string_bytes, sym, ap, ◌∙◌, subst, arith}
+use Rattle.rule_spec.specs.Findings.{all_findings}
+use Rattle.rule_spec.specs.Kinds.{built_kinds}
+use Rattle.text_spec.specs.CellText.{cell_text, text_with}
+use Rattle.enc_top.specs.Inputs.{CellIs, OutputIs}
+use Rattle.enc_top.specs.Outcome.{IsOutput}
+use Rattle.enc_top.specs.Words.{check_form}
+use Rattle.enc_top.proofs.Answered.{both_told}
+use Rattle.enc_top.proofs.FormWords.{one_word}
+use Rattle.enc_top.proofs.top.check.Goals as goal
+
+pub returns-clause-asked : goal.returns-clause-asked
+returns-clause-asked g c =
+    let one : length c.args.others.now ≡ 1 = omega (arith, c.in-len1.len_at_least, c.in-len1.len_below) in
+    let form = one_word c.args.others.now c.name-item.result one c.name-item.is ∙ ap check_form (sym c.as_str.ensures.value) in
+    let cell = c.in-Ok.checked.cell in
+    let text : c.push_cell.new.out.items ≡ cell_text built_kinds cell =
+        c.in_ok-push_cell.ensures (all_findings built_kinds cell) c.in-Ok.ensures.findings.all ∙ ap (λ before. before ++ text_with cell (all_findings built_kinds cell)) c.new-text.ensures.items in
+    let told = both_told (g.H.Shelf.files c.args.shelf.now) c.in-Ok.ensures.tells c.in-Ok.ensures.tells (λ fs step _. inl (cell, step, ap Ok text)) in
+    subst (λ f. IsOutput f c.push_cell.new.out.items × IfSome (g.H.Shelf.files c.args.shelf.now) (λ fs. OutputIs f fs (Ok c.push_cell.new.out.items))) (sym form) ((cell, text), told)

@@ -1,0 +1,32 @@
+use Rattle.std.proofs.Common.{◌≡◌, ◌⊎◌, inl, inr, ℕ, Ok, Err, Global, map, string_bytes, refl, sym, ap, ◌∙◌, subst}
+use Rattle.std.specs.Prelude.{Vec}
+use Rattle.script_text.specs.declared.script.Script.{Script}
+use Rattle.enc_top.specs.Inputs.{IsAmong, OrderedRunIs, RunIs, ScriptsAre, Tells}
+use Rattle.enc_top.proofs.Answered.{if_err_more, status_of_more, tells_first, tells_last}
+use Rattle.enc_top.proofs.top.run_on.Goals as goal
+
+pub returns-in-Err-clause-tells : goal.returns-in-Err-clause-tells
+returns-in-Err-clause-tells g c =
+    tells_first (λ (scripts : Vec Script Global). scripts.items) (λ (text : Vec ℕ Global). text.items) (ScriptsAre (map string_bytes c.args.names.now)) (RunIs c.args.checked.cell c.args.order.now (map string_bytes c.args.names.now))
+    (g.H.Shelf.files c.args.shelf.now) (g.H.Shelf.read_faults c.args.shelf.now) (g.H.Shelf.read_faults c.read_scripts.new.shelf) c.in-Err.status
+    (λ fs bad. inr (c.in-Err.status, bad, refl)) c.in-Err.ensures.tells
+
+pub returns-in-Err-clause-status : goal.returns-in-Err-clause-status
+returns-in-Err-clause-status g c =
+    status_of_more (IsAmong (map string_bytes c.args.names.now)) (λ n. (n ≡ c.args.order.now) ⊎ IsAmong (map string_bytes c.args.names.now) n) c.in-Err.status (λ n is. inr is) c.in-Err.ensures.status
+
+pub returns-clause-tells : goal.returns-clause-tells
+returns-clause-tells g c =
+    let names = map string_bytes c.args.names.now in
+    let tells =
+        subst (λ files. Tells (λ (text : Vec ℕ Global). text.items) (OrderedRunIs c.args.checked.cell c.args.order.now c.in-Ok.scripts.items) files (g.H.Shelf.read_faults c.read_scripts.new.shelf) (g.H.Shelf.read_faults c.run_in_order_of.new.shelf) c.run_in_order_of.result)
+            c.in-Ok.ensures.files
+        (subst (λ scripts. Tells (λ (text : Vec ℕ Global). text.items) (OrderedRunIs c.args.checked.cell c.args.order.now scripts) (g.H.Shelf.files c.read_scripts.new.shelf) (g.H.Shelf.read_faults c.read_scripts.new.shelf) (g.H.Shelf.read_faults c.run_in_order_of.new.shelf) c.run_in_order_of.result)
+            c.deref.ensures.value c.run_in_order_of.ensures.tells) in
+    tells_last (λ (text : Vec ℕ Global). text.items) (OrderedRunIs c.args.checked.cell c.args.order.now c.in-Ok.scripts.items) (RunIs c.args.checked.cell c.args.order.now names) (λ fs. ScriptsAre names fs (Ok c.in-Ok.scripts.items))
+    (g.H.Shelf.files c.args.shelf.now) (g.H.Shelf.read_faults c.args.shelf.now) (g.H.Shelf.read_faults c.read_scripts.new.shelf) (g.H.Shelf.read_faults c.run_in_order_of.new.shelf) c.run_in_order_of.result
+    c.in-Ok.ensures.read_faults c.in-Ok.ensures.tells (λ fs answer good step. inl (c.in-Ok.scripts.items, good, step)) tells
+
+pub returns-clause-status : goal.returns-clause-status
+returns-clause-status g c =
+    if_err_more (λ n. n ≡ c.args.order.now) (λ n. (n ≡ c.args.order.now) ⊎ IsAmong (map string_bytes c.args.names.now) n) c.run_in_order_of.result (λ n is. inl is) c.run_in_order_of.ensures.status

@@ -1,0 +1,146 @@
+-- What input files are, or why a call ends there. A relation tells what a step answers where nothing fails. This project's own.
+use Rattle.std.specs.Prelude.{◌≡◌, ◌⊎◌, ℕ, ◌<◌, nat_lt, List, [], ◌∷◌, length, map, count_by, slice_index_or, Option, None, Some, Result, Ok, Err, IfSome, if◌then◌else◌}
+use Rattle.std.specs.Option.{option_map_or}
+use Rattle.enc_outside.specs.Count.{Rose}
+use Rattle.enc_outside.specs.Files.{Files}
+use Rattle.file_spec.specs.MinimalFile.{minimal_cell}
+use Rattle.rule_spec.specs.Findings.{finding_total}
+use Rattle.rule_spec.specs.Kinds.{built_kinds}
+use Rattle.s57_types.specs.declared.cell.Cell.{Cell}
+use Rattle.text_spec.specs.CellText.{cell_text}
+use Rattle.text_spec.specs.OrderLine.{order_of}
+use Rattle.text_spec.specs.ScriptLines.{IsMinimalScript, is_shared}
+use Rattle.text_spec.specs.declared.command.Command.{Command}
+use Rattle.history_spec.specs.ReportText.{report}
+use Rattle.history_spec.specs.Steps.{finding_limit}
+use Rattle.enc_top.specs.Words.{Form, check_form, replay_form, later_form, no_form}
+use Rattle.enc_top.specs.declared.status.Status.{Status}
+use Rattle.enc_top.specs.declared.status.Status.TheVariants.{Done, Usage, Absent, BadCell, BadScript, ReadFault, WriteFault, TooLarge, NoMemory, BadOrder, Stuck, TooManyFindings, NotYet}
+
+-- how many bytes input files may have
+abbrev pub cell_limit : ℕ
+cell_limit = 16777216
+
+abbrev pub script_limit : ℕ
+script_limit = 1048576
+
+abbrev pub order_limit : ℕ
+order_limit = 4194304
+
+-- one step and then another with what it gave, or the status at which the first ended
+abbrev pub AndThen : {A B : Type 0} → (Result A Status → Type 0) → (A → Result B Status → Type 0) → Result B Status → Type 0
+AndThen {A} First Next answer = ((a : A) × First (Ok a) × Next a answer) ⊎ ((status : Status) × First (Err status) × (answer ≡ Err status))
+
+-- a file within its limit
+abbrev pub content_of : ℕ → List ℕ → Option (List ℕ) → Result (List ℕ) Status
+content_of limit name None = Err (Absent name)
+content_of limit name (Some content) = if nat_lt limit (length content) then Err (TooLarge name) else Ok content
+
+abbrev pub FileIs : ℕ → List ℕ → Files → Result (List ℕ) Status → Type 0
+FileIs limit name files answer = content_of limit name (files name) ≡ answer
+
+-- a minimal cell with not too many findings of the kinds that are built
+abbrev pub judged_cell : Cell → Result Cell Status
+judged_cell c = if nat_lt finding_limit (finding_total built_kinds c) then Err TooManyFindings else Ok c
+
+abbrev pub cell_in : List ℕ → Result Cell Status
+cell_in bytes = option_map_or judged_cell (minimal_cell bytes) (Err NotYet)
+
+abbrev pub CellIs : List ℕ → Files → Result Cell Status → Type 0
+CellIs name files = AndThen (FileIs cell_limit name files) (λ bytes answer. cell_in bytes ≡ answer)
+
+-- a minimal script
+abbrev pub ScriptIn : List ℕ → Result (List Command) Status → Type 0
+ScriptIn bytes (Ok commands) = IsMinimalScript bytes commands
+ScriptIn bytes (Err status) = (status ≡ NotYet) × ((commands : List Command) → IsMinimalScript bytes commands → ⊥)
+
+abbrev pub ScriptIs : List ℕ → Files → Result (List Command) Status → Type 0
+ScriptIs name files = AndThen (FileIs script_limit name files) ScriptIn
+
+-- the scripts of all names, or the status of the first that has one
+pub record AreScripts (names : List (List ℕ)) (files : Files) (scripts : List (List Command)) : Type 0 where
+  pub each : (k : ℕ) → k < length scripts → ScriptIs (slice_index_or names k []) files (Ok (slice_index_or scripts k []))
+
+pub record IsFirstBad (names : List (List ℕ)) (files : Files) (status : Status) : Type 0 where
+  pub before : List (List Command)
+  pub within : length before < length names
+  pub good : AreScripts names files before
+  pub bad : ScriptIs (slice_index_or names (length before) []) files (Err status)
+
+abbrev pub ScriptsAre : List (List ℕ) → Files → Result (List (List Command)) Status → Type 0
+ScriptsAre names files (Ok scripts) = (length scripts ≡ length names) × AreScripts names files scripts
+ScriptsAre names files (Err status) = IsFirstBad names files status
+
+-- how many views and commits each session has
+abbrev pub quotas_of : List (List Command) → List ℕ
+quotas_of = map (count_by is_shared)
+
+-- an order of the sessions
+abbrev pub order_in : Result (List ℕ) ℕ → Result (List ℕ) Status
+order_in (Ok order) = Ok order
+order_in (Err place) = Err (BadOrder place)
+
+abbrev pub OrderIs : List ℕ → List ℕ → Files → Result (List ℕ) Status → Type 0
+OrderIs quotas name files = AndThen (FileIs order_limit name files) (λ bytes answer. order_in (order_of quotas bytes) ≡ answer)
+
+-- a run of scripts on a cell, in the order of a file; the order is read after all scripts
+abbrev pub OrderedRunIs : Cell → List ℕ → List (List Command) → Files → Result (List ℕ) Status → Type 0
+OrderedRunIs c order commands files = AndThen (OrderIs (quotas_of commands) order files) (λ sessions answer. answer ≡ Ok (report built_kinds c commands sessions))
+
+abbrev pub RunIs : Cell → List ℕ → List (List ℕ) → Files → Result (List ℕ) Status → Type 0
+RunIs c order scripts files = AndThen (ScriptsAre scripts files) (λ commands. OrderedRunIs c order commands files)
+
+-- what is put: the text of the cell, or the report of the run
+abbrev pub OutputIs : Form → Files → Result (List ℕ) Status → Type 0
+OutputIs (check_form cell) files = AndThen (CellIs cell files) (λ c answer. answer ≡ Ok (cell_text built_kinds c))
+OutputIs (replay_form cell out order scripts) files = AndThen (CellIs cell files) (λ c. RunIs c order scripts files)
+OutputIs later_form files = λ answer. answer ≡ Err NotYet
+OutputIs no_form files = λ answer. answer ≡ Err Usage
+
+-- a report of some scripts on a cell in some order
+abbrev pub IsReportOf : Cell → List ℕ → Type 0
+IsReportOf c text = (commands : List (List Command)) × (sessions : List ℕ) × (text ≡ report built_kinds c commands sessions)
+
+-- what a step's answer tells, with what it gave seen through a function: where the files are told, the relation of the step
+-- holds of it; a fault of reading comes only with a risen count; want of memory is free
+abbrev pub Tells : {A B : Type 0} → (A → B) → (Files → Result B Status → Type 0) → Option Files → ℕ → ℕ → Result A Status → Type 0
+Tells seen Step files before after (Ok a) = IfSome files (λ fs. Step fs (Ok (seen a)))
+Tells seen Step files before after (Err (ReadFault name)) = Rose before after
+Tells seen Step files before after (Err NoMemory) = Unit {0}
+Tells seen Step files before after (Err status) = IfSome files (λ fs. Step fs (Err status))
+
+-- the statuses at which input files can end a call; a file that is named is one of them
+abbrev pub IsInputStatus : (List ℕ → Type 0) → Status → Type 0
+IsInputStatus IsInput Done = ⊥
+IsInputStatus IsInput Usage = ⊥
+IsInputStatus IsInput (Absent name) = IsInput name
+IsInputStatus IsInput (BadCell fault) = ⊥
+IsInputStatus IsInput (BadScript session line code) = ⊥
+IsInputStatus IsInput (ReadFault name) = IsInput name
+IsInputStatus IsInput WriteFault = ⊥
+IsInputStatus IsInput (TooLarge name) = IsInput name
+IsInputStatus IsInput NoMemory = Unit {0}
+IsInputStatus IsInput (BadOrder place) = Unit {0}
+IsInputStatus IsInput (Stuck desk serial) = ⊥
+IsInputStatus IsInput TooManyFindings = Unit {0}
+IsInputStatus IsInput NotYet = Unit {0}
+
+-- one of these names
+abbrev pub IsAmong : List (List ℕ) → List ℕ → Type 0
+IsAmong names name = (k : ℕ) × (k < length names) × (name ≡ slice_index_or names k [])
+
+-- the input files of a form; OUT is none
+abbrev pub IsInputOf : Form → List ℕ → Type 0
+IsInputOf (check_form cell) name = name ≡ cell
+IsInputOf (replay_form cell out order scripts) name = (name ≡ cell) ⊎ ((name ≡ order) ⊎ IsAmong scripts name)
+IsInputOf later_form name = ⊥
+IsInputOf no_form name = ⊥
+
+-- an answer of a judging step: the expected one, or want of memory
+abbrev pub IsJudged : {A B : Type 0} → (A → B) → Result B Status → Result A Status → Type 0
+IsJudged seen expected (Ok a) = expected ≡ Ok (seen a)
+IsJudged seen expected (Err status) = (expected ≡ Err status) ⊎ (status ≡ NoMemory)
+
+abbrev pub IsJudgedScript : List ℕ → Result (List Command) Status → Type 0
+IsJudgedScript bytes (Ok commands) = IsMinimalScript bytes commands
+IsJudgedScript bytes (Err status) = ScriptIn bytes (Err status) ⊎ (status ≡ NoMemory)

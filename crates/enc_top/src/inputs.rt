@@ -1,0 +1,211 @@
+//! The input files of a call, each read and judged before the next.
+
+ghost use Rattle.std.specs.Prelude.{◌≡◌, ◌≤◌, ◌<◌, ◌^◌, ◌++◌, ◌∷◌, [], All, IfErr, IfOk, OnOk, length, map, string_bytes};
+ghost use Rattle.edge_findings.specs.AllFindings.{IsAllOf};
+ghost use Rattle.edge_findings.specs.MinimalCell.{IsMinimalCell};
+ghost use Rattle.history_spec.specs.Steps.{finding_limit};
+ghost use Rattle.plain_replay.specs.Requests.{IsRunnable};
+ghost use Rattle.text_spec.specs.OrderLine.{order_of};
+ghost use Rattle.enc_top.specs.Inputs.{CellIs, FileIs, IsAmong, IsInputStatus, IsJudged, IsJudgedScript, OrderIs, ScriptIs, ScriptsAre, Tells, cell_in, order_in, quotas_of as quotas_of_lem};
+ghost use Rattle.enc_top.specs.Refused.{IsRefusal};
+
+use crate::input::{InputRefusal, read_file};
+use crate::status::Status;
+use cell_read::{MinimalRefusal, read_minimal_cell};
+use edge_findings::{FindingRefusal, Findings, find_all};
+use enc_outside::Shelf;
+use order_text::{Order, OrderRefusal, read_order};
+use plain_history::FINDING_LIMIT;
+use s57_types::{Cell, Text};
+use script_text::{MinimalScriptRefusal, Script, read_minimal_script};
+use std::alloc::{AllocError, Global};
+
+/// How many bytes a cell file may have.
+const CELL_LIMIT: usize = 16_777_216;
+
+/// How many bytes a script file may have.
+const SCRIPT_LIMIT: usize = 1_048_576;
+
+/// How many bytes an order file may have.
+const ORDER_LIMIT: usize = 4_194_304;
+
+/// A cell with its findings.
+#[derive(Debug, Drop)]
+pub struct Checked {
+    pub cell: Cell,
+    pub findings: Findings,
+}
+
+/// The status of a refused input.
+fn refused(alloc: Global, name: &str, refusal: InputRefusal) -> Status
+    ensures { IsRefusal name.now refusal result }
+{
+    let Ok(name) = Vec::from_slice(alloc, name.as_bytes()) else {
+        return Status::NoMemory;
+    };
+    let name = Text::of_vec(name);
+    match refusal {
+        InputRefusal::Absent => Status::Absent(name),
+        InputRefusal::ReadFault => Status::ReadFault(name),
+        InputRefusal::TooLarge => Status::TooLarge(name),
+        InputRefusal::NoMemory => Status::NoMemory,
+    }
+}
+
+/// The bytes of an input file.
+fn read_input<H: Shelf>(
+    alloc: Global,
+    shelf: &mut H,
+    name: &str,
+    limit: usize,
+) -> Result<Vec<u8>, Status>
+    requires { limit < 2 ^ 32 }
+    ensures tells { Tells (λ bytes. bytes.items) (FileIs limit name.now) (H.files shelf.old) (H.read_faults shelf.old) (H.read_faults shelf.new) result }
+    ensures status { IfErr result (IsInputStatus (λ n. n ≡ name.now)) }
+    ensures within { IfOk result (λ bytes. length bytes.items ≤ limit) }
+    ensures files { H.files shelf.new ≡ H.files shelf.old }
+    ensures read_faults { H.read_faults shelf.old ≤ H.read_faults shelf.new }
+    ensures write_faults { H.write_faults shelf.new ≡ H.write_faults shelf.old }
+{
+    match read_file(alloc, shelf, name, limit) {
+        Ok(bytes) => Ok(bytes),
+        Err(refusal) => Err(refused(alloc, name, refusal)),
+    }
+}
+
+/// The cell of a minimal file, with its findings.
+fn judge_cell(alloc: Global, bytes: &[u8]) -> Result<Checked, Status>
+    ensures judged { IsJudged (λ checked. checked.cell) (cell_in bytes.now) result }
+    ensures minimal { IfOk result (λ checked. IsMinimalCell checked.cell) }
+    ensures findings { IfOk result (λ checked. IsAllOf checked.cell finding_limit checked.findings) }
+    ensures status { IfErr result (IsInputStatus (λ n. ⊥)) }
+{
+    let cell = match read_minimal_cell(alloc, bytes) {
+        Ok(cell) => cell,
+        Err(MinimalRefusal::NotMinimal) => return Err(Status::NotYet),
+        Err(MinimalRefusal::NoMemory) => return Err(Status::NoMemory),
+    };
+    match find_all(alloc, &cell, FINDING_LIMIT) {
+        Ok(findings) => Ok(Checked { cell, findings }),
+        Err(FindingRefusal::TooMany) => Err(Status::TooManyFindings),
+        Err(FindingRefusal::NoMemory) => Err(Status::NoMemory),
+    }
+}
+
+/// The cell of an input file, with its findings.
+pub fn read_cell<H: Shelf>(alloc: Global, shelf: &mut H, name: &str) -> Result<Checked, Status>
+    ensures tells { Tells (λ checked. checked.cell) (CellIs name.now) (H.files shelf.old) (H.read_faults shelf.old) (H.read_faults shelf.new) result }
+    ensures minimal { IfOk result (λ checked. IsMinimalCell checked.cell) }
+    ensures findings { IfOk result (λ checked. IsAllOf checked.cell finding_limit checked.findings) }
+    ensures status { IfErr result (IsInputStatus (λ n. n ≡ name.now)) }
+    ensures files { H.files shelf.new ≡ H.files shelf.old }
+    ensures read_faults { H.read_faults shelf.old ≤ H.read_faults shelf.new }
+    ensures write_faults { H.write_faults shelf.new ≡ H.write_faults shelf.old }
+{
+    let bytes = read_input(alloc, shelf, name, CELL_LIMIT)?;
+    judge_cell(alloc, &bytes)
+}
+
+/// The script that bytes are.
+fn judge_script(alloc: Global, bytes: &[u8]) -> Result<Script, Status>
+    ensures judged { IsJudgedScript bytes.now result }
+    ensures runnable { IfOk result IsRunnable }
+    ensures status { IfErr result (IsInputStatus (λ n. ⊥)) }
+{
+    match read_minimal_script(alloc, bytes) {
+        Ok(script) => Ok(script),
+        Err(MinimalScriptRefusal::NotMinimal) => Err(Status::NotYet),
+        Err(MinimalScriptRefusal::NoMemory) => Err(Status::NoMemory),
+    }
+}
+
+/// The script of an input file.
+fn read_script<H: Shelf>(alloc: Global, shelf: &mut H, name: &str) -> Result<Script, Status>
+    ensures tells { Tells (λ script. script) (ScriptIs name.now) (H.files shelf.old) (H.read_faults shelf.old) (H.read_faults shelf.new) result }
+    ensures runnable { IfOk result IsRunnable }
+    ensures status { IfErr result (IsInputStatus (λ n. n ≡ name.now)) }
+    ensures files { H.files shelf.new ≡ H.files shelf.old }
+    ensures read_faults { H.read_faults shelf.old ≤ H.read_faults shelf.new }
+    ensures write_faults { H.write_faults shelf.new ≡ H.write_faults shelf.old }
+{
+    let bytes = read_input(alloc, shelf, name, SCRIPT_LIMIT)?;
+    judge_script(alloc, &bytes)
+}
+
+/// Appends a script.
+fn push_script(scripts: &mut Vec<Script>, script: Script) -> Result<(), AllocError>
+    ensures { OnOk result (scripts.new.items ≡ scripts.old.items ++ script ∷ []) }
+{
+    scripts.push(script)?;
+    Ok(())
+}
+
+/// The scripts of input files, in order.
+pub fn read_scripts<H: Shelf>(
+    alloc: Global,
+    shelf: &mut H,
+    names: &[String],
+) -> Result<Vec<Script>, Status>
+    ensures tells { Tells (λ scripts. scripts.items) (ScriptsAre (map string_bytes names.now)) (H.files shelf.old) (H.read_faults shelf.old) (H.read_faults shelf.new) result }
+    ensures many { IfOk result (λ scripts. length scripts.items ≡ length names.now) }
+    ensures runnable { IfOk result (λ scripts. All IsRunnable scripts.items) }
+    ensures status { IfErr result (IsInputStatus (IsAmong (map string_bytes names.now))) }
+    ensures files { H.files shelf.new ≡ H.files shelf.old }
+    ensures read_faults { H.read_faults shelf.old ≤ H.read_faults shelf.new }
+    ensures write_faults { H.write_faults shelf.new ≡ H.write_faults shelf.old }
+{
+    let mut scripts = Vec::new(alloc);
+    for name in names {
+        let script = match read_script(alloc, shelf, name.as_str()) {
+            Ok(script) => script,
+            Err(status) => return Err(status),
+        };
+        push_script(&mut scripts, script)?;
+    }
+    Ok(scripts)
+}
+
+/// How many views and commits each script has.
+pub fn quotas_of(alloc: Global, scripts: &[Script]) -> Result<Vec<u32>, AllocError>
+    ensures { IfOk result (λ quotas. quotas.items ≡ quotas_of_lem scripts.now) }
+{
+    let mut quotas = Vec::new(alloc);
+    for script in scripts {
+        quotas.push(script.shared())?;
+    }
+    Ok(quotas)
+}
+
+/// The order that bytes are.
+fn judge_order(alloc: Global, bytes: &[u8], quotas: &[u32]) -> Result<Order, Status>
+    requires short { length bytes.now < 2 ^ 32 }
+    requires few { length quotas.now < 2 ^ 32 }
+    ensures judged { IsJudged (λ order. order) (order_in (order_of quotas.now bytes.now)) result }
+    ensures sessions { IfOk result (All (λ session. (1 ≤ session) × (session ≤ length quotas.now))) }
+    ensures status { IfErr result (IsInputStatus (λ n. ⊥)) }
+{
+    match read_order(alloc, bytes, quotas) {
+        Ok(order) => Ok(order),
+        Err(OrderRefusal::BadPlace(place)) => Err(Status::BadOrder(place)),
+        Err(OrderRefusal::NoMemory) => Err(Status::NoMemory),
+    }
+}
+
+/// The order of an input file.
+pub fn read_sessions<H: Shelf>(
+    alloc: Global,
+    shelf: &mut H,
+    name: &str,
+    quotas: &[u32],
+) -> Result<Order, Status>
+    requires few { length quotas.now < 2 ^ 32 }
+    ensures tells { Tells (λ order. order) (OrderIs quotas.now name.now) (H.files shelf.old) (H.read_faults shelf.old) (H.read_faults shelf.new) result }
+    ensures sessions { IfOk result (All (λ session. (1 ≤ session) × (session ≤ length quotas.now))) }
+    ensures status { IfErr result (IsInputStatus (λ n. n ≡ name.now)) }
+    ensures files { H.files shelf.new ≡ H.files shelf.old }
+    ensures read_faults { H.read_faults shelf.old ≤ H.read_faults shelf.new }
+    ensures write_faults { H.write_faults shelf.new ≡ H.write_faults shelf.old }
+{
+    let bytes = read_input(alloc, shelf, name, ORDER_LIMIT)?;
+    judge_order(alloc, &bytes, quotas)
+}
