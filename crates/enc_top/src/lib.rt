@@ -10,3 +10,6 @@ mod words;
 
 pub use status::{Status, print_status};
 pub use top::{run, run_plain};
+
+#[cfg(test)]
+mod tests;

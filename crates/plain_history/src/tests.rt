@@ -1,11 +1,5 @@
-ghost use Rattle.std.specs.Prelude.{◌≡◌, true};
-ghost use Rattle.std.specs.List.{list_all};
-ghost use Rattle.text_spec.specs.EditLine.{is_minimal_edit};
-ghost use Rattle.edge_findings.specs.MinimalCell.{IsMinimalCell};
-
 use super::*;
 use cell_spec::Edit;
-use edge_findings::find_all;
 use edit_sets::{EditSet, FormRefusal};
 use history_spec::Reply;
 use plain_lookups::name_of;
@@ -61,9 +55,7 @@ fn head(alloc: Global) -> Head {
     }
 }
 
-fn empty_cell(alloc: Global) -> Cell
-    ensures { IsMinimalCell result }
-{
+fn empty_cell(alloc: Global) -> Cell {
     Cell {
         head: head(alloc),
         vi: Recs::make(alloc),
@@ -78,18 +70,6 @@ fn set(alloc: Global, edits: &[Edit]) -> Result<EditSet, FormRefusal> {
         return Err(FormRefusal::NoMemory);
     }
     EditSet::make(alloc, edits, 0)
-}
-
-/// What a test tells of a reply: whether it is the answer to a view, a fault of form, a clash, a refusal or an
-/// acceptance, and its first number.
-fn told(reply: &Reply) -> (&'static str, u32) {
-    match reply {
-        Reply::Viewed { number, .. } => ("viewed", *number),
-        Reply::Formed(_) => ("formed", 0),
-        Reply::Newer { number, .. } => ("newer", *number),
-        Reply::Refused(_) => ("refused", 0),
-        Reply::Accepted { number, .. } => ("accepted", *number),
-    }
 }
 
 #[test]
@@ -128,31 +108,5 @@ fn a_commit_clashes_with_the_first_newer_one(rt: HostRuntime) -> Result<(), Fail
     };
     assert_eq!(rt; clash, Some((1, name(1), 7)));
     assert!(rt; newer_answer(alloc, &commits, 2, &edits)?.is_none());
-    Ok(())
-}
-
-/// Edits that delete a connected node.
-fn deletion(id: u32) -> [Edit; 1]
-    ensures { list_all is_minimal_edit result ≡ true }
-{
-    [Edit::Del(RecName { kind: Kind::Vc, id })]
-}
-
-#[test]
-fn a_desk_is_answered(rt: HostRuntime) -> Result<(), Fail> {
-    let alloc = rt.alloc();
-    let cell = empty_cell(alloc);
-    let findings = find_all(alloc, &cell, FINDING_LIMIT)?;
-    let mut history = History::open(alloc, cell, findings);
-    assert_eq!(rt; told(&history.view(1)?), ("viewed", 0));
-    assert_eq!(rt;
-        told(&history.offer(alloc, 2, &deletion(5))?),
-        ("refused", 0)
-    );
-    assert_eq!(rt; told(&history.offer(alloc, 1, &[])?), ("formed", 0));
-    assert_eq!(rt;
-        history.cell().vc.len() + history.findings().len() + history.commits().len(),
-        0
-    );
     Ok(())
 }

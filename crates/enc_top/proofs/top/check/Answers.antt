@@ -15,6 +15,6 @@ returns-clause-asked g c =
     let form = one_word c.args.others.now c.name-item.result one c.name-item.is ∙ ap check_form (sym c.as_str.ensures.value) in
     let cell = c.in-Ok.checked.cell in
     let text : c.push_cell.new.out.items ≡ cell_text built_kinds cell =
-        c.in_ok-push_cell.ensures (all_findings built_kinds cell) c.in-Ok.ensures.findings.all ∙ ap (λ before. before ++ text_with cell (all_findings built_kinds cell)) c.new-text.ensures.items in
+    c.in_ok-push_cell.ensures (all_findings built_kinds cell) c.in-Ok.ensures.findings.all ∙ ap (λ before. before ++ text_with cell (all_findings built_kinds cell)) c.new-text.ensures.items in
     let told = both_told (g.H.Shelf.files c.args.shelf.now) c.in-Ok.ensures.tells c.in-Ok.ensures.tells (λ fs step _. inl (cell, step, ap Ok text)) in
     subst (λ f. IsOutput f c.push_cell.new.out.items × IfSome (g.H.Shelf.files c.args.shelf.now) (λ fs. OutputIs f fs (Ok c.push_cell.new.out.items))) (sym form) ((cell, text), told)

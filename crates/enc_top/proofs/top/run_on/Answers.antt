@@ -19,10 +19,10 @@ pub returns-clause-tells : goal.returns-clause-tells
 returns-clause-tells g c =
     let names = map string_bytes c.args.names.now in
     let tells =
-        subst (λ files. Tells (λ (text : Vec ℕ Global). text.items) (OrderedRunIs c.args.checked.cell c.args.order.now c.in-Ok.scripts.items) files (g.H.Shelf.read_faults c.read_scripts.new.shelf) (g.H.Shelf.read_faults c.run_in_order_of.new.shelf) c.run_in_order_of.result)
-            c.in-Ok.ensures.files
-        (subst (λ scripts. Tells (λ (text : Vec ℕ Global). text.items) (OrderedRunIs c.args.checked.cell c.args.order.now scripts) (g.H.Shelf.files c.read_scripts.new.shelf) (g.H.Shelf.read_faults c.read_scripts.new.shelf) (g.H.Shelf.read_faults c.run_in_order_of.new.shelf) c.run_in_order_of.result)
-            c.deref.ensures.value c.run_in_order_of.ensures.tells) in
+    subst (λ files. Tells (λ (text : Vec ℕ Global). text.items) (OrderedRunIs c.args.checked.cell c.args.order.now c.in-Ok.scripts.items) files (g.H.Shelf.read_faults c.read_scripts.new.shelf) (g.H.Shelf.read_faults c.run_in_order_of.new.shelf) c.run_in_order_of.result)
+    c.in-Ok.ensures.files
+    (subst (λ scripts. Tells (λ (text : Vec ℕ Global). text.items) (OrderedRunIs c.args.checked.cell c.args.order.now scripts) (g.H.Shelf.files c.read_scripts.new.shelf) (g.H.Shelf.read_faults c.read_scripts.new.shelf) (g.H.Shelf.read_faults c.run_in_order_of.new.shelf) c.run_in_order_of.result)
+    c.deref.ensures.value c.run_in_order_of.ensures.tells) in
     tells_last (λ (text : Vec ℕ Global). text.items) (OrderedRunIs c.args.checked.cell c.args.order.now c.in-Ok.scripts.items) (RunIs c.args.checked.cell c.args.order.now names) (λ fs. ScriptsAre names fs (Ok c.in-Ok.scripts.items))
     (g.H.Shelf.files c.args.shelf.now) (g.H.Shelf.read_faults c.args.shelf.now) (g.H.Shelf.read_faults c.read_scripts.new.shelf) (g.H.Shelf.read_faults c.run_in_order_of.new.shelf) c.run_in_order_of.result
     c.in-Ok.ensures.read_faults c.in-Ok.ensures.tells (λ fs answer good step. inl (c.in-Ok.scripts.items, good, step)) tells

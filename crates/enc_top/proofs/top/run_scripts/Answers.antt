@@ -21,7 +21,7 @@ returns-in-Err-clause-asked g c =
     (asked_status (λ (text : Vec ℕ Global). text.items) form (g.H.Shelf.files c.args.shelf.now) (g.H.Shelf.read_faults c.args.shelf.now) (g.H.Shelf.read_faults c.read_cell.new.shelf) c.in-Err.status tt
     (status_of_more (λ n. n ≡ c.as_str.result.now) (IsInputOf form) c.in-Err.status (λ n same. inl same) c.in-Err.ensures.status)
     (tells_first (λ (checked : Checked). checked.cell) (λ (text : Vec ℕ Global). text.items) (CellIs c.as_str.result.now) (OutputIs form)
-        (g.H.Shelf.files c.args.shelf.now) (g.H.Shelf.read_faults c.args.shelf.now) (g.H.Shelf.read_faults c.read_cell.new.shelf) c.in-Err.status (λ fs bad. inr (c.in-Err.status, bad, refl)) c.in-Err.ensures.tells))
+    (g.H.Shelf.files c.args.shelf.now) (g.H.Shelf.read_faults c.args.shelf.now) (g.H.Shelf.read_faults c.read_cell.new.shelf) c.in-Err.status (λ fs bad. inr (c.in-Err.status, bad, refl)) c.in-Err.ensures.tells))
 
 pub returns-clause-asked : goal.returns-clause-asked
 returns-clause-asked g c =
@@ -33,11 +33,11 @@ returns-clause-asked g c =
     let is : replay_among (map string_bytes c.args.others.now) ≡ form = words.1 ∙ (λ i. replay_form (sym c.as_str.ensures.value i) words.0 (sym c.as_str-2.ensures.value i) (map string_bytes names)) in
     let cell = c.in-Ok.checked.cell in
     let tells = subst (λ files. Tells (λ (text : Vec ℕ Global). text.items) (RunIs cell c.as_str-2.result.now (map string_bytes names)) files (g.H.Shelf.read_faults c.read_cell.new.shelf) (g.H.Shelf.read_faults c.run_on.new.shelf) c.run_on.result)
-            c.in-Ok.ensures.files c.run_on.ensures.tells in
+    c.in-Ok.ensures.files c.run_on.ensures.tells in
     subst (λ f. IsAskedBy f (g.H.Shelf.files c.args.shelf.now) (g.H.Shelf.read_faults c.args.shelf.now) (g.H.Shelf.read_faults c.run_on.new.shelf) c.run_on.result) (sym is)
     (asked_answer form (g.H.Shelf.files c.args.shelf.now) (g.H.Shelf.read_faults c.args.shelf.now) (g.H.Shelf.read_faults c.run_on.new.shelf) c.run_on.result tt
     (if_ok_more (λ (text : Vec ℕ Global). IsReportOf cell text.items) (λ (text : Vec ℕ Global). IsOutput form text.items) c.run_on.result (λ text report. (cell, report)) c.run_on.ensures.report)
     (if_err_more (λ n. (n ≡ c.as_str-2.result.now) ⊎ IsAmong (map string_bytes names) n) (IsInputOf form) c.run_on.result (λ n other. inr other) c.run_on.ensures.status)
     (tells_last (λ (text : Vec ℕ Global). text.items) (RunIs cell c.as_str-2.result.now (map string_bytes names)) (OutputIs form) (λ fs. CellIs c.as_str.result.now fs (Ok cell))
-        (g.H.Shelf.files c.args.shelf.now) (g.H.Shelf.read_faults c.args.shelf.now) (g.H.Shelf.read_faults c.read_cell.new.shelf) (g.H.Shelf.read_faults c.run_on.new.shelf) c.run_on.result
-        c.in-Ok.ensures.read_faults c.in-Ok.ensures.tells (λ fs answer good step. inl (cell, good, step)) tells))
+    (g.H.Shelf.files c.args.shelf.now) (g.H.Shelf.read_faults c.args.shelf.now) (g.H.Shelf.read_faults c.read_cell.new.shelf) (g.H.Shelf.read_faults c.run_on.new.shelf) c.run_on.result
+    c.in-Ok.ensures.read_faults c.in-Ok.ensures.tells (λ fs answer good step. inl (cell, good, step)) tells))
