@@ -68,7 +68,7 @@ leaves_fit nall (Set s) fit = fit
 leaves_fit nall (Del n) fit = tt
 
 -- the lists of a cell
-each_of_kind : (P : Rec → Type 0) (kind : Kind) (c : Cell) → AllByRecursion P (all_records c) → AllByRecursion P (list_of_kind kind c)
+pub each_of_kind : (P : Rec → Type 0) (kind : Kind) (c : Cell) → AllByRecursion P (all_records c) → AllByRecursion P (list_of_kind kind c)
 each_of_kind P Vi c all = each_front P c.vi c.vc (each_front P (c.vi ++ c.vc) c.ve (each_front P (c.vi ++ c.vc ++ c.ve) c.fe all))
 each_of_kind P Vc c all = each_back P c.vi c.vc (each_front P (c.vi ++ c.vc) c.ve (each_front P (c.vi ++ c.vc ++ c.ve) c.fe all))
 each_of_kind P Ve c all = each_back P (c.vi ++ c.vc) c.ve (each_front P (c.vi ++ c.vc ++ c.ve) c.fe all)

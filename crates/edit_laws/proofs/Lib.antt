@@ -5,3 +5,6 @@ pub mod EditedLists
 pub mod EditedCell
 pub mod Refusals
 pub mod Runs
+pub mod TypedEdits
+pub mod TypedRequests
+pub mod TypedRuns

@@ -1,7 +1,7 @@
 -- A run of scripts leaves a writable cell.
 use Rattle.std.proofs.Common.{◌≡◌, ℕ, ◌+◌, Bool, true, false, List, [], ◌∷◌, length, Option, None, Some, refl, sym, ap, subst, ◌∙◌}
 use Rattle.std.specs.Prelude.{IfSome, drop, filter_map}
-use Rattle.std.specs.List.{cons_option, enumerate_from}
+use Rattle.std.specs.List.{AllByRecursion, cons_option, enumerate_from}
 use Rattle.std.specs.Option.{option_map, option_map_or, option_and_then}
 use Rattle.s57_types.specs.declared.name.RecName.{RecName}
 use Rattle.s57_types.specs.declared.cell.Cell.{Cell}
@@ -64,33 +64,55 @@ clashes_are_other edits (c ∷ commits) =
 taken_when_none : (asked : List ℕ) (c : Cell) (edits : List Edit) → state_refusal asked c edits ≡ None → is_applicable edits c ≡ true
 taken_when_none asked c edits none = sym (refusals_are_exact asked c edits) ∙ ap is_taken none
 
-kept_by_other : (desk : ℕ) (event : Event) (reply : Reply) (h : History) → IsWritable h.cell → IsOther reply → IsWritable (left_after desk event reply h).cell
-kept_by_other desk event reply h w other = subst IsWritable (sym (other_keeps desk event reply h other)) w
+-- what a shared command offers has a property
+abbrev pub Offers : (List Edit → Type 0) → Request → Type 0
+Offers Good see = Unit {0}
+Offers Good (offer draft) = Good draft
 
-commit_keeps : (asked : List ℕ) (h : History) (desk base : ℕ) (edits : List Edit) → IsWritable h.cell → form_fault h.cell.head.nall edits ≡ None
-    → IsWritable (left_after desk (commit base edits) (commit_answer asked h base edits) h).cell
-commit_keeps asked h desk base edits w no_fault =
-    by (newer_answer h.commits base edits) (clashes_are_other edits (drop base (enumerate_from 1 h.commits))) (state_refusal asked h.cell edits) refl
-  where
-    by : (newer : Option Reply) → IfSome newer IsOther → (refusal : Option StateRefusal) → state_refusal asked h.cell edits ≡ refusal
-        → IsWritable (left_after desk (commit base edits) (option_map_or (λ reply. reply) newer (option_map_or Refused refusal (Accepted (length h.commits + 1) (finding_total asked (apply_edits edits h.cell))))) h).cell
-    by (Some reply) other refusal is = kept_by_other desk (commit base edits) reply h w other
-    by None other (Some refusal) is = w
-    by None other None is = edits_keep_writable h.cell edits w no_fault (taken_when_none asked h.cell edits is)
+-- what the edits that a cell takes keep of it, a run keeps
+module _ (P : Cell → Type 0) (Good : List Edit → Type 0)
+    (keeps : (d : Cell) (edits : List Edit) → P d → Good edits → form_fault d.head.nall edits ≡ None → is_applicable edits d ≡ true → P (apply_edits edits d)) where
+  kept_by_other : (desk : ℕ) (event : Event) (reply : Reply) (h : History) → P h.cell → IsOther reply → P (left_after desk event reply h).cell
+  kept_by_other desk event reply h here other = subst P (sym (other_keeps desk event reply h other)) here
 
-offer_keeps : (asked : List ℕ) (h : History) (desk base : ℕ) (draft : List Edit) → IsWritable h.cell → (fault : Option FormFault) → form_fault h.cell.head.nall draft ≡ fault
-    → IsWritable (left_after desk (option_map_or faulty fault (commit base draft)) (answer asked h (option_map_or faulty fault (commit base draft))) h).cell
-offer_keeps asked h desk base draft w (Some fault) is = w
-offer_keeps asked h desk base draft w None is = commit_keeps asked h desk base draft w is
+  commit_keeps : (asked : List ℕ) (h : History) (desk base : ℕ) (edits : List Edit) → P h.cell → Good edits → form_fault h.cell.head.nall edits ≡ None
+      → P (left_after desk (commit base edits) (commit_answer asked h base edits) h).cell
+  commit_keeps asked h desk base edits here good no_fault =
+      by (newer_answer h.commits base edits) (clashes_are_other edits (drop base (enumerate_from 1 h.commits))) (state_refusal asked h.cell edits) refl
+    where
+      by : (newer : Option Reply) → IfSome newer IsOther → (refusal : Option StateRefusal) → state_refusal asked h.cell edits ≡ refusal
+          → P (left_after desk (commit base edits) (option_map_or (λ reply. reply) newer (option_map_or Refused refusal (Accepted (length h.commits + 1) (finding_total asked (apply_edits edits h.cell))))) h).cell
+      by (Some reply) other refusal is = kept_by_other desk (commit base edits) reply h here other
+      by None other (Some refusal) is = here
+      by None other None is = keeps h.cell edits here good no_fault (taken_when_none asked h.cell edits is)
 
-request_keeps : (asked : List ℕ) (h : History) (desk : ℕ) (request : Request) → IsWritable h.cell → IsWritable (request_step asked h (desk, request)).1.cell
-request_keeps asked h desk see w = w
-request_keeps asked h desk (offer draft) w = offer_keeps asked h desk (h.bases desk) draft w (form_fault h.cell.head.nall draft) refl
+  offer_keeps : (asked : List ℕ) (h : History) (desk base : ℕ) (draft : List Edit) → P h.cell → Good draft → (fault : Option FormFault) → form_fault h.cell.head.nall draft ≡ fault
+      → P (left_after desk (option_map_or faulty fault (commit base draft)) (answer asked h (option_map_or faulty fault (commit base draft))) h).cell
+  offer_keeps asked h desk base draft here good (Some fault) is = here
+  offer_keeps asked h desk base draft here good None is = commit_keeps asked h desk base draft here good is
 
-requests_keep : (asked : List ℕ) (h : History) (requests : List (ℕ × Request)) → IsWritable h.cell → IsWritable (history_after asked h requests).cell
-requests_keep asked h [] w = w
-requests_keep asked h (request ∷ requests) w = requests_keep asked (request_step asked h request).1 requests (request_keeps asked h request.0 request.1 w)
+  request_keeps : (asked : List ℕ) (h : History) (desk : ℕ) (request : Request) → P h.cell → Offers Good request → P (request_step asked h (desk, request)).1.cell
+  request_keeps asked h desk see here good = here
+  request_keeps asked h desk (offer draft) here good = offer_keeps asked h desk (h.bases desk) draft here good (form_fault h.cell.head.nall draft) refl
+
+  pub requests_keep : (asked : List ℕ) (h : History) (requests : List (ℕ × Request)) → P h.cell → AllByRecursion (λ (r : ℕ × Request). Offers Good r.1) requests → P (history_after asked h requests).cell
+  requests_keep asked h [] here good = here
+  requests_keep asked h (request ∷ requests) here good = requests_keep asked (request_step asked h request).1 requests (request_keeps asked h request.0 request.1 here good.0) good.1
+
+-- any edits
+AnyEdits : List Edit → Type 0
+AnyEdits edits = Unit {0}
+
+any_offer : (request : Request) → Offers AnyEdits request
+unfolding AnyEdits
+any_offer see = tt
+any_offer (offer draft) = tt
+
+any_offers : (requests : List (ℕ × Request)) → AllByRecursion (λ (r : ℕ × Request). Offers AnyEdits r.1) requests
+any_offers [] = tt
+any_offers (request ∷ requests) = (any_offer request.1, any_offers requests)
 
 pub runs_leave_writable : RunsLeaveWritable
 unfolding final_cell
-runs_leave_writable asked c scripts order w = requests_keep asked (opening c) (ordered_requests scripts order) w
+runs_leave_writable asked c scripts order w =
+    requests_keep IsWritable AnyEdits (λ d edits here good no_fault taken. edits_keep_writable d edits here no_fault taken) asked (opening c) (ordered_requests scripts order) w (any_offers (ordered_requests scripts order))

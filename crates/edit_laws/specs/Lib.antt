@@ -1,1 +1,2 @@
 pub mod KeptWritable
+pub mod ReadBackAfterRuns
