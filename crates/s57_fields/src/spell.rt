@@ -2,14 +2,14 @@
 
 ghost use Rattle.std.specs.Prelude.{◌≡◌, ◌++◌, OnOk};
 ghost use Rattle.std.specs.Int.{bytes_low_first};
-ghost use Rattle.s57_types.specs.Subfield.{row_bytes, spelling};
+ghost use Rattle.s57_types.specs.Subfield.{signed_of, row_bytes, spelling};
 ghost use Rattle.s57_fields.specs.Spelling.{subfield_of, row_of};
 
 use crate::cut::UNIT_TERMINATOR;
 use byteorder::{ByteOrder, LittleEndian};
 use std::alloc::AllocError;
 
-/// A subfield to write.
+/// A subfield to write, but for signed numbers.
 #[derive(Clone, Copy)]
 pub enum Value<'a> {
     /// A number of one byte, b11.
@@ -18,8 +18,6 @@ pub enum Value<'a> {
     Short(u16),
     /// A number of four bytes, b14.
     Long(u32),
-    /// A signed number of four bytes, b24.
-    Signed(i32),
     /// A text that ends with the unit terminator, A.
     Text(&'a [u8]),
     /// A text of two-byte units that ends with a unit of its own.
@@ -46,6 +44,13 @@ fn long_bytes(n: u32) -> [u8; 4]
     bytes
 }
 
+/// Appends a signed number of four bytes, b24.
+pub fn put_signed(n: i32, out: &mut Vec<u8>) -> Result<(), AllocError>
+    ensures { OnOk result (out.new.items ≡ out.old.items ++ spelling (signed_of n)) }
+{
+    out.extend_from_slice(&long_bytes(n.cast_unsigned()))
+}
+
 /// Appends a subfield.
 fn put_value(value: Value<'_>, out: &mut Vec<u8>) -> Result<(), AllocError>
     ensures { OnOk result (out.new.items ≡ out.old.items ++ spelling (subfield_of value.entry)) }
@@ -54,7 +59,6 @@ fn put_value(value: Value<'_>, out: &mut Vec<u8>) -> Result<(), AllocError>
         Value::Byte(n) => out.push(n)?,
         Value::Short(n) => out.extend_from_slice(&short_bytes(n))?,
         Value::Long(n) => out.extend_from_slice(&long_bytes(n))?,
-        Value::Signed(n) => out.extend_from_slice(&long_bytes(n.cast_unsigned()))?,
         Value::Text(text) => {
             out.extend_from_slice(text)?;
             out.push(UNIT_TERMINATOR)?;
