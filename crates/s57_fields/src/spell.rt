@@ -1,6 +1,6 @@
 //! The spelling of subfields (S-57 Part 3, 7.2.2).
 
-ghost use Rattle.std.specs.Prelude.{◌≡◌, ◌++◌, OnOk};
+ghost use Rattle.std.specs.Prelude.{◌≡◌, ◌++◌, ◌∷◌, [], OnOk};
 ghost use Rattle.std.specs.Int.{bytes_low_first};
 ghost use Rattle.s57_types.specs.Subfield.{signed_of, row_bytes, spelling};
 ghost use Rattle.s57_fields.specs.Spelling.{subfield_of, row_of};
@@ -44,11 +44,30 @@ fn long_bytes(n: u32) -> [u8; 4]
     bytes
 }
 
-/// Appends a signed number of four bytes, b24.
-pub fn put_signed(n: i32, out: &mut Vec<u8>) -> Result<(), AllocError>
-    ensures { OnOk result (out.new.items ≡ out.old.items ++ spelling (signed_of n)) }
+/// The bytes of a signed number, b24.
+fn signed_bytes(n: i32) -> [u8; 4]
+    ensures { result ≡ spelling (signed_of n) }
 {
-    out.extend_from_slice(&long_bytes(n.cast_unsigned()))
+    long_bytes(n.cast_unsigned())
+}
+
+/// Appends two signed numbers of four bytes, b24.
+pub fn put_two_signed(a: i32, b: i32, out: &mut Vec<u8>) -> Result<(), AllocError>
+    ensures { OnOk result (out.new.items ≡ out.old.items ++ row_bytes (signed_of a ∷ signed_of b ∷ [])) }
+{
+    let [a0, a1, a2, a3] = signed_bytes(a);
+    let [b0, b1, b2, b3] = signed_bytes(b);
+    out.extend_from_slice(&[a0, a1, a2, a3, b0, b1, b2, b3])
+}
+
+/// Appends three signed numbers of four bytes, b24.
+pub fn put_three_signed(a: i32, b: i32, c: i32, out: &mut Vec<u8>) -> Result<(), AllocError>
+    ensures { OnOk result (out.new.items ≡ out.old.items ++ row_bytes (signed_of a ∷ signed_of b ∷ signed_of c ∷ [])) }
+{
+    let [a0, a1, a2, a3] = signed_bytes(a);
+    let [b0, b1, b2, b3] = signed_bytes(b);
+    let [c0, c1, c2, c3] = signed_bytes(c);
+    out.extend_from_slice(&[a0, a1, a2, a3, b0, b1, b2, b3, c0, c1, c2, c3])
 }
 
 /// Appends a subfield.

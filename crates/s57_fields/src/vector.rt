@@ -2,7 +2,7 @@
 
 ghost use Rattle.std.specs.Prelude.{◌≡◌, ◌<◌, ◌++◌, MatchOption, IfSome, OnOk, OnErr, true, false, [], ◌∷◌, length};
 ghost use Rattle.std.specs.Option.{option_map};
-ghost use Rattle.s57_types.specs.Subfield.{unsigned_of, row_bytes};
+ghost use Rattle.s57_types.specs.Subfield.{unsigned_of};
 ghost use Rattle.s57_types.specs.FieldRows.{vrid_forms, end_forms, plane_forms, deep_forms, attribute_row, end_row, plane_row, deep_row, vrid_row, rcnm_of as rcnm_number};
 ghost use Rattle.field_spec.specs.Cutting.{field_row};
 ghost use Rattle.field_spec.specs.Contents.{attribute_content, end_content, plane_content, deep_content, vrid_content, is_vector_rcnm, kind_of_rcnm, names_a_vector, any_row, end_value, plane_value, deep_value};
@@ -13,7 +13,7 @@ ghost use Rattle.s57_fields.specs.RowCutting.{take_row};
 use crate::cut::{field_body, take_i32, take_u8, take_u16, take_u32};
 use crate::refusal::FieldRefusal;
 use crate::rows::{FieldRow, read_rows};
-use crate::spell::{Value, put_row, put_signed};
+use crate::spell::{Value, put_row, put_three_signed, put_two_signed};
 use crate::write::{write_row, write_rows};
 use s57_types::{Attrs, Deep, End, Ends, Kind, Plane, RecName, Vrid};
 use std::alloc::{AllocError, Global};
@@ -197,14 +197,6 @@ fn cut_plane(bytes: &[u8]) -> Option<((i32, i32), &[u8])>
     Some(((y, x), rest))
 }
 
-/// Appends a latitude and a longitude.
-fn put_point(y: i32, x: i32, out: &mut Vec<u8>) -> Result<(), AllocError>
-    ensures { OnOk result (out.new.items ≡ out.old.items ++ row_bytes (plane_row (y, x))) }
-{
-    put_signed(y, out)?;
-    put_signed(x, out)
-}
-
 impl FieldRow for (i32, i32) {
     ghost use Rattle.s57_types.specs.FieldRows.{plane_forms, plane_row};
     ghost use Rattle.field_spec.specs.Contents.{any_row, plane_value};
@@ -233,7 +225,7 @@ impl FieldRow for (i32, i32) {
     }
 
     fn put(&self, _level: u8, out: &mut Vec<u8>) -> Result<(), AllocError> {
-        put_point(self.0, self.1, out)
+        put_two_signed(self.0, self.1, out)
     }
 }
 
@@ -265,14 +257,6 @@ fn cut_deep(bytes: &[u8]) -> Option<((i32, i32, i32), &[u8])>
     Some(((y, x, depth), rest))
 }
 
-/// Appends a latitude, a longitude and a depth.
-fn put_sounding(y: i32, x: i32, depth: i32, out: &mut Vec<u8>) -> Result<(), AllocError>
-    ensures { OnOk result (out.new.items ≡ out.old.items ++ row_bytes (deep_row (y, x, depth))) }
-{
-    put_point(y, x, out)?;
-    put_signed(depth, out)
-}
-
 impl FieldRow for (i32, i32, i32) {
     ghost use Rattle.s57_types.specs.FieldRows.{deep_forms, deep_row};
     ghost use Rattle.field_spec.specs.Contents.{any_row, deep_value};
@@ -301,7 +285,7 @@ impl FieldRow for (i32, i32, i32) {
     }
 
     fn put(&self, _level: u8, out: &mut Vec<u8>) -> Result<(), AllocError> {
-        put_sounding(self.0, self.1, self.2, out)
+        put_three_signed(self.0, self.1, self.2, out)
     }
 }
 
