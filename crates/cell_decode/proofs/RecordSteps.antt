@@ -1,5 +1,5 @@
 -- What a record says, from the values of its fields.
-use Rattle.std.proofs.Common.{◌≡◌, ℕ, true, false, List, [], Option, Some, None, Result, Ok, Err, refl, sym, ap, ◌∙◌}
+use Rattle.std.proofs.Common.{◌≡◌, ℕ, true, false, List, [], Option, None, Result, Ok, Err, refl, sym, ap, ◌∙◌}
 use Rattle.frame_spec.specs.RecordFrame.{Field}
 use Rattle.s57_types.specs.declared.record.Rec.{Rec}
 use Rattle.file_spec.specs.DecodedCell.{general_information, geographic_reference, is_general_information, is_geographic_reference, vector_record, feature_record}

@@ -5,7 +5,7 @@ use Rattle.s57_fields.specs.declared.refusal.FieldRefusal.TheVariants as field
 use Rattle.s57_types.specs.declared.fault.CellFault.{CellFault}
 use Rattle.frame_spec.specs.RecordFrame.{Field}
 use Rattle.file_spec.specs.DecodedCell.{said_by_next}
-use Rattle.file_spec.specs.FileRecords.{FileRecord, records_after}
+use Rattle.file_spec.specs.FileRecords.{records_after}
 use Rattle.file_spec.specs.RecordFaults.{fault_at}
 use Rattle.file_spec.specs.declared.fault.RecordFault.{RecordFault}
 use Rattle.file_spec.specs.declared.fault.RecordFault.TheVariants as faults

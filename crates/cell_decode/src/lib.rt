@@ -1,4 +1,4 @@
-//! The whole reader of cell files: what each record says, or its first fault.
+//! The reader of cell files: the cell that a file stands for, or the file's first fault.
 #![tactic(auto)]
 
 mod fields;
@@ -12,8 +12,7 @@ mod tags;
 mod values;
 
 pub use file::read_cell;
-pub use records::{read_feature, read_record, read_vector};
-pub use refusal::{ReadRefusal, RecordRefusal};
+pub use refusal::ReadRefusal;
 
 #[cfg(test)]
 mod tests;

@@ -64,7 +64,7 @@ fn feature_from(values: FieldValues) -> Result<Rec, RecordFault>
 }
 
 /// A vector record, or its first fault.
-pub fn read_vector(alloc: Global, frame: &Frame<'_>) -> Result<Rec, RecordRefusal>
+fn read_vector(alloc: Global, frame: &Frame<'_>) -> Result<Rec, RecordRefusal>
     ensures { GivesRecord result (vector_record frame.now.fields) }
 {
     let values = match read_fields(alloc, 0, RecordType::Vector, frame) {
@@ -78,7 +78,7 @@ pub fn read_vector(alloc: Global, frame: &Frame<'_>) -> Result<Rec, RecordRefusa
 }
 
 /// A feature record, or its first fault; national attributes are at the level NALL.
-pub fn read_feature(alloc: Global, nall: u8, frame: &Frame<'_>) -> Result<Rec, RecordRefusal>
+fn read_feature(alloc: Global, nall: u8, frame: &Frame<'_>) -> Result<Rec, RecordRefusal>
     ensures { GivesRecord result (feature_record nall frame.now.fields) }
 {
     let values = match read_fields(alloc, nall, RecordType::Feature, frame) {
