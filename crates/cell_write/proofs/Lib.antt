@@ -1,2 +1,3 @@
+pub mod FitLists
 pub mod RecordBytes
 pub mod ShortRecords

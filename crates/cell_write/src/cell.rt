@@ -132,6 +132,7 @@ fn put_all_records(alloc: Global, cell: &Cell, out: &mut Vec<u8>) -> Result<(), 
 /// information are taken anew from the records, and record numbers go on from 1, modulo 65,536.
 ///
 /// An `Err` is want of memory.
+#[tactic(auto, unfolding(file_spec::specs::EncodedCell::encoded_cell))]
 pub fn write_cell(alloc: Global, cell: &Cell) -> Result<Vec<u8>, AllocError>
     requires { IsWritable cell.now }
     ensures { IfOk result (λ bytes. bytes.items ≡ encoded_cell cell.now) }
