@@ -1,5 +1,5 @@
 -- The bytes of records one after the other.
-use Rattle.std.proofs.Common.{◌≡◌, ℕ, ◌+◌, List, [], ◌∷◌, ◌++◌, length, refl, sym, ap, ◌∙◌, arith, append_assoc}
+use Rattle.std.proofs.Common.{◌≡◌, ℕ, ◌+◌, List, [], ◌∷◌, ◌++◌, length, sym, ap, ◌∙◌, arith, append_assoc}
 use Rattle.s57_types.specs.declared.record.Rec.{Rec}
 use Rattle.file_spec.specs.EncodedCell.{record_bytes, records_bytes}
 

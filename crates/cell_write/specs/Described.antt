@@ -1,5 +1,5 @@
 -- The field that a row of the table of descriptions stands for.
-use Rattle.std.specs.Prelude.{ℕ, List, [], ◌∷◌, ◌++◌}
+use Rattle.std.specs.Prelude.{ℕ, [], ◌∷◌, ◌++◌}
 use Rattle.frame_spec.specs.RecordFrame.{Field}
 use Rattle.s57_types.specs.Subfield.{unit_terminator, field_terminator}
 use Rattle.file_spec.specs.DescriptiveRecord.{level_controls}

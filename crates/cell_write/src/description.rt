@@ -245,11 +245,7 @@ fn push_descriptions(
 }
 
 /// The fields of the data descriptive record, at the levels AALL and NALL.
-pub fn descriptive_fields(
-    alloc: Global,
-    aall: u8,
-    nall: u8,
-) -> Result<Vec<OutField>, AllocError>
+pub fn descriptive_fields(alloc: Global, aall: u8, nall: u8) -> Result<Vec<OutField>, AllocError>
     ensures { IfOk result (λ fields. fields_of fields.items ≡ descriptive_fields aall nall) }
 {
     let mut fields = Vec::new(alloc);

@@ -47,11 +47,7 @@ fn object_field(alloc: Global, foid: &Lnam) -> Result<OutField, AllocError>
 }
 
 /// Appends the field ATTF, if there are attributes.
-fn push_attf(
-    alloc: Global,
-    attrs: &Attrs,
-    fields: &mut Vec<OutField>,
-) -> Result<(), AllocError>
+fn push_attf(alloc: Global, attrs: &Attrs, fields: &mut Vec<OutField>) -> Result<(), AllocError>
     ensures { OnOk result (fields_of fields.new.items ≡ fields_of fields.old.items ++ rows_field 0 (codes "ATTF") (attribute_row 0) attrs.now) }
 {
     if attrs.is_empty() {
@@ -108,11 +104,7 @@ fn push_ffpt(
 }
 
 /// Appends the field FSPT, if there are pointers to vector records.
-fn push_fspt(
-    alloc: Global,
-    places: &Places,
-    fields: &mut Vec<OutField>,
-) -> Result<(), AllocError>
+fn push_fspt(alloc: Global, places: &Places, fields: &mut Vec<OutField>) -> Result<(), AllocError>
     ensures { OnOk result (fields_of fields.new.items ≡ fields_of fields.old.items ++ rows_field 0 (codes "FSPT") place_row places.now) }
 {
     if places.is_empty() {

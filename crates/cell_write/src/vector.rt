@@ -34,11 +34,7 @@ fn identifier_field(alloc: Global, vector: &Vector) -> Result<OutField, AllocErr
 }
 
 /// Appends the field ATTV, if there are attributes.
-fn push_attv(
-    alloc: Global,
-    attrs: &Attrs,
-    fields: &mut Vec<OutField>,
-) -> Result<(), AllocError>
+fn push_attv(alloc: Global, attrs: &Attrs, fields: &mut Vec<OutField>) -> Result<(), AllocError>
     ensures { OnOk result (fields_of fields.new.items ≡ fields_of fields.old.items ++ rows_field 0 (codes "ATTV") (attribute_row 0) attrs.now) }
 {
     if attrs.is_empty() {
