@@ -18,11 +18,7 @@ fn push_parts(parts: &[&[u8]], out: &mut Vec<u8>) -> Result<(), AllocError> {
 }
 
 /// A file with some data set general information record and some records behind the head.
-fn file_of(
-    alloc: Global,
-    information: &[u8],
-    records: &[&[u8]],
-) -> Result<Vec<u8>, AllocError> {
+fn file_of(alloc: Global, information: &[u8], records: &[&[u8]]) -> Result<Vec<u8>, AllocError> {
     let mut file = Vec::new(alloc);
     push_parts(&DESCRIPTIVE_RECORD, &mut file)?;
     push_parts(&[information, REFERENCE], &mut file)?;

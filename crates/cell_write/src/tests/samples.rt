@@ -118,14 +118,7 @@ fn outer(id: u32, ornt: u8) -> Spot
 }
 
 /// An area of a group and an object class.
-fn area(
-    alloc: Global,
-    id: u16,
-    grup: u8,
-    objl: u16,
-    attf: Attrs,
-    places: Places,
-) -> Rec
+fn area(alloc: Global, id: u16, grup: u8, objl: u16, attf: Attrs, places: Places) -> Rec
     ensures { result ≡ area id grup objl attf places }
 {
     Rec::F(Feature {
@@ -149,9 +142,7 @@ fn area(
 fn boundary(alloc: Global) -> Result<Places, AllocError>
     ensures { IfOk result (λ list. list ≡ boundary) }
 {
-    Ok(Items::of_vec(
-        vec![in alloc; outer(3, 1), outer(2, 1), outer(4, 2), outer(1, 2)]?,
-    ))
+    Ok(Items::of_vec(vec![in alloc; outer(3, 1), outer(2, 1), outer(4, 2), outer(1, 2)]?))
 }
 
 fn square_nodes(alloc: Global) -> Result<Recs, AllocError>
@@ -161,9 +152,7 @@ fn square_nodes(alloc: Global) -> Result<Recs, AllocError>
     let second = node(alloc, 2, 0, 40_000)?;
     let third = node(alloc, 3, 40_000, 0)?;
     let fourth = node(alloc, 4, 40_000, 40_000)?;
-    Ok(Items::of_vec(
-        vec![in alloc; first, second, third, fourth]?,
-    ))
+    Ok(Items::of_vec(vec![in alloc; first, second, third, fourth]?))
 }
 
 fn square_edges(alloc: Global) -> Result<Recs, AllocError>
@@ -173,9 +162,7 @@ fn square_edges(alloc: Global) -> Result<Recs, AllocError>
     let second = edge(alloc, 2, 3, 4)?;
     let third = edge(alloc, 3, 1, 3)?;
     let fourth = edge(alloc, 4, 2, 4)?;
-    Ok(Items::of_vec(
-        vec![in alloc; first, second, third, fourth]?,
-    ))
+    Ok(Items::of_vec(vec![in alloc; first, second, third, fourth]?))
 }
 
 fn attribute(alloc: Global, code: u16, value: &[u8]) -> Result<Attr, AllocError>

@@ -1,4 +1,4 @@
-use Rattle.std.proofs.Common.{◌∙◌, ◌∷◌, [], List, ap}
+use Rattle.std.proofs.Common.{◌∙◌, ◌∷◌, [], ap}
 use Rattle.s57_types.specs.declared.record.Rec.{Rec}
 use Rattle.file_samples.specs.WrittenFiles.{full_cell}
 use Rattle.cell_write.proofs.SampleCells.{writable_as, full_good}
