@@ -1,0 +1,4 @@
+mod EditLines
+mod Lines
+mod Steps
+mod Transcripts

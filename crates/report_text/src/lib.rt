@@ -1,0 +1,17 @@
+//! Writing the parts of a run's report.
+#![tactic(auto)]
+
+mod commit;
+mod draft;
+mod order;
+mod reply;
+mod session;
+
+pub use commit::{known_lines, push_commit};
+pub use draft::push_draft;
+pub use order::push_order;
+pub use reply::push_reply;
+pub use session::push_session;
+
+#[cfg(test)]
+mod tests;

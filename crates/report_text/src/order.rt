@@ -1,0 +1,29 @@
+//! The order line.
+
+ghost use Rattle.std.specs.Prelude.{◌≡◌, ◌++◌, OnOk, decimal, map};
+ghost use Rattle.text_spec.specs.Lines.{spaced_words};
+ghost use Rattle.text_spec.specs.OrderLine.{order_line};
+
+use std::alloc::AllocError;
+use text_lines::{push_number, push_text};
+
+/// Appends numbers, each behind a space.
+fn push_numbers(out: &mut Vec<u8>, numbers: &[u32]) -> Result<(), AllocError>
+    ensures { OnOk result (out.new.items ≡ out.old.items ++ spaced_words (map decimal numbers.now)) }
+{
+    for number in numbers {
+        push_number(out, *number)?;
+    }
+    Ok(())
+}
+
+/// Appends the line that tells of which session each shared command was.
+///
+/// An `Err` is want of memory.
+pub fn push_order(out: &mut Vec<u8>, order: &[u32]) -> Result<(), AllocError>
+    ensures { OnOk result (out.new.items ≡ out.old.items ++ order_line order.now) }
+{
+    push_text(out, "order")?;
+    push_numbers(out, order)?;
+    push_text(out, "\n")
+}

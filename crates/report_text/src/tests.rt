@@ -1,0 +1,148 @@
+use super::*;
+use cell_spec::Edit;
+use edit_sets::{EditSet, FormFault, FormRefusal};
+use history_spec::{Reply, StateRefusal};
+use s57_types::{Attrs, Deep, End, Ends, Kind, Plane, Rec, RecName, Unfit, Vector};
+use std::alloc::{AllocError, Global};
+use std::test::Fail;
+use text_spec::Command;
+
+fn name(kind: Kind, id: u32) -> RecName {
+    RecName { kind, id }
+}
+
+fn end(id: u32, topi: u8) -> End {
+    End {
+        to: name(Kind::Vc, id),
+        ornt: 255,
+        usag: 255,
+        topi,
+        mask: 255,
+    }
+}
+
+fn reply_line(alloc: Global, reply: &Reply) -> Result<Vec<u8>, AllocError> {
+    let mut out = Vec::new(alloc);
+    push_reply(&mut out, reply)?;
+    Ok(out)
+}
+
+#[test]
+fn a_clash_is_told(rt: HostRuntime) -> Result<(), Fail> {
+    let newer = Reply::Newer {
+        number: 1,
+        name: name(Kind::Vc, 1),
+        desk: 1,
+        edit: Edit::Del(name(Kind::Vc, 1)),
+    };
+    let line = reply_line(rt.alloc(), &newer)?;
+    assert_eq!(rt;
+        line.as_slice(),
+        b"commit refused newer 1 vc 1 desk 1\n".as_slice()
+    );
+    Ok(())
+}
+
+#[test]
+fn faults_of_drafts_are_told(rt: HostRuntime) -> Result<(), Fail> {
+    for (fault, text) in [
+        (FormFault::Empty, "commit refused empty\n"),
+        (FormFault::TooMany(5000), "commit refused too many 5000\n"),
+        (FormFault::Twice(2), "commit refused twice 2\n"),
+        (
+            FormFault::Unfit(1, Unfit::BadName),
+            "commit refused unfit 1 bad name\n",
+        ),
+    ] {
+        let line = reply_line(rt.alloc(), &Reply::Formed(fault))?;
+        assert_eq!(rt; line.as_slice(), text.as_bytes());
+    }
+    Ok(())
+}
+
+#[test]
+fn refusals_are_told(rt: HostRuntime) -> Result<(), Fail> {
+    for (refusal, text) in [
+        (
+            StateRefusal::AddExists(name(Kind::Vc, 1)),
+            "commit refused exists vc 1\n",
+        ),
+        (
+            StateRefusal::SetMissing(name(Kind::Ve, 7)),
+            "commit refused set missing ve 7\n",
+        ),
+        (
+            StateRefusal::DelMissing(name(Kind::Vc, 9)),
+            "commit refused del missing vc 9\n",
+        ),
+        (
+            StateRefusal::CellFull(262_145),
+            "commit refused cell full 262145\n",
+        ),
+        (StateRefusal::FindingsFull, "commit refused findings full\n"),
+    ] {
+        let line = reply_line(rt.alloc(), &Reply::Refused(refusal))?;
+        assert_eq!(rt; line.as_slice(), text.as_bytes());
+    }
+    Ok(())
+}
+
+#[test]
+fn an_order_and_a_draft_have_their_lines(rt: HostRuntime) -> Result<(), Fail> {
+    let mut out = Vec::new(rt.alloc());
+    push_order(&mut out, &[1, 2, 2, 1])?;
+    push_draft(&mut out, 1)?;
+    assert_eq!(rt; out.as_slice(), b"order 1 2 2 1\ndraft 1\n".as_slice());
+    Ok(())
+}
+
+#[test]
+fn a_session_has_the_lines_of_its_commands(rt: HostRuntime) -> Result<(), Fail> {
+    let mut out = Vec::new(rt.alloc());
+    let empty = Reply::Formed(FormFault::Empty);
+    let missing = Reply::Refused(StateRefusal::DelMissing(name(Kind::Vc, 9)));
+    let commands = [
+        Command::Commit,
+        Command::Push(Edit::Del(name(Kind::Vc, 9))),
+        Command::Commit,
+        Command::View,
+    ];
+    push_session(&mut out, 2, &commands, &[&empty, &missing])?;
+    let text = "session 2\ncommit refused empty\ndraft 1\ncommit refused del missing vc 9\n";
+    assert_eq!(rt; out.as_slice(), text.as_bytes());
+    Ok(())
+}
+
+/// The second version of an edge from connected node 1 to connected node 2.
+fn edge(alloc: Global) -> Result<Rec, AllocError> {
+    let mut ends = Ends::make(alloc);
+    ends.push(end(1, 1))?;
+    ends.push(end(2, 2))?;
+    let mut plane = Plane::make(alloc);
+    plane.push((50, 50))?;
+    Ok(Rec::V(Vector {
+        name: name(Kind::Ve, 2),
+        rver: 2,
+        attrs: Attrs::make(alloc),
+        ends,
+        plane,
+        deep: Deep::make(alloc),
+    }))
+}
+
+fn edits(alloc: Global) -> Result<EditSet, FormRefusal> {
+    EditSet::make(alloc, &[Edit::Set(edge(alloc)?)], 0)
+}
+
+#[test]
+fn a_commit_has_its_edits(rt: HostRuntime) -> Result<(), Fail> {
+    let alloc = rt.alloc();
+    let set = edits(alloc)?;
+    known_lines(&set);
+    let mut out = Vec::new(alloc);
+    push_commit(alloc, &mut out, 1, 1, 0, set.edits())?;
+    let text =
+        "commit 1 desk 1 findings 0\nset ve 2 2 e=vc:1:255:255:1:255 e=vc:2:255:255:2:255 p=50,50\n";
+    assert_eq!(rt; out.as_slice(), text.as_bytes());
+    Ok(())
+}
