@@ -1,11 +1,12 @@
 -- The pointers and the identities of a cell as lists of pairs, and the values of one key in such a list. This project's own.
-use Rattle.std.specs.Prelude.{ℕ, List, map, filter, flat_map}
+use Rattle.std.specs.Prelude.{ℕ, ◌≤◌, List, length, map, filter, flat_map}
 use Rattle.std.specs.List.{enumerate_from}
 use Rattle.std.specs.declared.cmp.Ordering.{Ordering}
 use Rattle.std.specs.Ordering.{is_eq, ordering_then}
 use Rattle.s57_types.specs.declared.name.RecName.{RecName}
 use Rattle.s57_types.specs.declared.name.Lnam.{Lnam}
 use Rattle.s57_types.specs.declared.record.Rec.{Rec}
+use Rattle.s57_types.specs.RecordFields.{length_limit}
 use Rattle.cell_spec.specs.declared.key.Ref.{Ref}
 use Rattle.cell_spec.specs.Lookup.{name_of, targets_of, identities_of}
 
@@ -24,6 +25,10 @@ pointers_from from first targets = map (λ (p : ℕ × RecName). (p.1, record { 
 -- the pointers of a record
 abbrev pub pointers_of : Rec → List (RecName × Ref)
 pointers_of r = pointers_from (name_of r) 1 (targets_of r)
+
+-- a record has no more pointers than it may have bytes
+abbrev pub HasFewPointers : Rec → Type 0
+HasFewPointers r = length (targets_of r) ≤ length_limit
 
 -- the pointers of all records
 abbrev pub pointers_listed : List Rec → List (RecName × Ref)

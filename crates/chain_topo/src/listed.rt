@@ -1,11 +1,13 @@
 //! The records, pointers and identities of a cell as lists.
 
-ghost use Rattle.std.specs.Prelude.{◌≡◌, ◌++◌, IfOk, OnOk, map};
+ghost use Rattle.std.specs.Prelude.{◌≡◌, ◌≤◌, ◌++◌, All, IfOk, OnOk, length, map};
+ghost use Rattle.std.specs.Borrow.{Bor};
 ghost use Rattle.s57_types.specs.declared.record.End.{End as SpecEnd};
 ghost use Rattle.s57_types.specs.declared.record.Spot.{Spot as SpecSpot};
 ghost use Rattle.s57_types.specs.declared.record.Rec.{Rec as SpecRec};
+ghost use Rattle.s57_types.specs.RecordFields.{length_limit};
 ghost use Rattle.cell_spec.specs.Lookup.{all_records, name_of as spec_name};
-ghost use Rattle.chain_topo.specs.Listed.{pointers_from, pointers_of, pointers_listed, identity_of, identities_listed};
+ghost use Rattle.chain_topo.specs.Listed.{HasFewPointers, pointers_from, pointers_of, pointers_listed, identity_of, identities_listed};
 
 use cell_spec::Ref;
 use s57_types::{Cell, End, Lnam, Rec, RecName, Spot};
@@ -42,18 +44,12 @@ pub(crate) fn records_of(alloc: Global, cell: &Cell) -> Result<Vec<&Rec>, AllocE
     Ok(list)
 }
 
-// A number of 32 bits. A record with a greater one, which has billions of pointers, is answered with want of memory.
-fn number(n: usize) -> Result<u32, AllocError>
-    ensures { IfOk result (λ k. k ≡ n) }
-{
-    u32::try_from(n).map_err(|_| AllocError)
-}
-
 fn add_ends(list: &mut Vec<(RecName, Ref)>, from: RecName, ends: &[End]) -> Result<(), AllocError>
+    requires { length ends.now ≤ length_limit }
     ensures { OnOk result (list.new.items ≡ list.old.items ++ pointers_from from 1 (map (λ (e : SpecEnd). e.to) ends.now)) }
 {
     for (k, end) in ends.iter().enumerate() {
-        let place = number(k + 1)?;
+        let place = (k + 1) as u32;
         list.push((end.to, Ref { from, place }))?;
     }
     Ok(())
@@ -64,16 +60,18 @@ fn add_spots(
     from: RecName,
     spots: &[Spot],
 ) -> Result<(), AllocError>
+    requires { length spots.now ≤ length_limit }
     ensures { OnOk result (list.new.items ≡ list.old.items ++ pointers_from from 1 (map (λ (s : SpecSpot). s.to) spots.now)) }
 {
     for (k, spot) in spots.iter().enumerate() {
-        let place = number(k + 1)?;
+        let place = (k + 1) as u32;
         list.push((spot.to, Ref { from, place }))?;
     }
     Ok(())
 }
 
 fn add_pointers(list: &mut Vec<(RecName, Ref)>, rec: &Rec) -> Result<(), AllocError>
+    requires { HasFewPointers rec.now }
     ensures { OnOk result (list.new.items ≡ list.old.items ++ pointers_of rec.now) }
 {
     match rec {
@@ -87,6 +85,7 @@ pub(crate) fn list_pointers(
     alloc: Global,
     records: &[&Rec],
 ) -> Result<Vec<(RecName, Ref)>, AllocError>
+    requires { All (λ (r : Bor SpecRec). HasFewPointers r.now) records.now }
     ensures { IfOk result (λ list. list.items ≡ pointers_listed (map (λ r. r.now) records.now)) }
 {
     let mut list = Vec::new(alloc);

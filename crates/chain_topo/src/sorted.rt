@@ -1,6 +1,6 @@
 //! A look over a cell with sorted lists.
 
-ghost use Rattle.std.specs.Prelude.{◌≡◌, ◌+◌, IfOk, map, filter, find, flat_map};
+ghost use Rattle.std.specs.Prelude.{◌≡◌, ◌+◌, All, IfOk, map, filter, find, flat_map};
 ghost use Rattle.std.specs.Borrow.{Bor};
 ghost use Rattle.std.specs.Option.{option_copied};
 ghost use Rattle.std.specs.List.Sorted.{IsPermutation, IsSortedByKey};
@@ -12,7 +12,7 @@ ghost use Rattle.cell_spec.specs.Ascending.{ascending, order_by};
 ghost use Rattle.cell_spec.specs.Lookup.{is_named, name_of as spec_name, bears, pointers_in, lookup_record, lookup_pointers, lookup_identity};
 ghost use Rattle.cell_spec.specs.Names.{name_order, ref_order, identity_parts};
 ghost use Rattle.chain_topo.specs.Answers.{IsByName};
-ghost use Rattle.chain_topo.specs.Listed.{values_at};
+ghost use Rattle.chain_topo.specs.Listed.{HasFewPointers, values_at};
 ghost use Rattle.chain_topo.specs.Readable.{IsReadable};
 
 use crate::answers::Look;
@@ -116,6 +116,7 @@ fn find_sorted<'a>(records: &[&'a Rec], name: RecName) -> Option<&'a Rec>
 
 // The pointers of records in groups by target.
 fn group_pointers(alloc: Global, records: &[&Rec]) -> Result<Groups<RecName, Ref>, AllocError>
+    requires { All (λ (r : Bor SpecRec). HasFewPointers r.now) records.now }
     ensures { IfOk result (λ groups. (n : SpecRecName) → values_at name_order groups n ≡ ascending ref_order (flat_map (pointers_in n) (map (λ (r : Bor SpecRec). r.now) records.now))) }
 {
     orders_are_by_parts();

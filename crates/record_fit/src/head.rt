@@ -9,6 +9,7 @@ ghost use Rattle.s57_types.specs.RecordFields.{dsid_of_head, dspm_of_head, ident
 ghost use Rattle.s57_types.specs.Fitness.{is_fit_head};
 ghost use Rattle.record_fit.specs.Lengths.{saturated};
 
+use crate::head_record::{self, STRUCTURE_FIELD, fixed_texts_length, texts_length};
 use crate::length::{NUMBER_FIELD, is_within_limit};
 use crate::text::is_text_plain;
 use s57_types::Head;
@@ -58,8 +59,7 @@ fn are_description_texts_plain(head: &Head) -> bool
 fn is_identification_short(head: &Head) -> bool
     ensures { result ≡ nat_le (record_length (field_lengths (identification_fields 0 head.now (0 ∷ 0 ∷ 0 ∷ 0 ∷ 0 ∷ 0 ∷ 0 ∷ 0 ∷ [])))) length_limit }
 {
-    let structure = 36; // DSSI
-    is_within_limit(&[NUMBER_FIELD, identification_length(head), structure])
+    is_within_limit(&[NUMBER_FIELD, identification_length(head), STRUCTURE_FIELD])
 }
 
 fn are_parameters_short(head: &Head) -> bool
@@ -72,37 +72,16 @@ fn are_parameters_short(head: &Head) -> bool
 fn identification_length(head: &Head) -> usize
     ensures { result ≡ saturated (length (row_bytes (dsid_row (dsid_of_head head.now))) + 1) }
 {
-    let numbered = texts_length(head.dsnm.len(), head.edtn.len(), head.updn.len());
-    let described = texts_length(head.psdn.len(), head.pred.len(), head.dsid_comt.len());
-    let dated = fixed_texts_length(&head.uadt, &head.isdt, &head.sted);
-    numbered
-        .saturating_add(described)
-        .saturating_add(dated)
-        .saturating_add(12)
-}
-
-/// The length of three texts with their terminators.
-fn texts_length(first: usize, second: usize, third: usize) -> usize
-    ensures { result ≡ saturated (first + second + third + 3) }
-{
-    first
-        .saturating_add(second)
-        .saturating_add(third)
-        .saturating_add(3)
-}
-
-fn fixed_texts_length(first: &[u8], second: &[u8], third: &[u8]) -> usize
-    ensures { result ≡ saturated (length first.now + length second.now + length third.now) }
-{
-    first
-        .len()
-        .saturating_add(second.len())
-        .saturating_add(third.len())
+    head_record::identification_length(
+        texts_length(head.dsnm.len(), head.edtn.len(), head.updn.len()),
+        texts_length(head.psdn.len(), head.pred.len(), head.dsid_comt.len()),
+        fixed_texts_length(&head.uadt, &head.isdt, &head.sted),
+    )
 }
 
 /// The length of the field DSPM.
 fn parameters_length(head: &Head) -> usize
     ensures { result ≡ saturated (length (row_bytes (dspm_row (dspm_of_head head.now))) + 1) }
 {
-    head.dspm_comt.len().saturating_add(26)
+    head_record::parameters_length(head.dspm_comt.len())
 }

@@ -155,6 +155,10 @@ impl FieldRow for Attr {
         Ok(Some((Attr { code, value }, is_plain, rest)))
     }
 
+    fn least_size() -> usize {
+        2
+    }
+
     fn put(&self, level: u8, out: &mut Vec<u8>) -> Result<(), AllocError> {
         let text = self.value.as_slice();
         let value = if level == WIDE_LEVEL {
@@ -245,6 +249,10 @@ impl FieldRow for Partner {
         Ok(Some((Partner { to, rind, comt }, is_plain, rest)))
     }
 
+    fn least_size() -> usize {
+        9
+    }
+
     fn put(&self, _level: u8, out: &mut Vec<u8>) -> Result<(), AllocError> {
         let row = [
             Value::Short(self.to.agen),
@@ -319,6 +327,10 @@ impl FieldRow for Spot {
             return Ok(None);
         };
         Ok(Some((spot, true, rest)))
+    }
+
+    fn least_size() -> usize {
+        8
     }
 
     fn put(&self, _level: u8, out: &mut Vec<u8>) -> Result<(), AllocError> {

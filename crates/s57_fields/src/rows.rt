@@ -1,6 +1,6 @@
 //! Fields whose row repeats.
 
-ghost use Rattle.std.specs.Prelude.{◌≡◌, ◌<◌, ◌++◌, Bool, List, ℕ, length, IfOk, IfSome, OnOk};
+ghost use Rattle.std.specs.Prelude.{◌≡◌, ◌<◌, ◌≤◌, ◌++◌, Bool, List, ℕ, length, IfOk, IfSome, OnOk};
 ghost use Rattle.std.specs.Option.{option_map};
 ghost use Rattle.s57_types.specs.Subfield.{Form, Subfield, row_bytes};
 ghost use Rattle.field_spec.specs.Contents.{rows_as};
@@ -34,6 +34,10 @@ pub trait FieldRow: Drop + Sized {
     ) -> Result<Option<(Self, bool, &[u8])>, AllocError>
         ensures cut { IfOk result (λ front. option_map (λ x. (x.0, x.1, x.2.now)) front ≡ take_row (forms level) good value bytes.now) }
         ensures shorter { IfOk result (λ front. IfSome front (λ x. length x.2.now < length bytes.now)) };
+
+    /// How many bytes a row takes at least.
+    fn least_size() -> usize
+        ensures { (level : ℕ) (row : Self) → result ≤ length (row_bytes (subfields level row)) };
 
     /// Appends the subfields of a row.
     fn put(&self, level: u8, out: &mut Vec<u8>) -> Result<(), AllocError>

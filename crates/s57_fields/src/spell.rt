@@ -1,15 +1,15 @@
 //! The spelling of subfields (S-57 Part 3, 7.2.2).
 
-ghost use Rattle.std.specs.Prelude.{◌≡◌, ◌++◌, OnOk};
+ghost use Rattle.std.specs.Prelude.{◌≡◌, ◌++◌, ◌∷◌, [], OnOk};
 ghost use Rattle.std.specs.Int.{bytes_low_first};
-ghost use Rattle.s57_types.specs.Subfield.{row_bytes, spelling};
+ghost use Rattle.s57_types.specs.Subfield.{signed_of, row_bytes, spelling};
 ghost use Rattle.s57_fields.specs.Spelling.{subfield_of, row_of};
 
 use crate::cut::UNIT_TERMINATOR;
 use byteorder::{ByteOrder, LittleEndian};
 use std::alloc::AllocError;
 
-/// A subfield to write.
+/// A subfield to write, but for signed numbers.
 #[derive(Clone, Copy)]
 pub enum Value<'a> {
     /// A number of one byte, b11.
@@ -18,8 +18,6 @@ pub enum Value<'a> {
     Short(u16),
     /// A number of four bytes, b14.
     Long(u32),
-    /// A signed number of four bytes, b24.
-    Signed(i32),
     /// A text that ends with the unit terminator, A.
     Text(&'a [u8]),
     /// A text of two-byte units that ends with a unit of its own.
@@ -46,6 +44,32 @@ fn long_bytes(n: u32) -> [u8; 4]
     bytes
 }
 
+/// The bytes of a signed number, b24.
+fn signed_bytes(n: i32) -> [u8; 4]
+    ensures { result ≡ spelling (signed_of n) }
+{
+    long_bytes(n.cast_unsigned())
+}
+
+/// Appends two signed numbers of four bytes, b24.
+pub fn put_two_signed(a: i32, b: i32, out: &mut Vec<u8>) -> Result<(), AllocError>
+    ensures { OnOk result (out.new.items ≡ out.old.items ++ row_bytes (signed_of a ∷ signed_of b ∷ [])) }
+{
+    let [a0, a1, a2, a3] = signed_bytes(a);
+    let [b0, b1, b2, b3] = signed_bytes(b);
+    out.extend_from_slice(&[a0, a1, a2, a3, b0, b1, b2, b3])
+}
+
+/// Appends three signed numbers of four bytes, b24.
+pub fn put_three_signed(a: i32, b: i32, c: i32, out: &mut Vec<u8>) -> Result<(), AllocError>
+    ensures { OnOk result (out.new.items ≡ out.old.items ++ row_bytes (signed_of a ∷ signed_of b ∷ signed_of c ∷ [])) }
+{
+    let [a0, a1, a2, a3] = signed_bytes(a);
+    let [b0, b1, b2, b3] = signed_bytes(b);
+    let [c0, c1, c2, c3] = signed_bytes(c);
+    out.extend_from_slice(&[a0, a1, a2, a3, b0, b1, b2, b3, c0, c1, c2, c3])
+}
+
 /// Appends a subfield.
 fn put_value(value: Value<'_>, out: &mut Vec<u8>) -> Result<(), AllocError>
     ensures { OnOk result (out.new.items ≡ out.old.items ++ spelling (subfield_of value.entry)) }
@@ -54,7 +78,6 @@ fn put_value(value: Value<'_>, out: &mut Vec<u8>) -> Result<(), AllocError>
         Value::Byte(n) => out.push(n)?,
         Value::Short(n) => out.extend_from_slice(&short_bytes(n))?,
         Value::Long(n) => out.extend_from_slice(&long_bytes(n))?,
-        Value::Signed(n) => out.extend_from_slice(&long_bytes(n.cast_unsigned()))?,
         Value::Text(text) => {
             out.extend_from_slice(text)?;
             out.push(UNIT_TERMINATOR)?;

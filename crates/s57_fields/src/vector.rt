@@ -13,7 +13,7 @@ ghost use Rattle.s57_fields.specs.RowCutting.{take_row};
 use crate::cut::{field_body, take_i32, take_u8, take_u16, take_u32};
 use crate::refusal::FieldRefusal;
 use crate::rows::{FieldRow, read_rows};
-use crate::spell::{Value, put_row};
+use crate::spell::{Value, put_row, put_three_signed, put_two_signed};
 use crate::write::{write_row, write_rows};
 use s57_types::{Attrs, Deep, End, Ends, Kind, Plane, RecName, Vrid};
 use std::alloc::{AllocError, Global};
@@ -153,6 +153,10 @@ impl FieldRow for End {
         Ok(Some((end, true, rest)))
     }
 
+    fn least_size() -> usize {
+        9
+    }
+
     fn put(&self, _level: u8, out: &mut Vec<u8>) -> Result<(), AllocError> {
         let row = [
             Value::Byte(rcnm_of(self.to.kind)),
@@ -216,8 +220,12 @@ impl FieldRow for (i32, i32) {
         Ok(Some((point, true, rest)))
     }
 
+    fn least_size() -> usize {
+        8
+    }
+
     fn put(&self, _level: u8, out: &mut Vec<u8>) -> Result<(), AllocError> {
-        put_row(&[Value::Signed(self.0), Value::Signed(self.1)], out)
+        put_two_signed(self.0, self.1, out)
     }
 }
 
@@ -272,13 +280,12 @@ impl FieldRow for (i32, i32, i32) {
         Ok(Some((sounding, true, rest)))
     }
 
+    fn least_size() -> usize {
+        12
+    }
+
     fn put(&self, _level: u8, out: &mut Vec<u8>) -> Result<(), AllocError> {
-        let row = [
-            Value::Signed(self.0),
-            Value::Signed(self.1),
-            Value::Signed(self.2),
-        ];
-        put_row(&row, out)
+        put_three_signed(self.0, self.1, self.2, out)
     }
 }
 

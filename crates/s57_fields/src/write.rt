@@ -12,6 +12,9 @@ use crate::text::WIDE_LEVEL;
 use s57_types::Items;
 use std::alloc::{AllocError, Global};
 
+// How many bytes a terminator takes at most.
+const TERMINATOR_LIMIT: usize = 2;
+
 /// Appends a field of one row. A refusal leaves the bytes as they were.
 pub fn write_row(alloc: Global, row: &[Value<'_>], out: &mut Vec<u8>) -> Result<(), AllocError>
     ensures ok { OnOk result (out.new.items ≡ out.old.items ++ field_bytes (row_of row.now)) }
@@ -20,6 +23,18 @@ pub fn write_row(alloc: Global, row: &[Value<'_>], out: &mut Vec<u8>) -> Result<
     let mut field = Vec::new(alloc);
     put_row(row, &mut field)?;
     field.push(FIELD_TERMINATOR)?;
+    out.extend_from_slice(field.as_slice())
+}
+
+/// Appends a field's bytes. Where they are the first, they aren't copied. A refusal leaves the bytes as they were.
+fn append_field(field: Vec<u8>, out: &mut Vec<u8>) -> Result<(), AllocError>
+    ensures ok { OnOk result (out.new.items ≡ out.old.items ++ field.items) }
+    ensures err { OnErr result (out.new.items ≡ out.old.items) }
+{
+    if out.is_empty() {
+        *out = field;
+        return Ok(());
+    }
     out.extend_from_slice(field.as_slice())
 }
 
@@ -44,10 +59,11 @@ pub fn write_rows<R: FieldRow>(
     ensures ok { OnOk result (out.new.items ≡ out.old.items ++ rows_bytes level (R.subfields level) rows.now) }
     ensures err { OnErr result (out.new.items ≡ out.old.items) }
 {
-    let mut field = Vec::new(alloc);
+    let size = rows.len().saturating_mul(R::least_size());
+    let mut field = Vec::with_capacity(alloc, size.saturating_add(TERMINATOR_LIMIT))?;
     for row in rows.as_slice() {
         row.put(level, &mut field)?;
     }
     put_terminator(level, &mut field)?;
-    out.extend_from_slice(field.as_slice())
+    append_field(field, out)
 }

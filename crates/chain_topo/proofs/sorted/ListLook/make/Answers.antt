@@ -1,4 +1,4 @@
-use Rattle.std.proofs.Common.{◌≡◌, List, map, filter, flat_map, subst, ap, ◌∙◌}
+use Rattle.std.proofs.Common.{◌≡◌, All, List, map, filter, flat_map, subst, sym, ap, ◌∙◌}
 use Rattle.std.specs.Borrow.{Bor}
 use Rattle.std.specs.List.Sorted.{IsPermutation, IsSortedByKey}
 use Rattle.std.proofs.lemmas.List.Sorted.{IsPermutation-map}
@@ -11,10 +11,16 @@ use Rattle.cell_spec.specs.Ascending.{ascending, order_by}
 use Rattle.cell_spec.specs.Lookup.{all_records, name_of, bears, pointers_in}
 use Rattle.cell_spec.specs.Names.{name_order, ref_order, identity_parts}
 use Rattle.chain_topo.specs.Answers.{Answers}
-use Rattle.chain_topo.specs.Listed.{values_at}
+use Rattle.chain_topo.specs.Listed.{HasFewPointers, values_at}
 use Rattle.chain_topo.specs.Readable.{IsReadable}
 use Rattle.chain_topo.proofs.Named.{found-moved, distinct-moved}
+use Rattle.chain_topo.proofs.PointerCounts.{all_have_few_pointers}
 use Rattle.chain_topo.proofs.sorted.ListLook.make.Goals as goal
+
+pub group_pointers-requires : goal.group_pointers-requires
+group_pointers-requires c =
+    subst (All (λ (r : Bor Rec). HasFewPointers r.now)) (sym c.deref.ensures.value)
+    (all_have_few_pointers c.args.cell.now.head.nall (all_records c.args.cell.now) c.in_ok-records.records.items c.in_ok-records.ensures c.requires.fit)
 
 -- lists of the records of a cell, sorted and grouped, answer as the cell does
 answers : (c : Cell) (held moved : List (Bor Rec)) (pointers : List (RecName × Ref)) (identities : List (Lnam × RecName)) → IsReadable c

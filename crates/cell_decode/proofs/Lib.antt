@@ -1,0 +1,6 @@
+pub mod FieldSteps
+pub mod FileSteps
+pub mod Grown
+pub mod NameOrder
+pub mod RecordSteps
+pub mod ValueSteps

@@ -1,0 +1,18 @@
+//! The reader of cell files: the cell that a file stands for, or the file's first fault.
+#![tactic(auto)]
+
+mod fields;
+mod file;
+mod heads;
+mod names;
+mod reading;
+mod records;
+mod refusal;
+mod tags;
+mod values;
+
+pub use file::read_cell;
+pub use refusal::ReadRefusal;
+
+#[cfg(test)]
+mod tests;

@@ -1,0 +1,4 @@
+pub mod FitLists
+pub mod RecordBytes
+pub mod SampleCells
+pub mod ShortRecords

@@ -1,0 +1,10 @@
+pub mod OneName
+pub mod DistinctNames
+pub mod EditedRecords
+pub mod EditedLists
+pub mod EditedCell
+pub mod Refusals
+pub mod Runs
+pub mod TypedEdits
+pub mod TypedRequests
+pub mod TypedRuns

@@ -1,0 +1,2 @@
+pub mod KeptWritable
+pub mod ReadBackAfterRuns

@@ -1,0 +1,33 @@
+-- What is written of a cell after edits is read back. This project's own rules.
+use Rattle.std.specs.Prelude.{◌≡◌, ℕ, List, Ok, IfSome}
+use Rattle.std.specs.List.{AllByRecursion}
+use Rattle.s57_types.specs.declared.cell.Cell.{Cell}
+use Rattle.cell_spec.specs.declared.edit.Edit.{Edit}
+use Rattle.cell_spec.specs.Edits.{left_by, apply_edits}
+use Rattle.cell_spec.specs.Writable.{IsWritable}
+use Rattle.file_spec.specs.DecodedCell.{decoded_cell}
+use Rattle.file_spec.specs.EncodedCell.{encoded_cell}
+use Rattle.file_spec.specs.RoundTrip.{RecordHasForms, HasItsTypes}
+use Rattle.text_spec.specs.declared.command.Command.{Command}
+use Rattle.text_spec.specs.declared.command.Command.TheVariants.{View, Commit, Drop, List as Findings, Push}
+use Rattle.history_spec.specs.ReportText.{final_cell}
+
+-- the record that an edit leaves is as its types have it
+abbrev pub EditHasItsTypes : ℕ → Edit → Type 0
+EditHasItsTypes nall edit = IfSome (left_by edit) (RecordHasForms nall)
+
+abbrev pub CommandHasItsTypes : ℕ → Command → Type 0
+CommandHasItsTypes nall View = Unit {0}
+CommandHasItsTypes nall Commit = Unit {0}
+CommandHasItsTypes nall Drop = Unit {0}
+CommandHasItsTypes nall (Findings shown) = Unit {0}
+CommandHasItsTypes nall (Push edit) = EditHasItsTypes nall edit
+
+-- edits as their types have them leave a cell as its types have it
+abbrev pub EditsKeepTypes : Type 0
+EditsKeepTypes = (c : Cell) (edits : List Edit) → HasItsTypes c → AllByRecursion (EditHasItsTypes c.head.nall) edits → HasItsTypes (apply_edits edits c)
+
+-- the file that is written of the cell that a run leaves is read as that cell
+abbrev pub RunsAreReadBack : Type 0
+RunsAreReadBack = (asked : List ℕ) (c : Cell) (scripts : List (List Command)) (order : List ℕ) → IsWritable c → HasItsTypes c
+    → AllByRecursion (AllByRecursion (CommandHasItsTypes c.head.nall)) scripts → decoded_cell (encoded_cell (final_cell asked c scripts order)) ≡ Ok (final_cell asked c scripts order)

@@ -1,0 +1,33 @@
+//! Each law is the contract of a function that does nothing.
+
+ghost use Rattle.edit_laws.specs.KeptWritable.{EditsKeepWritable, RefusalsAreExact, RunsLeaveWritable};
+ghost use Rattle.edit_laws.specs.ReadBackAfterRuns.{EditsKeepTypes, RunsAreReadBack};
+
+use file_spec::round_trip;
+
+/// Edits without a fault of form at a writable cell's level, which the cell takes, leave a writable cell.
+pub fn edits_keep_a_cell_writable()
+    ensures { EditsKeepWritable }
+{}
+
+/// A cell takes exactly the edits that it doesn't refuse because of a record that is there or is missing, or because it is full.
+pub fn refusals_tell_what_a_cell_takes()
+    ensures { RefusalsAreExact }
+{}
+
+/// The cell that a run of scripts on a writable cell leaves is writable, whatever the scripts and their order.
+pub fn runs_leave_a_writable_cell()
+    ensures { RunsLeaveWritable }
+{}
+
+/// Edits whose numbers and texts are those of their types keep a cell whose are.
+pub fn edits_keep_the_types_of_a_cell()
+    ensures { EditsKeepTypes }
+{}
+
+/// What is written of the cell that a run leaves is that cell when it is read.
+pub fn runs_are_read_back()
+    ensures { RunsAreReadBack }
+{
+    round_trip();
+}
