@@ -1,7 +1,7 @@
 -- The text of findings, by rows or one after the other.
-use Rattle.std.proofs.Common.{◌≡◌, ◌≤◌, ◌<◌, ℕ, ◌+◌, ◌-◌, List, [], ◌∷◌, ◌++◌, length, map, nat_le, get_or, refl, sym, ap, subst, lit≤, ◌∙◌, append_assoc, length-append, inl, inr, arith}
+use Rattle.std.proofs.Common.{◌≡◌, ◌≤◌, ℕ, ◌+◌, ◌-◌, List, [], ◌∷◌, ◌++◌, length, map, nat_le, refl, sym, ap, subst, lit≤, ◌∙◌, append_assoc, length-append, inl, inr, arith}
 use Rattle.std.specs.List.{flat_map}
-use Rattle.std.specs.Prelude.{sum_by, codes}
+use Rattle.std.specs.Prelude.{codes}
 use Rattle.std.proofs.lemmas.Bool.{cases_lt}
 use Rattle.std.proofs.lemmas.Bool.Decides.{nat_tests}
 use Rattle.std.proofs.lemmas.List.{get_or_past}
@@ -12,7 +12,6 @@ use Rattle.s57_types.specs.declared.cell.Cell.{Cell}
 use Rattle.cell_spec.specs.declared.finding.Finding.{Finding}
 use Rattle.cell_spec.specs.declared.key.Subject.{Subject}
 use Rattle.rule_spec.specs.Kinds.{kinds, number_count}
-use Rattle.text_spec.specs.Lines.{line}
 use Rattle.text_spec.specs.CellText.{finding_line, row_lines, count_line, total_line, total_of, text_with}
 use Rattle.edge_findings.specs.Rows.{with_subject, findings_of_row, findings_of_rows, line_of}
 use Rattle.edge_findings.specs.declared.list.SubjectFinding.{SubjectFinding}

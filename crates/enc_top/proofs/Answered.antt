@@ -1,15 +1,14 @@
 -- What the answers of steps tell of the steps that they are part of.
-use Rattle.std.proofs.Common.{◌≡◌, ◌⊎◌, inl, inr, ℕ, zero, suc, ◌+◌, ◌-◌, ◌<◌, ◌≤◌, List, [], ◌∷◌, ◌++◌, length, get_or, map, All, Option, Some, None, Result, Ok, Err, String, Global, string_bytes, refl, sym, ap, ◌∙◌, subst, length-append, arith, min}
-use Rattle.std.specs.Prelude.{IfErr, IfOk, IfSome, slice_index_or, Vec, ◌^◌}
+use Rattle.std.proofs.Common.{◌≡◌, ◌⊎◌, inl, inr, ℕ, zero, suc, ◌<◌, ◌≤◌, List, [], ◌∷◌, ◌++◌, length, get_or, map, Option, Some, None, Result, Ok, Err, String, Global, string_bytes, refl, sym, ap, ◌∙◌, subst, length-append, arith}
+use Rattle.std.specs.Prelude.{IfErr, IfOk, IfSome, slice_index_or, Vec}
 use Rattle.std.proofs.lemmas.List.{get_or-map}
-use Rattle.std.proofs.lemmas.Option.{get_or_from_slice_get, slice_get_read}
 use Rattle.std.proofs.lemmas.Bool.{cases_lt}
 use Rattle.enc_outside.specs.Count.{Rose}
 use Rattle.enc_outside.specs.Files.{Files}
 use Rattle.text_spec.specs.declared.command.Command.{Command}
-use Rattle.enc_top.specs.Inputs.{AreScripts, IsAmong, IsFirstBad, IsInputOf, IsInputStatus, OutputIs, ScriptIs, ScriptsAre, Tells}
+use Rattle.enc_top.specs.Inputs.{AreScripts, IsInputOf, IsInputStatus, OutputIs, ScriptIs, ScriptsAre, Tells}
 use Rattle.enc_top.specs.Outcome.{IsAskedBy, IsBuilt, IsOutput}
-use Rattle.enc_top.specs.Words.{Form, check_form, replay_form, later_form, no_form}
+use Rattle.enc_top.specs.Words.{Form}
 use Rattle.enc_top.specs.declared.status.Status.{Status}
 use Rattle.enc_top.specs.declared.status.Status.TheVariants.{Done, Usage, Absent, BadCell, BadScript, ReadFault, WriteFault, TooLarge, NoMemory, BadOrder, Stuck, TooManyFindings, NotYet}
 

@@ -1,11 +1,10 @@
 -- The cause of each status, from what the files ask for and what was put.
-use Rattle.std.proofs.Common.{◌≡◌, ◌⊎◌, inl, inr, ℕ, List, Option, Some, None, Result, Ok, Err, refl, sym, ap, ◌∙◌, subst, Global}
+use Rattle.std.proofs.Common.{◌≡◌, ◌⊎◌, inl, inr, ℕ, List, Option, Some, Result, Ok, Err, refl, sym, ◌∙◌, subst, Global}
 use Rattle.std.specs.Prelude.{IfSome, Vec}
-use Rattle.enc_outside.specs.Count.{Rose}
 use Rattle.enc_outside.specs.Files.{Files}
 use Rattle.enc_top.specs.Inputs.{IsInputOf, OutputIs}
 use Rattle.enc_top.specs.Outcome.{IsAsked, IsAskedBy, IsBuilt, IsCause, IsCauseOf, IsExact, IsExpected, IsOutput, IsPut, IsSmooth, Outside, outside}
-use Rattle.enc_top.specs.Words.{Form, check_form, replay_form, later_form, no_form, form_of}
+use Rattle.enc_top.specs.Words.{Form, later_form, no_form, form_of}
 use Rattle.enc_top.specs.declared.status.Status.{Status}
 use Rattle.enc_top.specs.declared.status.Status.TheVariants.{Done, Usage, Absent, BadCell, BadScript, ReadFault, WriteFault, TooLarge, NoMemory, BadOrder, Stuck, TooManyFindings, NotYet}
 

@@ -1,9 +1,9 @@
 -- The form of the words of a call, by its first word and the others.
-use Rattle.std.proofs.Common.{◌≡◌, ℕ, zero, suc, ◌-◌, ◌<◌, ◌≤◌, take, take_all, ◌&&◌, Bool, true, false, List, [], ◌∷◌, length, map, get_or, drop, cond, String, Global, string_bytes, refl, sym, ap, ◌∙◌, arith}
+use Rattle.std.proofs.Common.{◌≡◌, ℕ, ◌-◌, ◌<◌, ◌≤◌, take, take_all, ◌&&◌, Bool, true, false, List, [], ◌∷◌, length, map, get_or, drop, cond, String, Global, string_bytes, refl, sym, ap, ◌∙◌, arith}
 use Rattle.std.specs.Prelude.{codes, nat_le}
 use Rattle.std.proofs.lemmas.Bool.Decides.{nat_tests}
 use Rattle.std.proofs.lemmas.List.{length-drop, length-map}
-use Rattle.enc_top.specs.Words.{Form, check_among, check_form, form_of, is_between, is_later_form, is_word, later_form, no_form, replay_among, replay_form}
+use Rattle.enc_top.specs.Words.{check_among, check_form, form_of, is_between, is_later_form, is_word, later_form, no_form, replay_among, replay_form}
 
 -- the words behind the first ones
 pub behind : (n : ℕ) (words : List (String Global)) → take (length words - n) (drop n words) ≡ drop n words

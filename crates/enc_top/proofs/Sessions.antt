@@ -1,12 +1,12 @@
 -- The sessions of an order.
-use Rattle.std.proofs.Common.{◌≡◌, ℕ, zero, suc, ◌+◌, ◌<◌, ◌≤◌, Bool, true, false, List, [], ◌∷◌, length, filter_map, All, Option, Some, None, Result, Ok, Err, cond, refl, sym, ap, subst, arith}
-use Rattle.std.specs.Prelude.{IfSome, codes, take, drop, nat_eq}
+use Rattle.std.proofs.Common.{◌≡◌, ℕ, zero, suc, ◌+◌, ◌<◌, ◌≤◌, Bool, true, false, List, [], ◌∷◌, length, filter_map, All, Option, Some, None, Result, Ok, Err, cond, subst, arith}
+use Rattle.std.specs.Prelude.{IfSome, drop, nat_eq}
 use Rattle.std.specs.List.{AllByRecursion, cons_option, find, range_with_len}
 use Rattle.std.specs.Cmp.Lexicographic.{pointwise}
 use Rattle.std.specs.Fmt.{decimal}
 use Rattle.std.specs.Option.{option_map_or}
 use Rattle.std.proofs.lemmas.List.Elements.{All-from_recursion}
-use Rattle.text_spec.specs.OrderLine.{are_all_used, ended_order, ends_well, first_bad_item, order_among, order_items, order_of, session_of}
+use Rattle.text_spec.specs.OrderLine.{ended_order, first_bad_item, order_among, order_items, order_of, session_of}
 
 abbrev IsBetween : ℕ → ℕ → ℕ → Type 0
 IsBetween low high n = (low ≤ n) × (n < high)

@@ -1,5 +1,5 @@
 -- The bases of desks as a list, and the states with one base changed.
-use Rattle.std.proofs.Common.{◌≡◌, ℕ, ◌<◌, ◌==◌, refl, zero, suc, [], ◌∷◌, Bool, true, false, List, length, get_or, set, cond, sym, ap, arith, subst}
+use Rattle.std.proofs.Common.{◌≡◌, ℕ, ◌<◌, ◌==◌, refl, zero, suc, [], ◌∷◌, Bool, true, false, List, length, get_or, set, cond, arith}
 use Rattle.std.proofs.lemmas.Bool.Decides.{nat_tests}
 use Rattle.std.proofs.lemmas.List.{get_or-set_other}
 use Rattle.std.proofs.lemmas.Grind.{get_or-set_at}

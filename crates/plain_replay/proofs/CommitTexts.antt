@@ -1,5 +1,5 @@
 -- The lines of accepted commits, as each is taken in.
-use Rattle.std.proofs.Common.{◌≡◌, ℕ, zero, suc, ◌+◌, ◌-◌, ◌<◌, ◌≤◌, List, [], ◌∷◌, ◌++◌, length, take, drop, map, filter_map, Option, Some, None, refl, sym, ap, ◌∙◌, subst, append_assoc, length-append, arith, take_all}
+use Rattle.std.proofs.Common.{◌≡◌, ℕ, suc, ◌+◌, ◌-◌, ◌<◌, ◌≤◌, List, [], ◌∷◌, ◌++◌, length, drop, filter_map, Option, Some, None, refl, sym, ap, ◌∙◌, length-append, arith, take_all}
 use Rattle.std.specs.Prelude.{codes, flat_map, fold, IfSome}
 use Rattle.std.specs.Fmt.{decimal}
 use Rattle.std.specs.List.{cons_option, enumerate_from}
@@ -19,8 +19,8 @@ use Rattle.rule_spec.specs.Kinds.{built_kinds}
 use Rattle.text_spec.specs.EditLine.{edit_line}
 use Rattle.text_spec.specs.Lines.{line}
 use Rattle.history_spec.specs.ReportText.{commit_text}
-use Rattle.history_spec.specs.Sessions.{Request as Asked, history_after, replies_from, request_step, see, offer, event_of}
-use Rattle.history_spec.specs.Steps.{AcceptedCommit, Event, History, answer, cell_after, clash_with, commit, edit_named, faulty, first_of, left_after, newer_answer, opening, shared_names, state_refusal, view}
+use Rattle.history_spec.specs.Sessions.{Request as Asked, request_step, event_of}
+use Rattle.history_spec.specs.Steps.{AcceptedCommit, Event, History, answer, cell_after, clash_with, commit, edit_named, faulty, first_of, left_after, newer_answer, shared_names, state_refusal, view}
 use Rattle.history_spec.specs.declared.refusal.StateRefusal.{StateRefusal}
 use Rattle.history_spec.specs.declared.reply.Reply.{Reply}
 use Rattle.history_spec.specs.declared.reply.Reply.TheVariants.{Viewed, Formed, Newer, Refused, Accepted}

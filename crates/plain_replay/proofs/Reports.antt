@@ -1,5 +1,5 @@
 -- The report of a run, by its parts.
-use Rattle.std.proofs.Common.{◌≡◌, ℕ, zero, suc, ◌+◌, ◌-◌, ◌<◌, List, [], ◌∷◌, ◌++◌, length, take, map, filter_map, get_or, Option, refl, sym, ap, ◌∙◌, subst, arith}
+use Rattle.std.proofs.Common.{◌≡◌, ℕ, zero, suc, ◌+◌, ◌-◌, ◌<◌, List, [], ◌∷◌, ◌++◌, length, take, map, filter_map, get_or, refl, sym, ap, ◌∙◌, subst, arith}
 use Rattle.std.specs.Prelude.{codes, flat_map, slice_get, slice_index_or, count_by, ◌==◌}
 use Rattle.std.specs.List.{enumerate_from, range_with_len}
 use Rattle.std.specs.Option.{option_map}
@@ -16,14 +16,14 @@ use Rattle.text_spec.specs.CellText.{text_with}
 use Rattle.text_spec.specs.Lines.{line}
 use Rattle.text_spec.specs.OrderLine.{order_line}
 use Rattle.text_spec.specs.declared.command.Command.{Command}
-use Rattle.history_spec.specs.ReportText.{history_text, report, report_with, session_text}
-use Rattle.history_spec.specs.Sessions.{Request as Asked, history_after, ordered_requests, replies_from, replies_to, request_at, requests_of, script_of}
-use Rattle.history_spec.specs.Steps.{History, cell_after, opening}
+use Rattle.history_spec.specs.ReportText.{report, session_text}
+use Rattle.history_spec.specs.Sessions.{Request as Asked, ordered_requests, replies_to, request_at, requests_of, script_of}
+use Rattle.history_spec.specs.Steps.{History, cell_after}
 use Rattle.history_spec.specs.declared.reply.Reply.{Reply}
 use Rattle.plain_history.specs.Kept.{state_of}
 use Rattle.plain_replay.specs.Requests.{request_of}
 use Rattle.plain_replay.specs.declared.request.Request.{Request}
-use Rattle.plain_replay.specs.Runs.{IsRun, asked_at, asked_lists, commit_texts}
+use Rattle.plain_replay.specs.Runs.{IsRun, asked_at, asked_lists}
 use Rattle.plain_replay.specs.declared.run.Run.{Run}
 
 -- ---- the parts of sessions, one after the other

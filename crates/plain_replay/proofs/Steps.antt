@@ -1,15 +1,15 @@
 -- One more request of a run.
-use Rattle.std.proofs.Common.{◌≡◌, ℕ, List, [], ◌∷◌, ◌++◌, refl, sym, ap, ◌∙◌, subst, append_assoc}
+use Rattle.std.proofs.Common.{◌≡◌, ℕ, List, [], ◌∷◌, ◌++◌, refl, sym, ap, ◌∙◌}
 use Rattle.std.proofs.lemmas.List.Sums.{fold-append}
 use Rattle.s57_types.specs.declared.cell.Cell.{Cell}
 use Rattle.rule_spec.specs.Kinds.{built_kinds}
 use Rattle.history_spec.specs.Sessions.{Request as Asked, history_after, replies_from, request_step}
 use Rattle.history_spec.specs.Steps.{History, opening}
 use Rattle.history_spec.specs.declared.reply.Reply.{Reply}
-use Rattle.plain_history.specs.Kept.{IsAnswered, KeptHistory, state_of}
+use Rattle.plain_history.specs.Kept.{IsAnswered, state_of}
 use Rattle.plain_replay.specs.Runs.{IsRun, accepted_text, commit_texts}
 use Rattle.plain_replay.specs.declared.run.Run.{Run}
-use Rattle.plain_replay.proofs.CommitTexts.{IsGrown, IsOn, grown}
+use Rattle.plain_replay.proofs.CommitTexts.{IsOn, grown}
 
 pub replies_more : (h : History) (asked : List (ℕ × Asked)) (told : ℕ × Asked)
     → replies_from built_kinds h (asked ++ (told ∷ [])) ≡ replies_from built_kinds h asked ++ ((told.0, (request_step built_kinds (history_after built_kinds h asked) told).0) ∷ [])

@@ -1,5 +1,5 @@
 -- What the commands of a script ask of the history. This project's own rules.
-use Rattle.std.specs.Prelude.{◌≡◌, ℕ, ◌<◌, ◌^◌, true, List, [], ◌∷◌, ◌++◌, length}
+use Rattle.std.specs.Prelude.{◌≡◌, ◌<◌, ◌^◌, true, List, [], ◌∷◌, ◌++◌, length}
 use Rattle.std.specs.List.{list_all}
 use Rattle.cell_spec.specs.declared.edit.Edit.{Edit}
 use Rattle.text_spec.specs.EditLine.{is_minimal_edit}

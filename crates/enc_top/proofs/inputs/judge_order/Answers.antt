@@ -1,4 +1,3 @@
-use Rattle.std.proofs.Common.{◌≡◌}
 use Rattle.enc_top.proofs.Sessions.{sessions_in_range}
 use Rattle.enc_top.proofs.inputs.judge_order.Goals as goal
 

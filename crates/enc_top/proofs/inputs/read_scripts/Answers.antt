@@ -1,5 +1,5 @@
-use Rattle.std.proofs.Common.{◌≡◌, ◌+◌, ◌<◌, ◌≤◌, length, map, string_bytes, sym, ap, ◌∙◌, subst, arith}
-use Rattle.std.proofs.Common.{[], ◌∷◌, ◌++◌, All, Err, Ok, Global, IfSome, length-append}
+use Rattle.std.proofs.Common.{◌≡◌, ◌<◌, length, map, string_bytes, sym, ap, ◌∙◌, subst, arith}
+use Rattle.std.proofs.Common.{[], ◌∷◌, All, Err, Ok, Global, IfSome, length-append}
 use Rattle.std.specs.Prelude.{Vec, slice_index_or}
 use Rattle.script_text.specs.declared.script.Script.{Script}
 use Rattle.std.proofs.lemmas.List.{length-map}

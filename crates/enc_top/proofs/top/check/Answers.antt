@@ -1,8 +1,8 @@
-use Rattle.std.proofs.Common.{◌≡◌, ℕ, ◌++◌, [], Ok, Err, Global, IfSome, inl, length, string_bytes, sym, ap, ◌∙◌, subst, arith}
+use Rattle.std.proofs.Common.{◌≡◌, ◌++◌, Ok, IfSome, inl, length, sym, ap, ◌∙◌, subst, arith}
 use Rattle.rule_spec.specs.Findings.{all_findings}
 use Rattle.rule_spec.specs.Kinds.{built_kinds}
 use Rattle.text_spec.specs.CellText.{cell_text, text_with}
-use Rattle.enc_top.specs.Inputs.{CellIs, OutputIs}
+use Rattle.enc_top.specs.Inputs.{OutputIs}
 use Rattle.enc_top.specs.Outcome.{IsOutput}
 use Rattle.enc_top.specs.Words.{check_form}
 use Rattle.enc_top.proofs.Answered.{both_told}

@@ -1,8 +1,8 @@
-use Rattle.std.proofs.Common.{◌≡◌, ◌⊎◌, ◌≤◌, ℕ, All, Err, count_by, Global, inr, refl, sym, ap, ◌∙◌, subst, length, map, arith}
+use Rattle.std.proofs.Common.{◌≡◌, ◌≤◌, ℕ, All, Err, count_by, Global, inr, refl, sym, ap, ◌∙◌, subst, length}
 use Rattle.std.specs.Prelude.{Vec}
 use Rattle.std.proofs.lemmas.List.{length-map}
 use Rattle.text_spec.specs.ScriptLines.{is_shared}
-use Rattle.enc_top.specs.Inputs.{OrderIs, OrderedRunIs, quotas_of}
+use Rattle.enc_top.specs.Inputs.{OrderIs, OrderedRunIs}
 use Rattle.enc_top.proofs.Answered.{tells_first}
 use Rattle.enc_top.proofs.top.run_in_order_of.Goals as goal
 

@@ -1,4 +1,4 @@
-use Rattle.std.proofs.Common.{◌≡◌, ◌⊎◌, inl, inr, ℕ, Ok, Err, Global, map, string_bytes, refl, sym, ap, ◌∙◌, subst}
+use Rattle.std.proofs.Common.{◌≡◌, ◌⊎◌, inl, inr, ℕ, Ok, Global, map, string_bytes, refl, subst}
 use Rattle.std.specs.Prelude.{Vec}
 use Rattle.script_text.specs.declared.script.Script.{Script}
 use Rattle.enc_top.specs.Inputs.{IsAmong, OrderedRunIs, RunIs, ScriptsAre, Tells}

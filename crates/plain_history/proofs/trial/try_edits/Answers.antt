@@ -1,10 +1,8 @@
-use Rattle.std.proofs.Common.{◌≡◌, sym, ap, ◌∙◌, subst, None, Some, filter_map, List}
+use Rattle.std.proofs.Common.{sym, ap, ◌∙◌, subst, Some, filter_map}
 use Rattle.std.specs.Option.{option_map_or}
 use Rattle.cell_spec.specs.Edits.{apply_edits}
-use Rattle.cell_spec.specs.declared.edit.Edit.{Edit}
 use Rattle.rule_spec.specs.Kinds.{built_kinds}
-use Rattle.history_spec.specs.Steps.{edit_refusal, finding_limit, first_of, size_refusal}
-use Rattle.edge_findings.specs.AllFindings.{IsAllOf}
+use Rattle.history_spec.specs.Steps.{edit_refusal, first_of, size_refusal}
 use Rattle.edge_findings.specs.MinimalCell.{IsMinimalCell}
 use Rattle.plain_history.specs.Trials.{IsSize}
 use Rattle.plain_history.proofs.MinimalEdits.{minimal_after}

@@ -1,4 +1,4 @@
-use Rattle.std.proofs.Common.{◌≡◌, ℕ, ◌≤◌, List, [], ◌++◌, length, map, filter_map, subst, ap, ◌∙◌, arith}
+use Rattle.std.proofs.Common.{ℕ, [], ◌++◌, length, filter_map, subst, ap, ◌∙◌, arith}
 use Rattle.std.specs.Prelude.{codes, flat_map}
 use Rattle.std.specs.List.{enumerate_from, range_with_len}
 use Rattle.rule_spec.specs.Findings.{all_findings}
@@ -32,7 +32,7 @@ returns c =
     let at : ℕ → Cell = λ n. cell_after n run.history.commits cell in
     let first = c.in_ok-push_order.ensures ∙ ap (λ text. text ++ order_line order) c.new-out.ensures.items in
     let second = c.in_ok-push_sessions.ensures at
-        ∙ (λ i. first i ++ flat_map (λ session. session_text built_kinds at session (script_of scripts session) (replies_to session (c.deref-2.ensures.value i))) (range_with_len 1 (length scripts))) in
+    ∙ (λ i. first i ++ flat_map (λ session. session_text built_kinds at session (script_of scripts session) (replies_to session (c.deref-2.ensures.value i))) (range_with_len 1 (length scripts))) in
     let third = c.in_ok-push_history.ensures ∙ (λ i. second i ++ (line (codes "history") [] ++ c.deref-3.ensures.value i)) in
     let rows = all_findings built_kinds run.history.cell in
     whole_report cell scripts order run (asked_lists c.in_ok-requests.requests.items) c.push_cell.new.out.items c.in_ok-requests.ensures.asked ran

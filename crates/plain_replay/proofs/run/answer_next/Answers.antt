@@ -1,4 +1,4 @@
-use Rattle.std.proofs.Common.{◌≡◌, ◌-◌, ◌<◌, ◌≤◌, ◌++◌, length, get_or, subst, sym, ap, ◌∙◌, OnOk, option_to_list, arith}
+use Rattle.std.proofs.Common.{◌-◌, ◌<◌, ◌≤◌, ◌++◌, length, get_or, subst, sym, ap, ◌∙◌, OnOk, option_to_list, arith}
 use Rattle.std.proofs.lemmas.List.{append-nil}
 use Rattle.plain_replay.specs.Runs.{IsRun}
 use Rattle.plain_replay.proofs.Places.{none_next, some_next}

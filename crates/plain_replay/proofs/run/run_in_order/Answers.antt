@@ -1,5 +1,4 @@
-use Rattle.std.proofs.Common.{◌≡◌, ◌+◌, ◌-◌, ◌<◌, ◌≤◌, ◌++◌, ap, length, option_to_list, filter_map, get_or, take, take_all, subst, sym, ◌∙◌, refl, arith}
-use Rattle.std.specs.Prelude.{slice_index}
+use Rattle.std.proofs.Common.{◌-◌, ◌<◌, ◌≤◌, ◌++◌, ap, length, option_to_list, filter_map, get_or, take, take_all, subst, sym, ◌∙◌, refl, arith}
 use Rattle.std.specs.List.{enumerate_from}
 use Rattle.std.proofs.lemmas.List.FromFn.{length-enumerate_from}
 use Rattle.plain_replay.specs.Runs.{IsRun, asked_after, asked_at, asked_lists}
@@ -17,8 +16,8 @@ loop-session-preserved c =
     let in_range = c.requires.sessions k 0 within in
     let below : session ≤ length c.loop-session.used.items = (let range = in_range.1 in let many = before.0 in omega (arith, range, many)) in
     let asked =
-        asked_more lists order c.loop-session.used.items k session 0 within refl in_range.0 below before.1
-        ∙ ap (λ n. filter_map (asked_at lists order) (take k (enumerate_from 0 order)) ++ option_to_list (asked_after lists session n)) (read_there c.loop-session.used.items (session - 1) c.index-before.result.now (let above = in_range.0 in omega (arith, above, below)) c.index-before.ensures) in (
+    asked_more lists order c.loop-session.used.items k session 0 within refl in_range.0 below before.1
+    ∙ ap (λ n. filter_map (asked_at lists order) (take k (enumerate_from 0 order)) ++ option_to_list (asked_after lists session n)) (read_there c.loop-session.used.items (session - 1) c.index-before.result.now (let above = in_range.0 in omega (arith, above, below)) c.index-before.ensures) in (
       c.count_up.ensures.length ∙ before.0,
       counts_more order c.count_up.new.used.items k session 0 within refl (c.count_up.ensures.counts (take k order) before.1),
       (λ cell opened. subst (λ told. IsRun cell told c.answer_next.new.run) (sym asked) (c.in_ok-answer_next.ensures cell _ (before.2 cell opened))),

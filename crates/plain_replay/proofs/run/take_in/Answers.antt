@@ -1,4 +1,3 @@
-use Rattle.std.proofs.Common.{◌≡◌}
 use Rattle.plain_replay.proofs.Steps.{run_more}
 use Rattle.plain_replay.proofs.run.take_in.Goals as goal
 

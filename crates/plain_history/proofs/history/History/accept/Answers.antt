@@ -1,6 +1,5 @@
 use Rattle.std.proofs.Common.{◌≡◌, ◌+◌, ◌<◌, length, sym, ap, ◌∙◌, arith}
 use Rattle.cell_spec.specs.Edits.{apply_edits}
-use Rattle.history_spec.specs.declared.reply.Reply.TheVariants.{Accepted}
 use Rattle.plain_history.specs.Kept.{KeptHistory}
 use Rattle.plain_history.proofs.StepStates.{accepted_reply, accepted_state}
 use Rattle.plain_history.proofs.history.History.accept.Goals as goal

@@ -1,4 +1,4 @@
-use Rattle.std.proofs.Common.{◌≡◌, sym, ap, ◌∙◌, subst}
+use Rattle.std.proofs.Common.{sym, ap, ◌∙◌, subst}
 use Rattle.history_spec.specs.Steps.{newer_answer}
 use Rattle.plain_history.specs.Kept.{KeptHistory, base_of}
 use Rattle.plain_history.specs.Trials.{IsTrial}

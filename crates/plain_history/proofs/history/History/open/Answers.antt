@@ -1,4 +1,4 @@
-use Rattle.std.proofs.Common.{◌≡◌, ℕ, List, [], ◌∷◌, refl}
+use Rattle.std.proofs.Common.{ℕ, List, [], ◌∷◌, refl}
 use Rattle.plain_history.proofs.Bases.{no_bases, zeros}
 use Rattle.plain_history.proofs.history.History.open.Goals as goal
 
