@@ -5,9 +5,9 @@ mod stored;
 
 use super::*;
 use enc_outside::{MemShelf, MemSink, NoMeet};
-use minimal::{crowded_file, head_file, minimal_file};
+use minimal::{crowded_file, head_file, minimal_file, nodes_file};
 use s57_types::{CellFault, Text};
-use sessions::{place_sessions, replayed};
+use sessions::{place_sessions, replayed, replayed_on};
 use slow::{SlowShelf, SlowSink};
 use std::alloc::Global;
 use std::test::Fail;
@@ -430,6 +430,32 @@ fn each_failing_read_ends_a_run(rt: HostRuntime) -> Result<(), Fail> {
         let status = run_plain(&rt, alloc, &words, &mut shelf, &mut out);
         assert_eq!(rt; status.number(), if call < 7 { 6 } else { 0 });
         assert_eq!(rt; out.bytes().is_empty(), call < 7);
+    }
+    Ok(())
+}
+
+#[test]
+fn a_full_cell_takes_no_more(rt: HostRuntime) -> Result<(), Fail> {
+    let alloc = rt.alloc();
+    let mut long = Vec::from_slice(alloc, b"add vc 9 1")?;
+    for _ in 0..12_500 {
+        long.extend_from_slice(b" p=0,0")?;
+    }
+    long.extend_from_slice(b"\ncommit\n")?;
+    let node = b"add vc 4294967295 1\ncommit\n".as_slice();
+    let edge = b"add ve 99 1\ncommit\n".as_slice();
+    let cases = [
+        (minimal_file(alloc)?, long.as_slice(), "unfit 1 too long"),
+        (nodes_file(alloc, 262_144)?, node, "cell full 262145"),
+        (crowded_file(alloc, 519)?, edge, "findings full"),
+    ];
+    for (cell, script, refusal) in &cases {
+        let (status, text) = replayed_on(&rt, alloc, cell, b"order 1\n", &[*script])?;
+        assert_eq!(rt; status.number(), 0);
+        let begin = format!(in alloc;
+            "order 1\nsession 1\ndraft 1\ncommit refused {refusal}\nhistory\ncell"
+        )?;
+        assert!(rt; text.starts_with(begin.as_bytes()));
     }
     Ok(())
 }

@@ -309,3 +309,21 @@ pub fn crowded_file(alloc: Global, ends: usize) -> Result<Vec<u8>, Fail> {
     push_crowded_edge(alloc, &mut file, 25, ends)?;
     Ok(file)
 }
+
+/// So many connected nodes without coordinates, numbered from 0.
+pub fn nodes_file(alloc: Global, nodes: u32) -> Result<Vec<u8>, Fail> {
+    let fields = [
+        field(alloc, b"0001", &[&[0, 0]])?,
+        field(alloc, b"VRID", &[&[120, 0, 0, 0, 0, 1, 0, 1]])?,
+    ];
+    let mut record = Vec::new(alloc);
+    push_record(alloc, &mut record, " D     ", "   ", (1, 1), &fields)?;
+    let before = record.get(..41).ok_or("it is long")?;
+    let mut file = head_file(alloc)?;
+    for number in 0..nodes {
+        file.extend_from_slice(before)?;
+        file.extend_from_slice(&number.to_le_bytes())?;
+        file.extend_from_slice(b"\x01\x00\x01\x1e")?;
+    }
+    Ok(file)
+}

@@ -10,7 +10,18 @@ pub fn replayed<R: Threads + Sync>(
     order: &[u8],
     scripts: &[&[u8]],
 ) -> Result<(Status, Vec<u8>), Fail> {
-    let mut shelf = shelf_of(alloc, &minimal_file(alloc)?)?;
+    replayed_on(rt, alloc, &minimal_file(alloc)?, order, scripts)
+}
+
+/// The same on another cell file.
+pub fn replayed_on<R: Threads + Sync>(
+    rt: &R,
+    alloc: Global,
+    cell: &[u8],
+    order: &[u8],
+    scripts: &[&[u8]],
+) -> Result<(Status, Vec<u8>), Fail> {
+    let mut shelf = shelf_of(alloc, cell)?;
     let words = place_sessions(alloc, &mut shelf, order, scripts)?;
     let mut out = MemSink::make(alloc);
     let status = run_plain(rt, alloc, &words, &mut shelf, &mut out);
