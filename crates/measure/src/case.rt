@@ -1,6 +1,6 @@
 //! The cases by their names.
 
-use crate::{lookups, table};
+use crate::{fields, lookups, table};
 use std::fmt;
 
 /// What is timed.
@@ -16,6 +16,8 @@ pub enum Case {
     Table(table::Work),
     /// Look-ups in a cell.
     Lookups(lookups::Work),
+    /// Fields read or written; the size is how often.
+    Fields(fields::Work),
 }
 
 impl Case {
@@ -27,7 +29,8 @@ impl Case {
             "turns" => Some(Case::Turns),
             _ => table::Work::of(name)
                 .map(Case::Table)
-                .or_else(|| lookups::Work::of(name).map(Case::Lookups)),
+                .or_else(|| lookups::Work::of(name).map(Case::Lookups))
+                .or_else(|| fields::Work::of(name).map(Case::Fields)),
         }
     }
 }
@@ -40,6 +43,7 @@ impl fmt::Display for Case {
             Case::Turns => f.write_str("turns"),
             Case::Table(work) => work.fmt(f),
             Case::Lookups(work) => work.fmt(f),
+            Case::Fields(work) => work.fmt(f),
         }
     }
 }

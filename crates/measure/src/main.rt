@@ -6,6 +6,7 @@
 
 mod baseline;
 mod case;
+mod fields;
 mod lookups;
 mod segments;
 mod table;
@@ -33,6 +34,7 @@ fn outcome<R: Threads + Wait + Sync>(
         Case::Turns => turns::sum_of_numbers(rt, alloc, size),
         Case::Table(work) => table::outcome(alloc, work, size),
         Case::Lookups(work) => lookups::outcome(alloc, work, size),
+        Case::Fields(work) => fields::outcome(alloc, work, size),
     }
 }
 
