@@ -1,4 +1,4 @@
--- All findings of a minimal cell by the built rules are those of its edges, one edge after the other.
+-- All findings of a writable cell by the built rules are those of its edges, one edge after the other.
 use Rattle.std.proofs.Common.{◌≡◌, ℕ, ◌+◌, ◌<◌, ◌≤◌, take, drop, take-append-drop, length-append, get_or, Bool, true, false, ◌&&◌, List, [], ◌∷◌, ◌++◌, map, filter, length, Option, Some, cond, find, is_some, refl, sym, ap, ◌∙◌, subst, arith}
 use Rattle.std.specs.Prelude.{◌==◌, nat_lt}
 use Rattle.std.specs.List.{flat_map, AllByRecursion, IsDistinct}
@@ -25,6 +25,7 @@ use Rattle.cell_spec.specs.declared.key.Subject.TheVariants.{Rec, Side, Pair, Id
 use Rattle.cell_spec.specs.Ascending.{ascending}
 use Rattle.cell_spec.specs.Lookup.{all_records, is_named, identities_of, lookup_record, name_of}
 use Rattle.cell_spec.specs.Names.{kind_rank, same_name, subject_order}
+use Rattle.cell_spec.specs.Writable.{HaveDistinctNames, IsWritable}
 use Rattle.rule_spec.specs.EdgeEnds.{end_count, dangling_end}
 use Rattle.rule_spec.specs.Findings.{all_findings, finding, finding_total, findings_among, findings_of_record, findings_of_subject, is_subject, possible_subjects, record_names, subjects}
 use Rattle.rule_spec.specs.Kinds.{built_kinds}
@@ -34,13 +35,12 @@ use Rattle.edge_findings.specs.Ends.{vectors_of}
 use Rattle.edge_findings.specs.Rows.{with_subject, findings_of_rows}
 use Rattle.edge_findings.specs.AllFindings.{IsAllOf}
 use Rattle.edge_findings.specs.EdgeFindings.{edge_findings, is_node_of}
-use Rattle.edge_findings.specs.MinimalCell.{IsMinimalCell}
 use Rattle.edge_findings.proofs.Ascending.{sorted-ascending, same_when_sorted}
 use Rattle.edge_findings.proofs.Edges.{vectors_of-append}
 use Rattle.edge_findings.proofs.SubjectOrder.{exact_subjects, total_subjects}
 use Rattle.edge_findings.proofs.RowTexts.{row_counts}
-use Rattle.edge_findings.proofs.Nodes.{records_are}
-use Rattle.edge_findings.proofs.EdgeSubjects.{is_edge_subject, edge_subject, AreEdges, edges_are, held_subject, edges_sorted, distinct_right, names_of_vectors, edges_of_vectors}
+use Rattle.edge_findings.proofs.WritableLists.{edges_are}
+use Rattle.edge_findings.proofs.EdgeSubjects.{is_edge_subject, edge_subject, AreEdges, held_subject, edges_sorted, distinct_left, distinct_right, names_of_vectors, edges_of_vectors}
 
 -- the findings about a subject, each with it
 abbrev pub subject_findings : Cell → Subject → List SubjectFinding
@@ -167,6 +167,10 @@ vectors_found (V v ∷ rs) d =
     (ap (λ b. cond b (Some (V v)) (find (is_named v.name) rs)) (names_itself v.name), found_later (V v) rs (vectors_of rs) (of_vectors v.name rs d.0) (vectors_found rs d.1))
 vectors_found (F f ∷ rs) d = found_later (F f) rs (vectors_of rs) (of_vectors f.name rs d.0) (vectors_found rs d.1)
 
+left_part : (P : Vector → Type 0) (xs ys : List Vector) → AllByRecursion P (xs ++ ys) → AllByRecursion P xs
+left_part P [] ys h = tt
+left_part P (x ∷ xs) ys h = (h.0, left_part P xs ys h.1)
+
 right_part : (P : Vector → Type 0) (xs ys : List Vector) → AllByRecursion P (xs ++ ys) → AllByRecursion P ys
 right_part P [] ys h = h
 right_part P (x ∷ xs) ys h = right_part P xs ys h.1
@@ -183,30 +187,29 @@ findings_of_edges : (c : Cell) (es : List Vector) → AreEdges es → AreFoundIn
 findings_of_edges c [] k h = refl
 findings_of_edges c (e ∷ es) k h = λ i. finding_of_edge c e k.0 h.0 i ++ findings_of_edges c es k.1 h.1 i
 
-module _ (c : Cell) (m : IsMinimalCell c) (es : List Vector) (moved : IsPermutation (vectors_of c.ve) es) (rises : IsNonDecreasingBy (λ (e : Vector). e.name.id) es) where
-  distinct_records : IsDistinct same_name (map name_of (c.vc ++ c.ve))
-  distinct_records = subst (λ rs. IsDistinct same_name (map name_of rs)) (records_are c m) m.distinct
-
+module _ (c : Cell) (w : IsWritable c) (es : List Vector) (moved : IsPermutation (vectors_of c.ve) es) (rises : IsNonDecreasingBy (λ (e : Vector). e.name.id) es) where
   are_edges : AreEdges es
   are_edges =
       recursion_from_All (λ (e : Vector). e.name.kind ≡ Ve) es
       (All-permutation (λ (e : Vector). e.name.kind ≡ Ve) (vectors_of c.ve) es moved
-      (All-from_recursion (λ (e : Vector). e.name.kind ≡ Ve) (vectors_of c.ve) (edges_of_vectors c.ve (edges_are c m))))
+      (All-from_recursion (λ (e : Vector). e.name.kind ≡ Ve) (vectors_of c.ve) (edges_of_vectors c.ve (edges_are c w))))
 
   distinct_edges : IsDistinct same_name (map (λ (e : Vector). e.name) es)
   distinct_edges =
       IsDistinct-IsPermutation same_name names_flip (map (λ (e : Vector). e.name) (vectors_of c.ve)) (map (λ (e : Vector). e.name) es)
       (IsPermutation-map (λ (e : Vector). e.name) (vectors_of c.ve) es moved)
-      (subst (IsDistinct same_name) (names_of_vectors c.ve (edges_are c m)) (distinct_right c.vc c.ve distinct_records))
+      (subst (IsDistinct same_name) (names_of_vectors c.ve (edges_are c w)) (distinct_right (c.vi ++ c.vc) c.ve (distinct_left (c.vi ++ c.vc ++ c.ve) c.fe w.names_distinct)))
 
   edges_found : AreFoundIn (all_records c) es
   edges_found =
-      recursion_from_All (λ (e : Vector). find (is_named e.name) (all_records c) ≡ Some (V e)) es
-      (All-permutation (λ (e : Vector). find (is_named e.name) (all_records c) ≡ Some (V e)) (vectors_of c.ve) es moved
-      (All-from_recursion (λ (e : Vector). find (is_named e.name) (all_records c) ≡ Some (V e)) (vectors_of c.ve)
-      (subst (λ rs. AreFoundIn rs (vectors_of c.ve)) (sym (records_are c m))
-      (right_part (λ (e : Vector). find (is_named e.name) (c.vc ++ c.ve) ≡ Some (V e)) (vectors_of c.vc) (vectors_of c.ve)
-      (subst (AreFoundIn (c.vc ++ c.ve)) (vectors_of-append c.vc c.ve) (vectors_found (c.vc ++ c.ve) distinct_records))))))
+      let found : Vector → Type 0 = λ e. find (is_named e.name) (all_records c) ≡ Some (V e) in
+      recursion_from_All found es
+      (All-permutation found (vectors_of c.ve) es moved
+      (All-from_recursion found (vectors_of c.ve)
+      (right_part found (vectors_of (c.vi ++ c.vc)) (vectors_of c.ve)
+      (subst (AllByRecursion found) (vectors_of-append (c.vi ++ c.vc) c.ve)
+      (left_part found (vectors_of (c.vi ++ c.vc ++ c.ve)) (vectors_of c.fe)
+      (subst (AllByRecursion found) (vectors_of-append (c.vi ++ c.vc ++ c.ve) c.fe) (vectors_found (all_records c) w.names_distinct)))))))
 
   sorted_subjects : IsStrictlySortedBy subject_order (filter is_edge_subject (subjects c))
   unfolding subjects
@@ -220,7 +223,7 @@ module _ (c : Cell) (m : IsMinimalCell c) (es : List Vector) (moved : IsPermutat
       same_when_sorted subject_order total_subjects exact_subjects (filter is_edge_subject (subjects c)) (map edge_subject es)
       sorted_subjects
       (edges_sorted es are_edges distinct_edges rises)
-      (λ q. held_subject c m q ∙ list_any-IsPermutation (λ s. is_eq (subject_order q s)) (map edge_subject (vectors_of c.ve)) (map edge_subject es) (IsPermutation-map edge_subject (vectors_of c.ve) es moved))
+      (λ q. held_subject c w q ∙ list_any-IsPermutation (λ s. is_eq (subject_order q s)) (map edge_subject (vectors_of c.ve)) (map edge_subject es) (IsPermutation-map edge_subject (vectors_of c.ve) es moved))
 
   -- all findings are those of the edges
   pub findings_by_edge : findings_of_rows (all_findings built_kinds c) ≡ flat_map (edge_findings c (is_node_of c)) es
@@ -232,14 +235,14 @@ module _ (c : Cell) (m : IsMinimalCell c) (es : List Vector) (moved : IsPermutat
       ∙ findings_of_edges c es are_edges edges_found
 
 -- ---- the findings as a loop over the edges in order gathers them
-module _ {X : Type 0} (vector : X → Vector) (test : RecName → Bool) (c : Cell) (m : IsMinimalCell c) (xs : List X)
+module _ {X : Type 0} (vector : X → Vector) (test : RecName → Bool) (c : Cell) (w : IsWritable c) (xs : List X)
     (moved : IsPermutation (vectors_of c.ve) (map vector xs)) (rises : IsNonDecreasingBy (λ x. (vector x).name.id) xs) (right : (n : RecName) → test n ≡ is_node_of c n) where
   abbrev rows_of : X → List SubjectFinding
   rows_of x = edge_findings c test (vector x)
 
   all_rows : findings_of_rows (all_findings built_kinds c) ≡ flat_map rows_of xs
   all_rows =
-      findings_by_edge c m (map vector xs) moved (rises_by vector (λ e. e.name.id) xs rises)
+      findings_by_edge c w (map vector xs) moved (rises_by vector (λ e. e.name.id) xs rises)
       ∙ flat_map-map (edge_findings c (is_node_of c)) vector xs
       ∙ ap (λ t. flat_map (λ x. edge_findings c t (vector x)) xs) (λ i n. sym (right n) i)
 

@@ -1,4 +1,4 @@
--- The subjects of a minimal cell that the built rules are about: its edges, ascending by number.
+-- The subjects of a writable cell that the built rules are about: its edges, ascending by number.
 use Rattle.std.proofs.Common.{◌≡◌, ℕ, suc, ◌<◌, ◌≤◌, Bool, true, false, ◌&&◌, ◌||◌, List, [], ◌∷◌, ◌++◌, map, filter, Some, cond, find, is_some, IsTrue, refl, sym, ap, ◌∙◌, arith}
 use Rattle.std.specs.Prelude.{◌==◌}
 use Rattle.std.specs.List.{list_any, flat_map, AllByRecursion, IsDistinct}
@@ -22,13 +22,14 @@ use Rattle.cell_spec.specs.declared.key.Subject.TheVariants.{Rec, Side, Pair, Id
 use Rattle.cell_spec.specs.Ascending.{ascending}
 use Rattle.cell_spec.specs.Lookup.{all_records, is_named, identities_of, name_of}
 use Rattle.cell_spec.specs.Names.{kind_rank, same_name, subject_order}
+use Rattle.cell_spec.specs.Writable.{IsWritable}
 use Rattle.rule_spec.specs.Findings.{is_subject, possible_subjects, record_names, subjects}
 use Rattle.rule_spec.specs.Records.{is_edge_name}
 use Rattle.edge_findings.specs.Ends.{vectors_of}
-use Rattle.edge_findings.specs.MinimalCell.{IsMinimalCell, is_vector_of}
 use Rattle.edge_findings.proofs.Ascending.{holds, holds-ascending}
 use Rattle.edge_findings.proofs.SubjectOrder.{exact_subjects, records_tie, record_below}
-use Rattle.edge_findings.proofs.Nodes.{AreVectors, records_are, is_node_kind, is_edge_kind}
+use Rattle.edge_findings.proofs.Nodes.{is_edge_kind}
+use Rattle.edge_findings.proofs.WritableLists.{AreVectors, edges_are, only_edges}
 
 -- the subject is a record with an edge's name
 abbrev pub is_edge_subject : Subject → Bool
@@ -117,12 +118,6 @@ found_any p [] = refl
 found_any p (x ∷ xs) = found_by p (p x) x xs (found_any p xs)
 
 -- ---- the records with an edge's name are the edges
-passed_over : (k : Kind) (hit more : Bool) → ((kind_rank k == 2) && (((kind_rank k == 1) && hit) || more)) ≡ ((kind_rank k == 2) && more)
-passed_over Vi hit more = refl
-passed_over Vc hit more = refl
-passed_over Ve hit more = refl
-passed_over Fe hit more = refl
-
 taken : (k : Kind) (hit more edges : Bool) → ((kind_rank k == 2) && more) ≡ edges → ((kind_rank k == 2) && (((kind_rank k == 2) && hit) || more)) ≡ (((kind_rank k == 2) && hit) || edges)
 taken Vi hit more edges h = h
 taken Vc hit more edges h = h
@@ -144,14 +139,6 @@ among_edges n (V v ∷ edges) h =
     ∙ ap (λ b. b || holds subject_order (Rec n) (map edge_subject (vectors_of edges))) (sym (records_tie n v.name))
 among_edges n (F f ∷ edges) h = cc (h.0)
 
-among_records : (n : RecName) (nodes edges : List Record) → AreVectors Vc nodes → (is_edge_name n && list_any (is_named n) (nodes ++ edges)) ≡ (is_edge_name n && list_any (is_named n) edges)
-among_records n [] edges g = refl
-among_records n (V v ∷ nodes) edges g =
-    ap (λ k. is_edge_name n && (((kind_rank n.kind == kind_rank k) && (n.id == v.name.id)) || list_any (is_named n) (nodes ++ edges))) (is_node_kind v.name.kind g.0)
-    ∙ passed_over n.kind (n.id == v.name.id) (list_any (is_named n) (nodes ++ edges))
-    ∙ among_records n nodes edges g.1
-among_records n (F f ∷ nodes) edges g = cc (g.0)
-
 twice : (b c : Bool) → (b && (c && c)) ≡ (b && c)
 twice true true = refl
 twice true false = refl
@@ -160,13 +147,7 @@ twice false c = refl
 no_tie : (q : Subject) → ((m : RecName) → is_eq (subject_order q (Rec m)) ≡ false) → (es : List Vector) → false ≡ holds subject_order q (map edge_subject es)
 no_tie q h es = sym (any-map (λ y. is_eq (subject_order q y)) edge_subject es ∙ any_same (λ (e : Vector). is_eq (subject_order q (Rec e.name))) (λ e. false) (λ e. h e.name) es ∙ never es)
 
-module _ (c : Cell) (m : IsMinimalCell c) where
-  pub nodes_are : AreVectors Vc c.vc
-  nodes_are = recursion_from_All (λ r. IsTrue (is_vector_of Vc r)) c.vc m.nodes
-
-  pub edges_are : AreVectors Ve c.ve
-  edges_are = recursion_from_All (λ r. IsTrue (is_vector_of Ve r)) c.ve m.edges
-
+module _ (c : Cell) (w : IsWritable c) where
   held : (q : Subject) → holds subject_order q (filter is_edge_subject (subjects c)) ≡ (is_edge_subject q && (is_subject c q && holds subject_order q (possible_subjects (record_names c) (flat_map identities_of (all_records c)))))
   unfolding subjects
   held q =
@@ -180,9 +161,8 @@ module _ (c : Cell) (m : IsMinimalCell c) where
       ∙ ap (λ b. is_edge_name n && (b && holds subject_order (Rec n) (possible_subjects (record_names c) (flat_map identities_of (all_records c))))) (found_any (is_named n) (all_records c))
       ∙ ap (λ b. is_edge_name n && (list_any (is_named n) (all_records c) && b)) (holds_possible n (record_names c) (flat_map identities_of (all_records c)) ∙ any-map (same_name n) name_of (all_records c))
       ∙ twice (is_edge_name n) (list_any (is_named n) (all_records c))
-      ∙ ap (λ records. is_edge_name n && list_any (is_named n) records) (records_are c m)
-      ∙ among_records n c.vc c.ve nodes_are
-      ∙ among_edges n c.ve edges_are
+      ∙ only_edges c w n
+      ∙ among_edges n c.ve (edges_are c w)
 
   -- a subject with an edge's name is one of the edges
   pub held_subject : (q : Subject) → holds subject_order q (filter is_edge_subject (subjects c)) ≡ holds subject_order q (map edge_subject (vectors_of c.ve))
@@ -212,6 +192,15 @@ edges_sorted (e ∷ es) ks d h = (
   above e es ks.0 ks.1 d.0 (recursion_from_All (λ (x : Vector). e.name.id ≤ x.name.id) es (λ k d within. h 0 (suc k) d (omega arith) (omega (arith, within)))),
   edges_sorted es ks.1 d.1 (λ i j d le within. h (suc i) (suc j) d (omega (arith, le)) (omega (arith, within))),
 )
+
+left_of : (P : RecName → Type 0) (xs ys : List Record) → AllByRecursion P (map name_of (xs ++ ys)) → AllByRecursion P (map name_of xs)
+left_of P [] ys h = tt
+left_of P (x ∷ xs) ys h = (h.0, left_of P xs ys h.1)
+
+pub distinct_left : (xs ys : List Record) → IsDistinct same_name (map name_of (xs ++ ys)) → IsDistinct same_name (map name_of xs)
+unfolding IsDistinct
+distinct_left [] ys h = tt
+distinct_left (x ∷ xs) ys h = (left_of (λ m. same_name (name_of x) m ≡ false) xs ys h.0, distinct_left xs ys h.1)
 
 pub distinct_right : (xs ys : List Record) → IsDistinct same_name (map name_of (xs ++ ys)) → IsDistinct same_name (map name_of ys)
 unfolding IsDistinct

@@ -2,6 +2,8 @@ pub mod RowTexts
 pub mod Edges
 pub mod Ascending
 pub mod SubjectOrder
+pub mod WritableLists
 pub mod Nodes
 pub mod EdgeSubjects
+pub mod ShortEdges
 pub mod AllFindings

@@ -1,35 +1,24 @@
--- Names of connected nodes, by the records of a minimal cell.
+-- Names of connected nodes, by the records of a writable cell.
 use Rattle.std.proofs.Common.{◌≡◌, ℕ, Bool, true, false, ◌&&◌, ◌||◌, List, [], ◌∷◌, ◌++◌, Option, None, Some, cond, find, is_some, IsTrue, refl, sym, ap, ◌∙◌}
 use Rattle.std.specs.Prelude.{◌==◌, option_and_then}
 use Rattle.std.specs.BTreeSet.{BTreeSet, contains}
 use Rattle.std.specs.List.{list_any, AllByRecursion}
 use Rattle.std.specs.Ordering.{nat_cmp}
-use Rattle.std.proofs.lemmas.List.{append-nil}
-use Rattle.std.proofs.lemmas.List.Elements.{recursion_from_All}
+use Rattle.s57_types.specs.Fitness.{is_feature_kind}
 use Rattle.s57_types.specs.declared.name.Kind.{Kind}
 use Rattle.s57_types.specs.declared.name.Kind.TheVariants.{Vi, Vc, Ve, Fe}
 use Rattle.s57_types.specs.declared.name.RecName.{RecName}
+use Rattle.s57_types.specs.declared.record.Feature.{Feature}
 use Rattle.s57_types.specs.declared.record.Vector.{Vector}
 use Rattle.s57_types.specs.declared.record.Rec.{Rec}
 use Rattle.s57_types.specs.declared.record.Rec.TheVariants.{V, F}
 use Rattle.s57_types.specs.declared.cell.Cell.{Cell}
 use Rattle.cell_spec.specs.Lookup.{all_records, is_named}
 use Rattle.cell_spec.specs.Names.{kind_rank, is_of_kind}
+use Rattle.cell_spec.specs.Writable.{IsWritable}
 use Rattle.rule_spec.specs.Records.{vector_of}
 use Rattle.edge_findings.specs.EdgeFindings.{is_numbered, is_node_of, names_node}
-use Rattle.edge_findings.specs.MinimalCell.{IsMinimalCell, is_vector_of}
-
--- the records of a cell of connected nodes and edges alone
-pub nodes_then_edges : (c : Cell) → c.vi ≡ [] → c.fe ≡ [] → all_records c ≡ c.vc ++ c.ve
-nodes_then_edges c no_isolated no_features =
-    let both : all_records c ≡ (c.vc ++ c.ve) ++ [] = λ i. ((no_isolated i ++ c.vc) ++ c.ve) ++ no_features i in
-    both ∙ append-nil (c.vc ++ c.ve)
-
-pub records_are : (c : Cell) → IsMinimalCell c → all_records c ≡ c.vc ++ c.ve
-records_are c m = nodes_then_edges c m.no_isolated m.no_features
-
-abbrev pub AreVectors : Kind → List Rec → Type 0
-AreVectors kind = AllByRecursion (λ r. IsTrue (is_vector_of kind r))
+use Rattle.edge_findings.proofs.WritableLists.{AreVectors, AreWellNamed, all_well_named, nodes_are, only_nodes}
 
 pub is_node_kind : (k : Kind) → IsTrue (kind_rank k == kind_rank Vc) → k ≡ Vc
 is_node_kind Vi h = cc
@@ -47,35 +36,69 @@ is_edge_kind Fe h = cc
 abbrev is_found_node : Option Rec → Bool
 is_found_node found = is_some (option_and_then (vector_of (is_of_kind Vc)) found)
 
-no_node_by : (hit : Bool) (v : Vector) (rest : Option Rec) → v.name.kind ≡ Ve → is_found_node rest ≡ false → is_found_node (cond hit (Some (V v)) rest) ≡ false
-no_node_by true v rest e h = ap (λ k. is_some (cond (kind_rank k == 1) (Some v) None)) e
-no_node_by false v rest e h = h
+vector_by : (k l : Kind) (hit more : Bool) (v : Vector) (rest : Option Rec) → v.name.kind ≡ l → is_found_node rest ≡ ((kind_rank k == 1) && more)
+    → is_found_node (cond ((kind_rank k == kind_rank l) && hit) (Some (V v)) rest) ≡ ((kind_rank k == 1) && (((kind_rank k == kind_rank l) && hit) || more))
+vector_by Vi Vi true more v rest e h = ap (λ k. is_some (cond (kind_rank k == 1) (Some v) None)) e
+vector_by Vc Vc true more v rest e h = ap (λ k. is_some (cond (kind_rank k == 1) (Some v) None)) e
+vector_by Ve Ve true more v rest e h = ap (λ k. is_some (cond (kind_rank k == 1) (Some v) None)) e
+vector_by Fe Fe true more v rest e h = ap (λ k. is_some (cond (kind_rank k == 1) (Some v) None)) e
+vector_by Vi Vi false more v rest e h = h
+vector_by Vc Vc false more v rest e h = h
+vector_by Ve Ve false more v rest e h = h
+vector_by Fe Fe false more v rest e h = h
+vector_by Vi Vc hit more v rest e h = h
+vector_by Vi Ve hit more v rest e h = h
+vector_by Vi Fe hit more v rest e h = h
+vector_by Vc Vi hit more v rest e h = h
+vector_by Vc Ve hit more v rest e h = h
+vector_by Vc Fe hit more v rest e h = h
+vector_by Ve Vi hit more v rest e h = h
+vector_by Ve Vc hit more v rest e h = h
+vector_by Ve Fe hit more v rest e h = h
+vector_by Fe Vi hit more v rest e h = h
+vector_by Fe Vc hit more v rest e h = h
+vector_by Fe Ve hit more v rest e h = h
 
-no_node : (n : RecName) (edges : List Rec) → AreVectors Ve edges → is_found_node (find (is_named n) edges) ≡ false
-no_node n [] h = refl
-no_node n (V v ∷ edges) h = no_node_by (is_named n (V v)) v (find (is_named n) edges) (is_edge_kind v.name.kind h.0) (no_node n edges h.1)
-no_node n (F f ∷ edges) h = cc (h.0)
+feature_by : (k l : Kind) (hit more : Bool) (f : Feature) (rest : Option Rec) → is_feature_kind l ≡ true → is_found_node rest ≡ ((kind_rank k == 1) && more)
+    → is_found_node (cond ((kind_rank k == kind_rank l) && hit) (Some (F f)) rest) ≡ ((kind_rank k == 1) && (((kind_rank k == kind_rank l) && hit) || more))
+feature_by k Vi hit more f rest is h = absurd (cc (is))
+feature_by k Vc hit more f rest is h = absurd (cc (is))
+feature_by k Ve hit more f rest is h = absurd (cc (is))
+feature_by Vi Fe hit more f rest is h = h
+feature_by Vc Fe hit more f rest is h = h
+feature_by Ve Fe hit more f rest is h = h
+feature_by Fe Fe true more f rest is h = refl
+feature_by Fe Fe false more f rest is h = h
 
-node_by : (right hit more : Bool) (v : Vector) (rest : Option Rec) → v.name.kind ≡ Vc → is_found_node rest ≡ (right && more) → is_found_node (cond (right && hit) (Some (V v)) rest) ≡ (right && (hit || more))
-node_by true true more v rest e h = ap (λ k. is_some (cond (kind_rank k == 1) (Some v) None)) e
-node_by true false more v rest e h = h
-node_by false hit more v rest e h = h
+no_more : (b : Bool) → false ≡ (b && false)
+no_more true = refl
+no_more false = refl
 
-and_false : (b : Bool) → false ≡ (b && false)
-and_false true = refl
-and_false false = refl
+-- the record of a name is a connected node where the name is one's and a record has it
+found_node : (n : RecName) (rs : List Rec) → AreWellNamed rs → is_found_node (find (is_named n) rs) ≡ (is_of_kind Vc n && list_any (is_named n) rs)
+found_node n [] w = no_more (is_of_kind Vc n)
+found_node n (V v ∷ rs) w = vector_by n.kind v.name.kind (n.id == v.name.id) (list_any (is_named n) rs) v (find (is_named n) rs) refl (found_node n rs w.1)
+found_node n (F f ∷ rs) w = feature_by n.kind f.name.kind (n.id == f.name.id) (list_any (is_named n) rs) f (find (is_named n) rs) w.0 (found_node n rs w.1)
 
-node_in : (n : RecName) (nodes edges : List Rec) → AreVectors Vc nodes → AreVectors Ve edges → is_found_node (find (is_named n) (nodes ++ edges)) ≡ (is_of_kind Vc n && list_any (is_numbered n.id) nodes)
-node_in n [] edges g h = no_node n edges h ∙ and_false (is_of_kind Vc n)
-node_in n (V v ∷ nodes) edges g h =
-    let kind = is_node_kind v.name.kind g.0 in
-    ap (λ k. is_found_node (cond ((kind_rank n.kind == kind_rank k) && (n.id == v.name.id)) (Some (V v)) (find (is_named n) (nodes ++ edges)))) kind
-    ∙ node_by (is_of_kind Vc n) (n.id == v.name.id) (list_any (is_numbered n.id) nodes) v (find (is_named n) (nodes ++ edges)) kind (node_in n nodes edges g.1 h)
-node_in n (F f ∷ nodes) edges g h = cc (g.0)
+numbered_by : (k : Kind) (hit named numbered : Bool) → ((kind_rank k == 1) && named) ≡ ((kind_rank k == 1) && numbered)
+    → ((kind_rank k == 1) && (((kind_rank k == 1) && hit) || named)) ≡ ((kind_rank k == 1) && (hit || numbered))
+numbered_by Vi hit named numbered h = refl
+numbered_by Vc hit named numbered h = ap (λ b. hit || b) h
+numbered_by Ve hit named numbered h = refl
+numbered_by Fe hit named numbered h = refl
+
+-- among connected nodes the number tells the name
+numbered : (n : RecName) (nodes : List Rec) → AreVectors Vc nodes → (is_of_kind Vc n && list_any (is_named n) nodes) ≡ (is_of_kind Vc n && list_any (is_numbered n.id) nodes)
+numbered n [] g = refl
+numbered n (V v ∷ nodes) g =
+    ap (λ k. is_of_kind Vc n && (((kind_rank n.kind == kind_rank k) && (n.id == v.name.id)) || list_any (is_named n) nodes)) (is_node_kind v.name.kind g.0)
+    ∙ numbered_by n.kind (n.id == v.name.id) (list_any (is_named n) nodes) (list_any (is_numbered n.id) nodes) (numbered n nodes g.1)
+numbered n (F f ∷ nodes) g = cc (g.0)
 
 -- the numbers of all connected nodes tell their names
-pub names_node-is : (c : Cell) → IsMinimalCell c → (numbers : BTreeSet ℕ) → ((q : ℕ) → contains nat_cmp numbers q ≡ list_any (is_numbered q) c.vc) → (n : RecName) → names_node numbers n ≡ is_node_of c n
-names_node-is c m numbers h n =
+pub names_node-is : (c : Cell) → IsWritable c → (numbers : BTreeSet ℕ) → ((q : ℕ) → contains nat_cmp numbers q ≡ list_any (is_numbered q) c.vc) → (n : RecName) → names_node numbers n ≡ is_node_of c n
+names_node-is c w numbers h n =
     ap (λ b. is_of_kind Vc n && b) (h n.id)
-    ∙ sym (node_in n c.vc c.ve (recursion_from_All (λ r. IsTrue (is_vector_of Vc r)) c.vc m.nodes) (recursion_from_All (λ r. IsTrue (is_vector_of Ve r)) c.ve m.edges))
-    ∙ ap (λ records. is_found_node (find (is_named n) records)) (sym (records_are c m))
+    ∙ sym (numbered n c.vc (nodes_are c w))
+    ∙ sym (only_nodes c w n)
+    ∙ sym (found_node n (all_records c) (all_well_named c w))

@@ -7,10 +7,10 @@ ghost use Rattle.std.specs.Ordering.{nat_cmp};
 ghost use Rattle.s57_types.specs.declared.cell.Cell.{Cell as SpecCell};
 ghost use Rattle.s57_types.specs.declared.name.RecName.{RecName as SpecRecName};
 ghost use Rattle.cell_spec.specs.declared.key.Subject.TheVariants.{Rec as SubjectRec};
+ghost use Rattle.cell_spec.specs.Writable.{IsWritable};
 ghost use Rattle.rule_spec.specs.EdgeEnds.{end_count};
 ghost use Rattle.edge_findings.specs.EdgeFindings.{dangling_rows, edge_findings, edge_rows, is_node_of, is_numbered, names_node};
 ghost use Rattle.edge_findings.specs.Ends.{vectors_of};
-ghost use Rattle.edge_findings.specs.MinimalCell.{IsMinimalCell};
 ghost use Rattle.edge_findings.specs.AllFindings.{IsAllOf, IsFindingRefusal};
 ghost use Rattle.edge_findings.specs.Rows.{HasKnownKind, with_subject};
 
@@ -42,7 +42,7 @@ fn add_number(numbers: &mut BTreeSet<u32>, rec: &Rec) -> Result<(), AllocError>
 
 /// The identification numbers of a cell's connected nodes.
 fn node_numbers(alloc: Global, cell: &Cell) -> Result<BTreeSet<u32>, AllocError>
-    requires { IsMinimalCell cell.now }
+    requires { IsWritable cell.now }
     ensures { IfOk result (λ numbers. (n : SpecRecName) → names_node numbers n ≡ is_node_of cell.now n) }
 {
     let mut numbers = BTreeSet::new(alloc);
@@ -79,6 +79,8 @@ fn edges_of(alloc: Global, cell: &Cell) -> Result<Vec<&Vector>, AllocError>
 
 /// The edges of a cell, ascending by identification number.
 fn edges_in_order(alloc: Global, cell: &Cell) -> Result<Vec<&Vector>, AllocError>
+    requires writable { IsWritable cell.now }
+    ensures short { IfOk result (λ edges. All (λ edge. length edge.now.ends < 2 ^ 32) edges.items) }
     ensures permutation { IfOk result (λ edges. IsPermutation (vectors_of cell.now.ve) (map (λ edge. edge.now) edges.items)) }
     ensures sorted { IfOk result (λ edges. IsNonDecreasingBy (λ edge. edge.now.name.id) edges.items) }
 {
@@ -154,22 +156,19 @@ fn push_edge(
     nodes: &BTreeSet<u32>,
     edge: &Vector,
 ) -> Result<(), AllocError>
+    requires few { length edge.now.ends < 2 ^ 32 }
     requires known { All HasKnownKind findings.old.items }
     ensures known { All HasKnownKind findings.new.items }
     ensures rows { (c : SpecCell) → OnOk result (findings.new.items ≡ findings.old.items ++ edge_findings c (names_node nodes.now) edge.now) }
 {
-    // No file within its limit has so many ends.
-    if edge.ends.len() > u32::MAX as usize {
-        return Err(AllocError);
-    }
     push_end_count(findings, edge)?;
     push_dangling_ends(findings, nodes, edge)
 }
 
-/// All findings of a minimal cell of the kinds that are built, ascending by edge, kind and numbers, where there are at
+/// All findings of a writable cell of the kinds that are built, ascending by edge, kind and numbers, where there are at
 /// most so many. Counting stops at the first edge that goes over the limit.
 pub fn find_all(alloc: Global, cell: &Cell, limit: usize) -> Result<Findings, FindingRefusal>
-    requires minimal { IsMinimalCell cell.now }
+    requires writable { IsWritable cell.now }
     ensures { MatchResult result (IsAllOf cell.now limit) (IsFindingRefusal cell.now limit) }
 {
     let nodes = node_numbers(alloc, cell)?;

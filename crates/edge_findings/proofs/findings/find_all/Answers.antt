@@ -28,7 +28,7 @@ returns-then-len-limit c =
     ∙ ap (λ rows. rows ++ by_numbers edge.now) c.loop-edge.invariant.1
     ∙ sym (rows_more (λ e. by_numbers e.now) c.deref-edge-items.result.now c.loop-edge.edge-index edge c.loop-edge-test.true c.edge-item.is) in
     let over : c.args.limit < length c.push_edge.new.findings.items = (let many = c.if-len-limit.true in let len = c.len.ensures in grind (arith, nat_tests)) in
-    too_many (λ edge. edge.now) (names_node c.in_ok-nodes.nodes) cell c.requires.minimal c.in_ok-edges.edges.items c.in_ok-edges.ensures.permutation c.in_ok-edges.ensures.sorted c.in_ok-nodes.ensures
+    too_many (λ edge. edge.now) (names_node c.in_ok-nodes.nodes) cell c.requires.writable c.in_ok-edges.edges.items c.in_ok-edges.ensures.permutation c.in_ok-edges.ensures.sorted c.in_ok-nodes.ensures
     c.args.limit (c.loop-edge.edge-index + 1) (subst (λ items. c.args.limit < length items) (rows ∙ ap (λ edges. flat_map (λ edge. by_numbers edge.now) (take (c.loop-edge.edge-index + 1) edges)) c.deref-edge-items.ensures.value) over)
 
 pub returns : goal.returns
@@ -38,5 +38,5 @@ returns c =
     let is = c.loop-edge.invariant.1
     ∙ ap (flat_map (λ edge. by_numbers edge.now)) (take_all c.loop-edge.edge-index c.deref-edge-items.result.now c.loop-edge-test.false ∙ c.deref-edge-items.ensures.value) in
     subst (IsAllOf cell c.args.limit) (sym c.of_vec.ensures)
-    (all_found (λ edge. edge.now) (names_node c.in_ok-nodes.nodes) cell c.requires.minimal c.in_ok-edges.edges.items c.in_ok-edges.ensures.permutation c.in_ok-edges.ensures.sorted c.in_ok-nodes.ensures
+    (all_found (λ edge. edge.now) (names_node c.in_ok-nodes.nodes) cell c.requires.writable c.in_ok-edges.edges.items c.in_ok-edges.ensures.permutation c.in_ok-edges.ensures.sorted c.in_ok-nodes.ensures
     c.args.limit c.loop-edge.findings.items is c.loop-edge.invariant.2)
