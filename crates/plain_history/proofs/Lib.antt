@@ -1,5 +1,4 @@
 mod Firsts
-mod NameCounts
-mod MinimalEdits
+mod WritableEdits
 mod Bases
 mod StepStates

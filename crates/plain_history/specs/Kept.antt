@@ -1,13 +1,13 @@
 -- A history as it is kept. This project's own.
 use Rattle.std.specs.Prelude.{◌≡◌, ℕ, List, slice_index_or, length}
 use Rattle.s57_types.specs.declared.cell.Cell.{Cell}
+use Rattle.cell_spec.specs.Writable.{IsWritable}
 use Rattle.history_spec.specs.declared.reply.Reply.{Reply}
 use Rattle.history_spec.specs.declared.reply.Reply.TheVariants.{Viewed, Formed, Newer, Refused, Accepted}
 use Rattle.history_spec.specs.Sessions.{Request, request_step}
 use Rattle.history_spec.specs.Steps.{AcceptedCommit, Event, History, answer, finding_limit, left_after}
 use Rattle.rule_spec.specs.Kinds.{built_kinds}
 use Rattle.edge_findings.specs.AllFindings.{IsAllOf}
-use Rattle.edge_findings.specs.MinimalCell.{IsMinimalCell}
 use Rattle.edge_findings.specs.declared.list.SubjectFinding.{SubjectFinding}
 
 -- the greatest number of a desk
@@ -27,9 +27,9 @@ pub record KeptHistory : Type 0 where
 abbrev pub state_of : KeptHistory → History
 state_of kept = record { cell = kept.cell; commits = kept.commits; bases = base_of kept.bases }
 
--- the cell is minimal, these are its findings, and each desk has a base
+-- the cell can be written, these are its findings, and each desk has a base
 pub record IsKept (c : Cell) (findings : List SubjectFinding) (bases : List ℕ) : Type 0 where
-  pub minimal : IsMinimalCell c
+  pub writable : IsWritable c
   pub findings_are : IsAllOf c finding_limit findings
   pub bases_are : length bases ≡ 17
 

@@ -1,15 +1,13 @@
 //! The state of the editing history, and its steps.
 
-ghost use Rattle.std.specs.Prelude.{◌≡◌, ◌+◌, ◌≤◌, ◌<◌, ◌^◌, IfOk, OnErr, length, true};
-ghost use Rattle.std.specs.List.{list_all};
-ghost use Rattle.text_spec.specs.EditLine.{is_minimal_edit};
+ghost use Rattle.std.specs.Prelude.{◌≡◌, ◌+◌, ◌≤◌, ◌<◌, ◌^◌, IfOk, OnErr, length};
 ghost use Rattle.history_spec.specs.Sessions.{see, offer as spec_offer};
 ghost use Rattle.history_spec.specs.Steps.{commit as spec_commit, finding_limit, opening, with_commit};
 ghost use Rattle.rule_spec.specs.Findings.{finding_total};
 ghost use Rattle.rule_spec.specs.Kinds.{built_kinds};
 ghost use Rattle.cell_spec.specs.Edits.{apply_edits};
+ghost use Rattle.cell_spec.specs.Writable.{IsWritable};
 ghost use Rattle.edge_findings.specs.AllFindings.{IsAllOf};
-ghost use Rattle.edge_findings.specs.MinimalCell.{IsMinimalCell};
 ghost use Rattle.plain_history.specs.Kept.{IsAnswered, IsStep, base_of, desk_limit, state_of};
 
 use crate::accepted::Accepted;
@@ -49,9 +47,9 @@ impl Model for History {
 }
 
 impl History {
-    /// The history of a minimal cell with these findings before its first commit.
+    /// The history of a writable cell with these findings before its first commit.
     pub fn open(alloc: Global, cell: Cell, findings: Findings) -> History
-        requires minimal { IsMinimalCell cell }
+        requires writable { IsWritable cell }
         requires findings { IsAllOf cell finding_limit findings }
         ensures { state_of result ≡ opening cell }
     {
@@ -104,7 +102,6 @@ impl History {
     pub fn offer(&mut self, alloc: Global, desk: u32, draft: &[Edit]) -> Result<Reply, AllocError>
         requires desk { desk ≤ desk_limit }
         requires few { length draft.now < 2 ^ 32 }
-        requires minimal { list_all is_minimal_edit draft.now ≡ true }
         ensures ok { IfOk result (λ reply. IsAnswered (state_of self.old) desk (spec_offer draft.now) reply (state_of self.new)) }
         ensures err { OnErr result (self.new ≡ self.old) }
     {
@@ -118,7 +115,7 @@ impl History {
     /// Commits a set of edits of a desk on the desk's base.
     fn commit(&mut self, alloc: Global, desk: u32, set: EditSet) -> Result<Reply, AllocError>
         requires desk { desk ≤ desk_limit }
-        requires minimal { list_all is_minimal_edit set.edits ≡ true }
+        requires level { set.nall ≡ self.old.cell.head.nall }
         ensures ok { IfOk result (λ reply. IsStep (state_of self.old) desk (spec_commit (base_of self.old.bases desk) set.edits) reply (state_of self.new)) }
         ensures err { OnErr result (self.new ≡ self.old) }
     {
@@ -142,7 +139,7 @@ impl History {
     ) -> Result<Reply, AllocError>
         requires desk { desk ≤ desk_limit }
         requires edited { cell ≡ apply_edits set.edits self.old.cell }
-        requires minimal { IsMinimalCell cell }
+        requires writable { IsWritable cell }
         requires findings { IsAllOf cell finding_limit findings }
         ensures ok { IfOk result (λ reply. (reply ≡ Reply.Accepted (length self.old.commits + 1) (finding_total built_kinds cell)) × (state_of self.new ≡ with_commit desk set.edits (state_of self.old))) }
         ensures err { OnErr result (self.new ≡ self.old) }

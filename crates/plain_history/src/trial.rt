@@ -1,12 +1,10 @@
 //! What a cell makes of edits: the edited cell and its findings, or why it doesn't take them.
 
-ghost use Rattle.std.specs.Prelude.{◌≡◌, IfOk, filter_map, is_some, true};
-ghost use Rattle.std.specs.List.{list_all};
+ghost use Rattle.std.specs.Prelude.{◌≡◌, IfOk, filter_map, is_some};
 ghost use Rattle.cell_spec.specs.Lookup.{lookup_record};
-ghost use Rattle.text_spec.specs.EditLine.{is_minimal_edit};
+ghost use Rattle.cell_spec.specs.Writable.{IsWritable};
 ghost use Rattle.history_spec.specs.Steps.{edit_refusal as spec_edit_refusal, first_of};
-ghost use Rattle.edge_findings.specs.MinimalCell.{IsMinimalCell};
-ghost use Rattle.plain_history.specs.Trials.{IsSize, IsTrial};
+ghost use Rattle.plain_history.specs.Trials.{FitsWhenSmall, IsSize, IsTrial};
 
 use crate::apply::apply_edits;
 use crate::count::record_count;
@@ -68,7 +66,7 @@ fn first_edit_refusal(cell: &Cell, edits: &[Edit]) -> Option<StateRefusal>
 
 /// The findings of an edited cell, or why it is too large.
 fn judge_size(alloc: Global, edited: &Cell) -> Result<Result<Findings, StateRefusal>, AllocError>
-    requires { IsMinimalCell edited.now }
+    requires { FitsWhenSmall edited.now }
     ensures { IfOk result (IsSize edited.now) }
 {
     let records = record_count(edited)?;
@@ -82,13 +80,13 @@ fn judge_size(alloc: Global, edited: &Cell) -> Result<Result<Findings, StateRefu
     }
 }
 
-/// Tries a set of edits on a cell: the first edit that the cell doesn't take is told, or else the size of the edited
+/// Tries a set of edits at a writable cell's level on the cell: the first edit that the cell doesn't take is told, or else the size of the edited
 /// cell.
 ///
 /// An `Err` is want of memory.
 pub fn try_edits(alloc: Global, cell: &Cell, set: &EditSet) -> Result<Trial, AllocError>
-    requires cell { IsMinimalCell cell.now }
-    requires edits { list_all is_minimal_edit set.now.edits ≡ true }
+    requires cell { IsWritable cell.now }
+    requires level { set.now.nall ≡ cell.now.head.nall }
     ensures { IfOk result (IsTrial cell.now set.now.edits) }
 {
     set.known();
