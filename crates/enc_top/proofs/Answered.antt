@@ -1,6 +1,6 @@
 -- What the answers of steps tell of the steps that they are part of.
 use Rattle.std.proofs.Common.{◌≡◌, ◌⊎◌, inl, inr, ℕ, zero, suc, ◌<◌, ◌≤◌, List, [], ◌∷◌, ◌++◌, length, get_or, map, Option, Some, None, Result, Ok, Err, String, Global, string_bytes, refl, sym, ap, ◌∙◌, subst, length-append, arith}
-use Rattle.std.specs.Prelude.{IfErr, IfOk, IfSome, slice_index_or, Vec}
+use Rattle.std.specs.Prelude.{IfErr, IfOk, IfSome, slice_index_or}
 use Rattle.std.proofs.lemmas.List.{get_or-map}
 use Rattle.std.proofs.lemmas.Bool.{cases_lt}
 use Rattle.enc_outside.specs.Count.{Rose}
@@ -8,7 +8,9 @@ use Rattle.enc_outside.specs.Files.{Files}
 use Rattle.text_spec.specs.declared.command.Command.{Command}
 use Rattle.enc_top.specs.Inputs.{AreScripts, IsInputOf, IsInputStatus, OutputIs, ScriptIs, ScriptsAre, Tells}
 use Rattle.enc_top.specs.Outcome.{IsAskedBy, IsBuilt, IsOutput}
+use Rattle.enc_top.specs.Task.{task_of}
 use Rattle.enc_top.specs.Words.{Form}
+use Rattle.enc_top.specs.declared.work.Work.{Work}
 use Rattle.enc_top.specs.declared.status.Status.{Status}
 use Rattle.enc_top.specs.declared.status.Status.TheVariants.{Done, Usage, Absent, BadCell, BadScript, ReadFault, WriteFault, TooLarge, NoMemory, BadOrder, Stuck, TooManyFindings, NotYet}
 
@@ -52,21 +54,21 @@ status_of_more P Q TooManyFindings more is = is
 status_of_more P Q NotYet more is = is
 
 -- the status at which the input files of a built form end a call
-pub asked_status : (seen : Vec ℕ Global → List ℕ) (form : Form) (files : Option Files) (before after : ℕ) (status : Status) → IsBuilt form → IsInputStatus (IsInputOf form) status
-    → Tells seen (OutputIs form) files before after (Err status) → IsAskedBy form files before after (Err status)
-asked_status seen form files before after Done built is tells = absurd is
-asked_status seen form files before after Usage built is tells = absurd is
-asked_status seen form files before after (Absent name) built is tells = (is, built, tells)
-asked_status seen form files before after (BadCell fault) built is tells = absurd is
-asked_status seen form files before after (BadScript session line code) built is tells = absurd is
-asked_status seen form files before after (ReadFault name) built is tells = (is, tells)
-asked_status seen form files before after WriteFault built is tells = absurd is
-asked_status seen form files before after (TooLarge name) built is tells = (is, built, tells)
-asked_status seen form files before after NoMemory built is tells = built
-asked_status seen form files before after (BadOrder place) built is tells = (built, tells)
-asked_status seen form files before after (Stuck desk serial) built is tells = absurd is
-asked_status seen form files before after TooManyFindings built is tells = (built, tells)
-asked_status seen form files before after NotYet built is tells = inr (built, tells)
+pub asked_status : (form : Form) (files : Option Files) (before after : ℕ) (status : Status) → IsBuilt form → IsInputStatus (IsInputOf form) status
+    → Tells task_of (OutputIs form) files before after (Err status) → IsAskedBy form files before after (Err status)
+asked_status form files before after Done built is tells = absurd is
+asked_status form files before after Usage built is tells = absurd is
+asked_status form files before after (Absent name) built is tells = (is, built, tells)
+asked_status form files before after (BadCell fault) built is tells = (built, tells)
+asked_status form files before after (BadScript session line code) built is tells = absurd is
+asked_status form files before after (ReadFault name) built is tells = (is, tells)
+asked_status form files before after WriteFault built is tells = absurd is
+asked_status form files before after (TooLarge name) built is tells = (is, built, tells)
+asked_status form files before after NoMemory built is tells = built
+asked_status form files before after (BadOrder place) built is tells = (built, tells)
+asked_status form files before after (Stuck desk serial) built is tells = absurd is
+asked_status form files before after TooManyFindings built is tells = (built, tells)
+asked_status form files before after NotYet built is tells = inr (built, tells)
 
 -- ---- scripts one after the other
 pub name_there : (names : List (String Global)) (k : ℕ) (name : String Global) → k < length names → name ≡ get_or names k name → slice_index_or (map string_bytes names) k [] ≡ string_bytes name
@@ -116,10 +118,10 @@ tells_last seen Step Whole P files before mid after (Err status) le known make t
     tells_later seen seen Step Whole P files before mid after status le known (λ fs p step. make fs (Err status) p step) tells
 
 -- an answer of a built form
-pub asked_answer : (form : Form) (files : Option Files) (before after : ℕ) (result : Result (Vec ℕ Global) Status) → IsBuilt form → IfOk result (λ text. IsOutput form text.items) → IfErr result (IsInputStatus (IsInputOf form))
-    → Tells (λ (text : Vec ℕ Global). text.items) (OutputIs form) files before after result → IsAskedBy form files before after result
-asked_answer form files before after (Ok text) built output is tells = (output, tells)
-asked_answer form files before after (Err status) built output is tells = asked_status (λ (text : Vec ℕ Global). text.items) form files before after status built is tells
+pub asked_answer : (form : Form) (files : Option Files) (before after : ℕ) (result : Result Work Status) → IsBuilt form → IfOk result (λ work. IsOutput form (task_of work)) → IfErr result (IsInputStatus (IsInputOf form))
+    → Tells task_of (OutputIs form) files before after result → IsAskedBy form files before after result
+asked_answer form files before after (Ok work) built output is tells = (output, tells)
+asked_answer form files before after (Err status) built output is tells = asked_status form files before after status built is tells
 
 pub if_err_more : {A : Type 0} (P Q : List ℕ → Type 0) (result : Result A Status) → ((name : List ℕ) → P name → Q name) → IfErr result (IsInputStatus P) → IfErr result (IsInputStatus Q)
 if_err_more P Q (Ok a) more is = is

@@ -1,18 +1,17 @@
 -- What input files are, or why a call ends there. A relation tells what a step answers where nothing fails. This project's own.
 use Rattle.std.specs.Prelude.{◌≡◌, ◌⊎◌, ℕ, ◌<◌, nat_lt, List, [], length, map, count_by, slice_index_or, Option, None, Some, Result, Ok, Err, IfSome, if◌then◌else◌}
-use Rattle.std.specs.Option.{option_map_or}
 use Rattle.enc_outside.specs.Count.{Rose}
 use Rattle.enc_outside.specs.Files.{Files}
-use Rattle.file_spec.specs.MinimalFile.{minimal_cell}
+use Rattle.file_spec.specs.DecodedCell.{decoded_cell}
 use Rattle.rule_spec.specs.Findings.{finding_total}
 use Rattle.rule_spec.specs.Kinds.{built_kinds}
 use Rattle.s57_types.specs.declared.cell.Cell.{Cell}
-use Rattle.text_spec.specs.CellText.{cell_text}
+use Rattle.s57_types.specs.declared.fault.CellFault.{CellFault}
 use Rattle.text_spec.specs.OrderLine.{order_of}
 use Rattle.text_spec.specs.ScriptLines.{IsMinimalScript, is_shared}
 use Rattle.text_spec.specs.declared.command.Command.{Command}
-use Rattle.history_spec.specs.ReportText.{report}
 use Rattle.history_spec.specs.Steps.{finding_limit}
+use Rattle.enc_top.specs.Task.{Task, check_task, run_task}
 use Rattle.enc_top.specs.Words.{Form, check_form, replay_form, later_form, no_form}
 use Rattle.enc_top.specs.declared.status.Status.{Status}
 use Rattle.enc_top.specs.declared.status.Status.TheVariants.{Done, Usage, Absent, BadCell, BadScript, ReadFault, WriteFault, TooLarge, NoMemory, BadOrder, Stuck, TooManyFindings, NotYet}
@@ -39,12 +38,17 @@ content_of limit name (Some content) = if nat_lt limit (length content) then Err
 abbrev pub FileIs : ℕ → List ℕ → Files → Result (List ℕ) Status → Type 0
 FileIs limit name files answer = content_of limit name (files name) ≡ answer
 
--- a minimal cell with not too many findings of the kinds that are built
+-- a cell with not too many findings of the kinds that are built
 abbrev pub judged_cell : Cell → Result Cell Status
 judged_cell c = if nat_lt finding_limit (finding_total built_kinds c) then Err TooManyFindings else Ok c
 
+abbrev pub judged : Result Cell CellFault → Result Cell Status
+judged (Ok c) = judged_cell c
+judged (Err fault) = Err (BadCell fault)
+
+-- the cell that a file stands for, or its first fault
 abbrev pub cell_in : List ℕ → Result Cell Status
-cell_in bytes = option_map_or judged_cell (minimal_cell bytes) (Err NotYet)
+cell_in bytes = judged (decoded_cell bytes)
 
 abbrev pub CellIs : List ℕ → Files → Result Cell Status → Type 0
 CellIs name files = AndThen (FileIs cell_limit name files) (λ bytes answer. cell_in bytes ≡ answer)
@@ -84,22 +88,22 @@ abbrev pub OrderIs : List ℕ → List ℕ → Files → Result (List ℕ) Statu
 OrderIs quotas name files = AndThen (FileIs order_limit name files) (λ bytes answer. order_in (order_of quotas bytes) ≡ answer)
 
 -- a run of scripts on a cell, in the order of a file; the order is read after all scripts
-abbrev pub OrderedRunIs : Cell → List ℕ → List (List Command) → Files → Result (List ℕ) Status → Type 0
-OrderedRunIs c order commands files = AndThen (OrderIs (quotas_of commands) order files) (λ sessions answer. answer ≡ Ok (report built_kinds c commands sessions))
+abbrev pub OrderedRunIs : Cell → List ℕ → List ℕ → List (List Command) → Files → Result Task Status → Type 0
+OrderedRunIs c out order commands files = AndThen (OrderIs (quotas_of commands) order files) (λ sessions answer. answer ≡ Ok (run_task c out commands sessions))
 
-abbrev pub RunIs : Cell → List ℕ → List (List ℕ) → Files → Result (List ℕ) Status → Type 0
-RunIs c order scripts files = AndThen (ScriptsAre scripts files) (λ commands. OrderedRunIs c order commands files)
+abbrev pub RunIs : Cell → List ℕ → List ℕ → List (List ℕ) → Files → Result Task Status → Type 0
+RunIs c out order scripts files = AndThen (ScriptsAre scripts files) (λ commands. OrderedRunIs c out order commands files)
 
--- what is put: the text of the cell, or the report of the run
-abbrev pub OutputIs : Form → Files → Result (List ℕ) Status → Type 0
-OutputIs (check_form cell) files = AndThen (CellIs cell files) (λ c answer. answer ≡ Ok (cell_text built_kinds c))
-OutputIs (replay_form cell out order scripts) files = AndThen (CellIs cell files) (λ c. RunIs c order scripts files)
+-- what is done: the text of the cell is put, or the report of the run, and then the cell that is left is written
+abbrev pub OutputIs : Form → Files → Result Task Status → Type 0
+OutputIs (check_form cell) files = AndThen (CellIs cell files) (λ c answer. answer ≡ Ok (check_task c))
+OutputIs (replay_form cell out order scripts) files = AndThen (CellIs cell files) (λ c. RunIs c out order scripts files)
 OutputIs later_form files = λ answer. answer ≡ Err NotYet
 OutputIs no_form files = λ answer. answer ≡ Err Usage
 
--- a report of some scripts on a cell in some order
-abbrev pub IsReportOf : Cell → List ℕ → Type 0
-IsReportOf c text = (commands : List (List Command)) × (sessions : List ℕ) × (text ≡ report built_kinds c commands sessions)
+-- a run of some scripts on a cell in some order
+abbrev pub IsRunOf : Cell → List ℕ → Task → Type 0
+IsRunOf c out task = (commands : List (List Command)) × (sessions : List ℕ) × (task ≡ run_task c out commands sessions)
 
 -- what a step's answer tells, with what it gave seen through a function: where the files are told, the relation of the step
 -- holds of it; a fault of reading comes only with a risen count; want of memory is free
@@ -114,7 +118,7 @@ abbrev pub IsInputStatus : (List ℕ → Type 0) → Status → Type 0
 IsInputStatus IsInput Done = ⊥
 IsInputStatus IsInput Usage = ⊥
 IsInputStatus IsInput (Absent name) = IsInput name
-IsInputStatus IsInput (BadCell fault) = ⊥
+IsInputStatus IsInput (BadCell fault) = Unit {0}
 IsInputStatus IsInput (BadScript session line code) = ⊥
 IsInputStatus IsInput (ReadFault name) = IsInput name
 IsInputStatus IsInput WriteFault = ⊥

@@ -1,26 +1,27 @@
 -- What each status of a call tells of the words, and of the outside before and after.
-use Rattle.std.specs.Prelude.{◌≡◌, ◌⊎◌, ℕ, List, Option, Some, Result, Ok, Err, IfSome, Vec}
-use Rattle.std.specs.declared.alloc.Global.{Global}
+use Rattle.std.specs.Prelude.{◌≡◌, ◌⊎◌, ℕ, List, Option, None, Some, Result, Ok, Err, IfSome}
 use Rattle.enc_outside.specs.Count.{Rose}
-use Rattle.enc_outside.specs.Files.{Files, Told}
-use Rattle.rule_spec.specs.Kinds.{built_kinds}
+use Rattle.enc_outside.specs.Files.{Files, Told, Writes}
 use Rattle.s57_types.specs.declared.cell.Cell.{Cell}
-use Rattle.text_spec.specs.CellText.{cell_text}
-use Rattle.enc_top.specs.Inputs.{IsInputOf, IsReportOf, OutputIs}
-use Rattle.enc_top.specs.Output.{Adds, AddsFront}
+use Rattle.enc_top.specs.Inputs.{IsInputOf, IsRunOf, OutputIs}
+use Rattle.enc_top.specs.Output.{Adds, AddsFront, MayHaveFront}
+use Rattle.enc_top.specs.Task.{Task, check_task, task_of}
 use Rattle.enc_top.specs.Words.{Form, check_form, replay_form, later_form, no_form, form_of}
 use Rattle.enc_top.specs.declared.status.Status.{Status}
 use Rattle.enc_top.specs.declared.status.Status.TheVariants.{Done, Usage, Absent, BadCell, BadScript, ReadFault, WriteFault, TooLarge, NoMemory, BadOrder, Stuck, TooManyFindings, NotYet}
+use Rattle.enc_top.specs.declared.work.Work.{Work}
 
--- what the outside shows, at one moment: the files, how often reads failed, what was written, and how often writes failed
+-- what the outside shows, at one moment: the files, how often reads and writes of files failed, what was put, and how often puts failed
 pub record Outside : Type 0 where
   pub files : Option Files
   pub read_faults : ℕ
-  pub written : Option (List ℕ)
   pub write_faults : ℕ
+  pub written : Option (List ℕ)
+  pub put_faults : ℕ
 
-abbrev pub outside : Option Files → ℕ → Option (List ℕ) → ℕ → Outside
-outside files read_faults written write_faults = record { files = files; read_faults = read_faults; written = written; write_faults = write_faults }
+abbrev pub outside : Option Files → ℕ → ℕ → Option (List ℕ) → ℕ → Outside
+outside files read_faults write_faults written put_faults =
+    record { files = files; read_faults = read_faults; write_faults = write_faults; written = written; put_faults = put_faults }
 
 -- the form is one that is built
 abbrev pub IsBuilt : Form → Type 0
@@ -29,38 +30,68 @@ IsBuilt (replay_form cell out order scripts) = Unit {0}
 IsBuilt later_form = ⊥
 IsBuilt no_form = ⊥
 
--- an output of the form: the text of a cell, or the report of scripts on a cell in an order
-abbrev pub IsOutput : Form → List ℕ → Type 0
-IsOutput (check_form cell) text = (c : Cell) × (text ≡ cell_text built_kinds c)
-IsOutput (replay_form cell out order scripts) text = (c : Cell) × IsReportOf c text
-IsOutput later_form text = ⊥
-IsOutput no_form text = ⊥
+-- what the form may do: put the text of a cell, or the report of scripts on a cell in an order and then write the cell that is left
+abbrev pub IsOutput : Form → Task → Type 0
+IsOutput (check_form cell) task = (c : Cell) × (task ≡ check_task c)
+IsOutput (replay_form cell out order scripts) task = (c : Cell) × IsRunOf c out task
+IsOutput later_form task = ⊥
+IsOutput no_form task = ⊥
 
 -- where the files are told, this is what they ask for
-abbrev pub IsAsked : Outside → Form → Result (List ℕ) Status → Type 0
+abbrev pub IsAsked : Outside → Form → Result Task Status → Type 0
 IsAsked before form answer = IfSome before.files (λ files. OutputIs form files answer)
 
--- nothing was written
-abbrev pub IsSilent : Outside → Outside → Type 0
-IsSilent before after = after.written ≡ before.written
+-- nothing was put, and no file changed
+pub record IsSilent (before after : Outside) : Type 0 where
+  pub written : after.written ≡ before.written
+  pub files : after.files ≡ before.files
 
 -- a built form whose files end the call so, before anything is written
 abbrev pub IsRefused : Form → Outside → Outside → Status → Type 0
 IsRefused form before after status = IsBuilt form × IsSilent before after × IsAsked before form (Err status)
 
+-- a file has its bytes now and the others stay, or all stay where there is none to write
+abbrev pub AreWritten : Option (List ℕ × List ℕ) → Option Files → Option Files → Type 0
+AreWritten None old new = new ≡ old
+AreWritten (Some file) old new = Told (Writes file.0 file.1) old new
+
+-- a file is as it was or has a beginning of its bytes now, and the others stay
+abbrev pub AreBegun : Option (List ℕ × List ℕ) → Option Files → Option Files → Type 0
+AreBegun None old new = ⊥
+AreBegun (Some file) old new = Told (MayHaveFront file.0 file.1) old new
+
+-- the text was put, and then the file was written
+pub record IsFinished (task : Task) (before after : Outside) : Type 0 where
+  pub written : Told (Adds task.text) before.written after.written
+  pub files : AreWritten task.file before.files after.files
+
+-- a put failed: a beginning of the text was put, and no file changed
+pub record IsCutText (task : Task) (before after : Outside) : Type 0 where
+  pub rose : Rose before.put_faults after.put_faults
+  pub written : Told (AddsFront task.text) before.written after.written
+  pub files : after.files ≡ before.files
+
+-- a write of the file failed, after the text was put whole
+pub record IsCutFile (task : Task) (before after : Outside) : Type 0 where
+  pub rose : Rose before.write_faults after.write_faults
+  pub written : Told (Adds task.text) before.written after.written
+  pub files : AreBegun task.file before.files after.files
+
+abbrev pub IsCut : Task → Outside → Outside → Type 0
+IsCut task before after = IsCutText task before after ⊎ IsCutFile task before after
+
 abbrev pub IsCauseOf : Form → Outside → Outside → Status → Type 0
-IsCauseOf form before after Done = (text : List ℕ) × IsOutput form text × IsAsked before form (Ok text) × Told (Adds text) before.written after.written
+IsCauseOf form before after Done = (task : Task) × IsOutput form task × IsAsked before form (Ok task) × IsFinished task before after
 IsCauseOf form before after Usage = (form ≡ no_form) × IsSilent before after
 IsCauseOf form before after (Absent name) = IsInputOf form name × IsRefused form before after (Absent name)
+IsCauseOf form before after (BadCell fault) = IsRefused form before after (BadCell fault)
 IsCauseOf form before after (ReadFault name) = IsInputOf form name × IsSilent before after × Rose before.read_faults after.read_faults
-IsCauseOf form before after WriteFault =
-    (text : List ℕ) × IsOutput form text × IsAsked before form (Ok text) × Rose before.write_faults after.write_faults × Told (AddsFront text) before.written after.written
+IsCauseOf form before after WriteFault = (task : Task) × IsOutput form task × IsAsked before form (Ok task) × IsCut task before after
 IsCauseOf form before after (TooLarge name) = IsInputOf form name × IsRefused form before after (TooLarge name)
 IsCauseOf form before after NoMemory = IsBuilt form × IsSilent before after
 IsCauseOf form before after (BadOrder place) = IsRefused form before after (BadOrder place)
 IsCauseOf form before after TooManyFindings = IsRefused form before after TooManyFindings
 IsCauseOf form before after NotYet = ((form ≡ later_form) × IsSilent before after) ⊎ IsRefused form before after NotYet
-IsCauseOf form before after (BadCell fault) = ⊥
 IsCauseOf form before after (BadScript session line code) = ⊥
 IsCauseOf form before after (Stuck desk serial) = ⊥
 
@@ -72,29 +103,31 @@ pub record IsSmooth (before after : Outside) (files : Files) : Type 0 where
   pub told : before.files ≡ Some files
   pub reads : ¬ (Rose before.read_faults after.read_faults)
   pub writes : ¬ (Rose before.write_faults after.write_faults)
+  pub puts : ¬ (Rose before.put_faults after.put_faults)
 
 abbrev pub IsExpected : Form → Files → Status → Type 0
-IsExpected form files Done = (text : List ℕ) × OutputIs form files (Ok text)
+IsExpected form files Done = (task : Task) × OutputIs form files (Ok task)
 IsExpected form files status = OutputIs form files (Err status)
 
 abbrev pub IsExact : List (List ℕ) → Outside → Outside → Status → Type 0
 IsExact words before after status = (files : Files) → IsSmooth before after files → IsExpected (form_of words) files status ⊎ (status ≡ NoMemory)
 
--- the text that a form asks for, or the status at which it ends
-abbrev pub IsAskedBy : Form → Option Files → ℕ → ℕ → Result (Vec ℕ Global) Status → Type 0
-IsAskedBy form files before after (Ok text) = IsOutput form text.items × IfSome files (λ fs. OutputIs form fs (Ok text.items))
+-- the work that a form asks for, or the status at which it ends
+abbrev pub IsAskedBy : Form → Option Files → ℕ → ℕ → Result Work Status → Type 0
+IsAskedBy form files before after (Ok work) = IsOutput form (task_of work) × IfSome files (λ fs. OutputIs form fs (Ok (task_of work)))
 IsAskedBy form files before after (Err Usage) = form ≡ no_form
 IsAskedBy form files before after (Err (ReadFault name)) = IsInputOf form name × Rose before after
 IsAskedBy form files before after (Err NoMemory) = IsBuilt form
 IsAskedBy form files before after (Err (Absent name)) = IsInputOf form name × IsBuilt form × IfSome files (λ fs. OutputIs form fs (Err (Absent name)))
+IsAskedBy form files before after (Err (BadCell fault)) = IsBuilt form × IfSome files (λ fs. OutputIs form fs (Err (BadCell fault)))
 IsAskedBy form files before after (Err (TooLarge name)) = IsInputOf form name × IsBuilt form × IfSome files (λ fs. OutputIs form fs (Err (TooLarge name)))
 IsAskedBy form files before after (Err (BadOrder place)) = IsBuilt form × IfSome files (λ fs. OutputIs form fs (Err (BadOrder place)))
 IsAskedBy form files before after (Err TooManyFindings) = IsBuilt form × IfSome files (λ fs. OutputIs form fs (Err TooManyFindings))
 IsAskedBy form files before after (Err NotYet) = (form ≡ later_form) ⊎ (IsBuilt form × IfSome files (λ fs. OutputIs form fs (Err NotYet)))
 IsAskedBy form files before after (Err other) = ⊥
 
--- the text was put whole, or a beginning of it, and then a write failed
-abbrev pub IsPut : List ℕ → Option (List ℕ) → Option (List ℕ) → ℕ → ℕ → Status → Type 0
-IsPut text old new before after Done = Told (Adds text) old new
-IsPut text old new before after WriteFault = Rose before after × Told (AddsFront text) old new
-IsPut text old new before after other = ⊥
+-- the work was done whole, or a device failed in its course
+abbrev pub IsDoneWork : Task → Outside → Outside → Status → Type 0
+IsDoneWork task before after Done = IsFinished task before after
+IsDoneWork task before after WriteFault = IsCut task before after
+IsDoneWork task before after other = ⊥

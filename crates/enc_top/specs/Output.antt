@@ -1,5 +1,6 @@
--- Writing a text whole.
-use Rattle.std.specs.Prelude.{◌≡◌, ℕ, List, ◌++◌, take}
+-- Writing a text whole, and a file.
+use Rattle.std.specs.Prelude.{◌≡◌, ◌≢◌, ◌⊎◌, ℕ, List, ◌++◌, Some, take}
+use Rattle.enc_outside.specs.Files.{Files}
 
 -- all bytes were added
 abbrev pub Adds : List ℕ → List ℕ → List ℕ → Type 0
@@ -8,3 +9,8 @@ Adds bytes old new = new ≡ old ++ bytes
 -- some first bytes were added
 abbrev pub AddsFront : List ℕ → List ℕ → List ℕ → Type 0
 AddsFront bytes old new = (n : ℕ) × (new ≡ old ++ take n bytes)
+
+-- a file is as it was or has some first bytes now, and the others stay
+pub record MayHaveFront (name bytes : List ℕ) (old new : Files) : Type 0 where
+  pub left : (new name ≡ old name) ⊎ ((n : ℕ) × (new name ≡ Some (take n bytes)))
+  pub others : (other : List ℕ) → other ≢ name → new other ≡ old other

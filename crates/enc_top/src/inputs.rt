@@ -2,7 +2,7 @@
 
 ghost use Rattle.std.specs.Prelude.{◌≡◌, ◌≤◌, ◌<◌, ◌^◌, ◌++◌, ◌∷◌, [], All, IfErr, IfOk, OnOk, length, map, string_bytes};
 ghost use Rattle.edge_findings.specs.AllFindings.{IsAllOf};
-ghost use Rattle.edge_findings.specs.MinimalCell.{IsMinimalCell};
+ghost use Rattle.cell_spec.specs.Writable.{IsWritable};
 ghost use Rattle.history_spec.specs.Steps.{finding_limit};
 ghost use Rattle.plain_replay.specs.Requests.{IsRunnable};
 ghost use Rattle.text_spec.specs.OrderLine.{order_of};
@@ -11,7 +11,7 @@ ghost use Rattle.enc_top.specs.Refused.{IsRefusal};
 
 use crate::input::{InputRefusal, read_file};
 use crate::status::Status;
-use cell_read::{MinimalRefusal, read_minimal_cell};
+use cell_decode::ReadRefusal;
 use edge_findings::{FindingRefusal, Findings, find_all};
 use enc_outside::Shelf;
 use order_text::{Order, OrderRefusal, read_order};
@@ -73,17 +73,18 @@ fn read_input<H: Shelf>(
     }
 }
 
-/// The cell of a minimal file, with its findings.
+/// The cell of a file, with its findings.
 fn judge_cell(alloc: Global, bytes: &[u8]) -> Result<Checked, Status>
+    requires small { length bytes.now ≤ 16777216 }
     ensures judged { IsJudged (λ checked. checked.cell) (cell_in bytes.now) result }
-    ensures minimal { IfOk result (λ checked. IsMinimalCell checked.cell) }
+    ensures writable { IfOk result (λ checked. IsWritable checked.cell) }
     ensures findings { IfOk result (λ checked. IsAllOf checked.cell finding_limit checked.findings) }
     ensures status { IfErr result (IsInputStatus (λ n. ⊥)) }
 {
-    let cell = match read_minimal_cell(alloc, bytes) {
+    let cell = match cell_decode::read_cell(alloc, bytes) {
         Ok(cell) => cell,
-        Err(MinimalRefusal::NotMinimal) => return Err(Status::NotYet),
-        Err(MinimalRefusal::NoMemory) => return Err(Status::NoMemory),
+        Err(ReadRefusal::Fault(fault)) => return Err(Status::BadCell(fault)),
+        Err(ReadRefusal::NoMemory) => return Err(Status::NoMemory),
     };
     match find_all(alloc, &cell, FINDING_LIMIT) {
         Ok(findings) => Ok(Checked { cell, findings }),
@@ -95,7 +96,7 @@ fn judge_cell(alloc: Global, bytes: &[u8]) -> Result<Checked, Status>
 /// The cell of an input file, with its findings.
 pub fn read_cell<H: Shelf>(alloc: Global, shelf: &mut H, name: &str) -> Result<Checked, Status>
     ensures tells { Tells (λ checked. checked.cell) (CellIs name.now) (H.files shelf.old) (H.read_faults shelf.old) (H.read_faults shelf.new) result }
-    ensures minimal { IfOk result (λ checked. IsMinimalCell checked.cell) }
+    ensures writable { IfOk result (λ checked. IsWritable checked.cell) }
     ensures findings { IfOk result (λ checked. IsAllOf checked.cell finding_limit checked.findings) }
     ensures status { IfErr result (IsInputStatus (λ n. n ≡ name.now)) }
     ensures files { H.files shelf.new ≡ H.files shelf.old }

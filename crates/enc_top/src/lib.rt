@@ -7,6 +7,7 @@ mod output;
 mod status;
 mod top;
 mod words;
+mod work;
 
 pub use status::{Status, print_status};
 pub use top::{run, run_plain};

@@ -2,17 +2,20 @@
 
 ghost use Rattle.std.specs.Prelude.{◌≡◌, ◌⊎◌, ◌↔◌, ◌≤◌, All, IfErr, IfOk, length, map, string_bytes};
 ghost use Rattle.edge_findings.specs.AllFindings.{IsAllOf};
-ghost use Rattle.edge_findings.specs.MinimalCell.{IsMinimalCell};
+ghost use Rattle.cell_spec.specs.Writable.{IsWritable};
 ghost use Rattle.history_spec.specs.Steps.{finding_limit};
 ghost use Rattle.plain_replay.specs.Requests.{IsRunnable};
-ghost use Rattle.enc_top.specs.Inputs.{IsAmong, IsInputStatus, IsReportOf, OrderedRunIs, RunIs, Tells};
-ghost use Rattle.enc_top.specs.Outcome.{IsAskedBy, IsCause, IsExact, IsPut, outside};
+ghost use Rattle.enc_top.specs.Inputs.{IsAmong, IsInputStatus, IsRunOf, OrderedRunIs, RunIs, Tells};
+ghost use Rattle.enc_top.specs.Outcome.{IsAskedBy, IsCause, IsExact, outside};
+ghost use Rattle.enc_top.specs.Task.{run_task, task_of};
 ghost use Rattle.enc_top.specs.Words.{check_among, form_of, later_form, no_form, replay_among};
 
 use crate::inputs::{Checked, quotas_of, read_cell, read_scripts, read_sessions};
-use crate::output::put_all;
+use crate::output::finish;
 use crate::status::Status;
 use crate::words::is_later_form;
+use crate::work::{Export, Work};
+use cell_write::write_cell;
 use edge_findings::push_cell;
 use enc_outside::{Meet, Shelf, Sink};
 use plain_replay::replay;
@@ -24,8 +27,9 @@ use std::thread::Threads;
 const SESSION_LIMIT: usize = 16;
 
 /// Does what the words say: `check CELL` puts the numbers of records and all findings of the cell, and
-/// `replay CELL OUT ORDER S1 .. Sk` the report of running k scripts on it in the order of the order file; OUT isn't
-/// made yet. The words are those after the program's name; `_meet` is for sessions in threads, which aren't built yet.
+/// `replay CELL OUT ORDER S1 .. Sk` puts the report of running k scripts on it in the order of the order file, and then
+/// writes the cell that is left as the file OUT. The words are those after the program's name; `_meet` is for sessions in
+/// threads, which aren't built yet.
 pub fn run<R: Threads + Sync, H: Shelf, O: Sink, M: Meet + Sync>(
     rt: &R,
     alloc: Global,
@@ -35,15 +39,14 @@ pub fn run<R: Threads + Sync, H: Shelf, O: Sink, M: Meet + Sync>(
     _meet: &M,
 ) -> Status
     ensures cause { IsCause (map string_bytes words.now)
-        (outside (H.files shelf.old) (H.read_faults shelf.old) (O.written out.old) (O.faults out.old))
-        (outside (H.files shelf.new) (H.read_faults shelf.new) (O.written out.new) (O.faults out.new)) result }
+        (outside (H.files shelf.old) (H.read_faults shelf.old) (H.write_faults shelf.old) (O.written out.old) (O.faults out.old))
+        (outside (H.files shelf.new) (H.read_faults shelf.new) (H.write_faults shelf.new) (O.written out.new) (O.faults out.new)) result }
     ensures exact { IsExact (map string_bytes words.now)
-        (outside (H.files shelf.old) (H.read_faults shelf.old) (O.written out.old) (O.faults out.old))
-        (outside (H.files shelf.new) (H.read_faults shelf.new) (O.written out.new) (O.faults out.new)) result }
+        (outside (H.files shelf.old) (H.read_faults shelf.old) (H.write_faults shelf.old) (O.written out.old) (O.faults out.old))
+        (outside (H.files shelf.new) (H.read_faults shelf.new) (H.write_faults shelf.new) (O.written out.new) (O.faults out.new)) result }
     ensures usage { (result ≡ Status.Usage) ↔ (form_of (map string_bytes words.now) ≡ no_form) }
     ensures later { form_of (map string_bytes words.now) ≡ later_form → (result ≡ Status.NotYet) × (shelf.new ≡ shelf.old) × (out.new ≡ out.old) }
-    ensures files { H.files shelf.new ≡ H.files shelf.old }
-    ensures write_faults { H.write_faults shelf.new ≡ H.write_faults shelf.old }
+    ensures write_faults { H.write_faults shelf.old ≤ H.write_faults shelf.new }
 {
     run_plain(rt, alloc, words, shelf, out)
 }
@@ -57,34 +60,23 @@ pub fn run_plain<R: Threads + Sync, H: Shelf, O: Sink>(
     out: &mut O,
 ) -> Status
     ensures cause { IsCause (map string_bytes words.now)
-        (outside (H.files shelf.old) (H.read_faults shelf.old) (O.written out.old) (O.faults out.old))
-        (outside (H.files shelf.new) (H.read_faults shelf.new) (O.written out.new) (O.faults out.new)) result }
+        (outside (H.files shelf.old) (H.read_faults shelf.old) (H.write_faults shelf.old) (O.written out.old) (O.faults out.old))
+        (outside (H.files shelf.new) (H.read_faults shelf.new) (H.write_faults shelf.new) (O.written out.new) (O.faults out.new)) result }
     ensures exact { IsExact (map string_bytes words.now)
-        (outside (H.files shelf.old) (H.read_faults shelf.old) (O.written out.old) (O.faults out.old))
-        (outside (H.files shelf.new) (H.read_faults shelf.new) (O.written out.new) (O.faults out.new)) result }
+        (outside (H.files shelf.old) (H.read_faults shelf.old) (H.write_faults shelf.old) (O.written out.old) (O.faults out.old))
+        (outside (H.files shelf.new) (H.read_faults shelf.new) (H.write_faults shelf.new) (O.written out.new) (O.faults out.new)) result }
     ensures usage { (result ≡ Status.Usage) ↔ (form_of (map string_bytes words.now) ≡ no_form) }
     ensures later { form_of (map string_bytes words.now) ≡ later_form → (result ≡ Status.NotYet) × (shelf.new ≡ shelf.old) × (out.new ≡ out.old) }
-    ensures files { H.files shelf.new ≡ H.files shelf.old }
-    ensures write_faults { H.write_faults shelf.new ≡ H.write_faults shelf.old }
+    ensures write_faults { H.write_faults shelf.old ≤ H.write_faults shelf.new }
 {
-    match asked_text(alloc, words, shelf) {
-        Ok(text) => put_text(out, &text),
+    match asked_work(alloc, words, shelf) {
+        Ok(work) => finish(shelf, out, &work),
         Err(status) => status,
     }
 }
 
-/// Puts the text that the words ask for.
-fn put_text<O: Sink>(out: &mut O, text: &[u8]) -> Status
-    ensures { IsPut text.now (O.written out.old) (O.written out.new) (O.faults out.old) (O.faults out.new) result }
-{
-    match put_all(out, text) {
-        Ok(()) => Status::Done,
-        Err(_) => Status::WriteFault,
-    }
-}
-
-/// The text that words ask for.
-fn asked_text<H: Shelf>(alloc: Global, words: &[String], shelf: &mut H) -> Result<Vec<u8>, Status>
+/// The work that words ask for.
+fn asked_work<H: Shelf>(alloc: Global, words: &[String], shelf: &mut H) -> Result<Work, Status>
     ensures asked { IsAskedBy (form_of (map string_bytes words.now)) (H.files shelf.old) (H.read_faults shelf.old) (H.read_faults shelf.new) result }
     ensures later { form_of (map string_bytes words.now) ≡ later_form → shelf.new ≡ shelf.old }
     ensures files { H.files shelf.new ≡ H.files shelf.old }
@@ -107,7 +99,7 @@ fn asked_text<H: Shelf>(alloc: Global, words: &[String], shelf: &mut H) -> Resul
 }
 
 /// The text of the cell that the words behind `check` name.
-fn check<H: Shelf>(alloc: Global, others: &[String], shelf: &mut H) -> Result<Vec<u8>, Status>
+fn check<H: Shelf>(alloc: Global, others: &[String], shelf: &mut H) -> Result<Work, Status>
     ensures asked { IsAskedBy (check_among (map string_bytes others.now)) (H.files shelf.old) (H.read_faults shelf.old) (H.read_faults shelf.new) result }
     ensures files { H.files shelf.new ≡ H.files shelf.old }
     ensures write_faults { H.write_faults shelf.new ≡ H.write_faults shelf.old }
@@ -121,16 +113,16 @@ fn check<H: Shelf>(alloc: Global, others: &[String], shelf: &mut H) -> Result<Ve
     };
     let mut text = Vec::new(alloc);
     push_cell(&mut text, &checked.cell, &checked.findings)?;
-    Ok(text)
+    Ok(Work { text, export: None })
 }
 
-/// The report of the run that the words behind `replay` name.
-fn run_scripts<H: Shelf>(alloc: Global, others: &[String], shelf: &mut H) -> Result<Vec<u8>, Status>
+/// The report of the run that the words behind `replay` name, and the file of the cell that is left.
+fn run_scripts<H: Shelf>(alloc: Global, others: &[String], shelf: &mut H) -> Result<Work, Status>
     ensures asked { IsAskedBy (replay_among (map string_bytes others.now)) (H.files shelf.old) (H.read_faults shelf.old) (H.read_faults shelf.new) result }
     ensures files { H.files shelf.new ≡ H.files shelf.old }
     ensures write_faults { H.write_faults shelf.new ≡ H.write_faults shelf.old }
 {
-    let [cell, _out, order, names @ ..] = others else {
+    let [cell, out, order, names @ ..] = others else {
         return Err(Status::Usage);
     };
     if names.is_empty() || names.len() > SESSION_LIMIT {
@@ -140,22 +132,24 @@ fn run_scripts<H: Shelf>(alloc: Global, others: &[String], shelf: &mut H) -> Res
         Ok(checked) => checked,
         Err(status) => return Err(status),
     };
-    run_on(alloc, shelf, checked, order.as_str(), names)
+    run_on(alloc, shelf, checked, out.as_str(), order.as_str(), names)
 }
 
-/// The report of running the scripts of input files on a cell in the order of another.
+/// The report of running the scripts of input files on a cell in the order of another, and the file of the cell that is
+/// left.
 fn run_on<H: Shelf>(
     alloc: Global,
     shelf: &mut H,
     checked: Checked,
+    out: &str,
     order: &str,
     names: &[String],
-) -> Result<Vec<u8>, Status>
-    requires minimal { IsMinimalCell checked.cell }
+) -> Result<Work, Status>
+    requires writable { IsWritable checked.cell }
     requires findings { IsAllOf checked.cell finding_limit checked.findings }
     requires few { length names.now ≤ 16 }
-    ensures tells { Tells (λ text. text.items) (RunIs checked.cell order.now (map string_bytes names.now)) (H.files shelf.old) (H.read_faults shelf.old) (H.read_faults shelf.new) result }
-    ensures report { IfOk result (λ text. IsReportOf checked.cell text.items) }
+    ensures tells { Tells task_of (RunIs checked.cell out.now order.now (map string_bytes names.now)) (H.files shelf.old) (H.read_faults shelf.old) (H.read_faults shelf.new) result }
+    ensures run { IfOk result (λ work. IsRunOf checked.cell out.now (task_of work)) }
     ensures status { IfErr result (IsInputStatus (λ n. (n ≡ order.now) ⊎ IsAmong (map string_bytes names.now) n)) }
     ensures files { H.files shelf.new ≡ H.files shelf.old }
     ensures read_faults { H.read_faults shelf.old ≤ H.read_faults shelf.new }
@@ -165,23 +159,24 @@ fn run_on<H: Shelf>(
         Ok(scripts) => scripts,
         Err(status) => return Err(status),
     };
-    run_in_order_of(alloc, shelf, checked, order, &scripts)
+    run_in_order_of(alloc, shelf, checked, out, order, &scripts)
 }
 
-/// The report of running scripts on a cell in the order of an input file.
+/// The report of running scripts on a cell in the order of an input file, and the file of the cell that is left.
 fn run_in_order_of<H: Shelf>(
     alloc: Global,
     shelf: &mut H,
     checked: Checked,
+    out: &str,
     order: &str,
     scripts: &[Script],
-) -> Result<Vec<u8>, Status>
-    requires minimal { IsMinimalCell checked.cell }
+) -> Result<Work, Status>
+    requires writable { IsWritable checked.cell }
     requires findings { IsAllOf checked.cell finding_limit checked.findings }
     requires few { length scripts.now ≤ 16 }
     requires runnable { All IsRunnable scripts.now }
-    ensures tells { Tells (λ text. text.items) (OrderedRunIs checked.cell order.now scripts.now) (H.files shelf.old) (H.read_faults shelf.old) (H.read_faults shelf.new) result }
-    ensures report { IfOk result (λ text. IsReportOf checked.cell text.items) }
+    ensures tells { Tells task_of (OrderedRunIs checked.cell out.now order.now scripts.now) (H.files shelf.old) (H.read_faults shelf.old) (H.read_faults shelf.new) result }
+    ensures run { IfOk result (λ work. IsRunOf checked.cell out.now (task_of work)) }
     ensures status { IfErr result (IsInputStatus (λ n. n ≡ order.now)) }
     ensures files { H.files shelf.new ≡ H.files shelf.old }
     ensures read_faults { H.read_faults shelf.old ≤ H.read_faults shelf.new }
@@ -192,12 +187,30 @@ fn run_in_order_of<H: Shelf>(
         Ok(sessions) => sessions,
         Err(status) => return Err(status),
     };
-    let text = replay(
-        alloc,
-        checked.cell,
-        checked.findings,
-        scripts,
-        sessions.as_slice(),
-    )?;
-    Ok(text)
+    run_of(alloc, checked, out, scripts, sessions.as_slice())
+}
+
+/// The report of running scripts on a cell in an order, and the file of the cell that is left.
+fn run_of(
+    alloc: Global,
+    checked: Checked,
+    out: &str,
+    scripts: &[Script],
+    order: &[u32],
+) -> Result<Work, Status>
+    requires writable { IsWritable checked.cell }
+    requires findings { IsAllOf checked.cell finding_limit checked.findings }
+    requires few { length scripts.now ≤ 16 }
+    requires runnable { All IsRunnable scripts.now }
+    requires sessions { All (λ session. (1 ≤ session) × (session ≤ length scripts.now)) order.now }
+    ensures run { IfOk result (λ work. task_of work ≡ run_task checked.cell out.now scripts.now order.now) }
+    ensures status { IfErr result (λ status. status ≡ Status.NoMemory) }
+{
+    let replayed = replay(alloc, checked.cell, checked.findings, scripts, order)?;
+    let name = String::from_str(alloc, out)?;
+    let bytes = write_cell(alloc, &replayed.cell)?;
+    Ok(Work {
+        text: replayed.report,
+        export: Some(Export { name, bytes }),
+    })
 }

@@ -68,6 +68,14 @@ impl History {
         &self.cell
     }
 
+    /// The cell after all accepted commits, without taking memory.
+    pub fn into_cell(self) -> Cell
+        ensures same { result ≡ self.cell }
+        ensures writable { IsWritable result }
+    {
+        self.cell
+    }
+
     /// The findings of the cell.
     pub fn findings(&self) -> &Findings
         ensures { IsAllOf self.now.cell finding_limit result.now }

@@ -16,7 +16,7 @@ use Rattle.text_spec.specs.CellText.{text_with}
 use Rattle.text_spec.specs.Lines.{line}
 use Rattle.text_spec.specs.OrderLine.{order_line}
 use Rattle.text_spec.specs.declared.command.Command.{Command}
-use Rattle.history_spec.specs.ReportText.{report, session_text}
+use Rattle.history_spec.specs.ReportText.{final_cell, report, session_text}
 use Rattle.history_spec.specs.Sessions.{Request as Asked, ordered_requests, replies_to, request_at, requests_of, script_of}
 use Rattle.history_spec.specs.Steps.{History, cell_after}
 use Rattle.history_spec.specs.declared.reply.Reply.{Reply}
@@ -71,6 +71,13 @@ module _ (c : Cell) (scripts : List (List Command)) (order : List ℕ) (run : Ru
       let asked = same_requests lists scripts order requests in
       let all : IsRun c (ordered_requests scripts order) run = subst (λ told. IsRun c told run) asked ran in
       is ∙ (λ i. told (all.commits_are i) (all.state_is i) (all.replies_are i))
+
+  pub left_cell : (lists : List (List Asked)) → lists ≡ map requests_of scripts → IsRun c (filter_map (asked_at lists order) (enumerate_from 0 order)) run
+      → run.history.cell ≡ final_cell built_kinds c scripts order
+  unfolding final_cell
+  left_cell lists requests ran =
+      let all : IsRun c (ordered_requests scripts order) run = subst (λ told. IsRun c told run) (same_requests lists scripts order requests) ran in
+      ap (λ (last : History). last.cell) all.state_is
 
 pub as_many : (requests : List (Vec Request Global)) (scripts : List (List Command)) → asked_lists requests ≡ map requests_of scripts → length requests ≡ length scripts
 as_many requests scripts is = sym (length-map requests (λ (list : Vec Request Global). map request_of list.items)) ∙ ap length is ∙ length-map scripts requests_of

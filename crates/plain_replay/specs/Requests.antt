@@ -2,7 +2,6 @@
 use Rattle.std.specs.Prelude.{◌≡◌, ◌<◌, ◌^◌, true, List, [], ◌∷◌, ◌++◌, length}
 use Rattle.std.specs.List.{list_all}
 use Rattle.cell_spec.specs.declared.edit.Edit.{Edit}
-use Rattle.text_spec.specs.EditLine.{is_minimal_edit}
 use Rattle.text_spec.specs.ScriptLines.{is_minimal_command}
 use Rattle.text_spec.specs.declared.command.Command.{Command}
 use Rattle.text_spec.specs.declared.command.Command.TheVariants.{View, Commit, Drop, List as Findings, Push}
@@ -14,10 +13,10 @@ abbrev pub request_of : Request → Asked
 request_of See = see
 request_of (Offer draft) = offer draft
 
--- the edits are minimal, and fewer than 2^32
+-- there are fewer than 2^32 edits
 abbrev pub IsFewer : Request → Type 0
 IsFewer See = Unit {0}
-IsFewer (Offer draft) = (length draft < 2 ^ 32) × (list_all is_minimal_edit draft ≡ true)
+IsFewer (Offer draft) = length draft < 2 ^ 32
 
 -- what a command asks beside a draft, and the draft after it
 abbrev pub asked_by : Command → List Edit → List Asked

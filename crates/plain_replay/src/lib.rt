@@ -5,4 +5,4 @@ mod report;
 mod request;
 mod run;
 
-pub use report::replay;
+pub use report::{Replayed, replay};

@@ -2,10 +2,10 @@
 
 ghost use Rattle.std.specs.Prelude.{◌≡◌, ◌+◌, ◌-◌, ◌^◌, ◌<◌, ◌≤◌, ◌++◌, ◌∷◌, [], All, IfOk, OnOk, filter, length, map, codes, ℕ};
 ghost use Rattle.std.specs.List.{flat_map, range_with_len};
+ghost use Rattle.cell_spec.specs.Writable.{IsWritable};
 ghost use Rattle.rule_spec.specs.Kinds.{built_kinds};
 ghost use Rattle.edge_findings.specs.AllFindings.{IsAllOf};
-ghost use Rattle.edge_findings.specs.MinimalCell.{IsMinimalCell};
-ghost use Rattle.history_spec.specs.ReportText.{report, session_text};
+ghost use Rattle.history_spec.specs.ReportText.{final_cell, report, session_text};
 ghost use Rattle.s57_types.specs.declared.cell.Cell.{Cell as SpecCell};
 ghost use Rattle.text_spec.specs.Lines.{line};
 ghost use Rattle.history_spec.specs.Sessions.{replies_to as replies_to_lem, requests_of as requests_of_lem, script_of};
@@ -84,7 +84,14 @@ fn push_history(out: &mut Vec<u8>, commits: &[u8]) -> Result<(), AllocError>
     Ok(())
 }
 
-/// The report of scripts that are run on a cell in an order: the order, the answers to each session, the accepted
+/// What is left of a run: its report, and the cell after all accepted commits.
+#[derive(Debug, Drop)]
+pub struct Replayed {
+    pub report: Vec<u8>,
+    pub cell: Cell,
+}
+
+/// Runs scripts on a writable cell in an order. The report tells the order, the answers to each session, the accepted
 /// commits with their edits, and the cell that is left with its findings.
 ///
 /// An `Err` is want of memory.
@@ -94,13 +101,15 @@ pub fn replay(
     findings: Findings,
     scripts: &[Script],
     order: &[u32],
-) -> Result<Vec<u8>, AllocError>
-    requires cell { IsMinimalCell cell }
+) -> Result<Replayed, AllocError>
+    requires cell { IsWritable cell }
     requires findings { IsAllOf cell finding_limit findings }
     requires few { length scripts.now ≤ desk_limit }
     requires minimal { All IsRunnable scripts.now }
     requires sessions { All (λ session. (1 ≤ session) × (session ≤ length scripts.now)) order.now }
-    ensures { IfOk result (λ text. text.items ≡ report built_kinds cell scripts.now order.now) }
+    ensures report { IfOk result (λ replayed. replayed.report.items ≡ report built_kinds cell scripts.now order.now) }
+    ensures cell { IfOk result (λ replayed. replayed.cell ≡ final_cell built_kinds cell scripts.now order.now) }
+    ensures writable { IfOk result (λ replayed. IsWritable replayed.cell) }
 {
     let history = History::open(alloc, cell, findings);
     let requests = all_requests(alloc, scripts)?;
@@ -110,5 +119,8 @@ pub fn replay(
     push_sessions(alloc, &mut out, scripts, &run.replies)?;
     push_history(&mut out, &run.commits)?;
     push_cell(&mut out, run.history.cell(), run.history.findings())?;
-    Ok(out)
+    Ok(Replayed {
+        report: out,
+        cell: run.history.into_cell(),
+    })
 }

@@ -1,9 +1,6 @@
 //! What the commands of a script ask of the history.
 
-ghost use Rattle.std.specs.Prelude.{◌≡◌, ◌+◌, ◌^◌, ◌<◌, ◌≤◌, ◌++◌, All, IfOk, OnOk, length, map, true};
-ghost use Rattle.std.specs.List.{list_all};
-ghost use Rattle.text_spec.specs.EditLine.{is_minimal_edit};
-ghost use Rattle.text_spec.specs.ScriptLines.{is_minimal_command};
+ghost use Rattle.std.specs.Prelude.{◌≡◌, ◌+◌, ◌^◌, ◌<◌, ◌≤◌, ◌++◌, All, IfOk, OnOk, length, map};
 ghost use Rattle.history_spec.specs.Sessions.{requests_of as requests_of_lem};
 ghost use Rattle.plain_replay.specs.Requests.{IsFewer, asked_by, draft_after, request_of};
 
@@ -32,13 +29,10 @@ struct Gathered {
 /// Takes in a command.
 fn gather(alloc: Global, gathered: &mut Gathered, command: &Command) -> Result<(), AllocError>
     requires few { length gathered.old.draft + 1 < 2 ^ 32 }
-    requires command { is_minimal_command command.now ≡ true }
-    requires draft { list_all is_minimal_edit gathered.old.draft ≡ true }
     requires fewer { All IsFewer gathered.old.requests.items }
     ensures asked { OnOk result (map request_of gathered.new.requests.items ≡ map request_of gathered.old.requests.items ++ asked_by command.now gathered.old.draft) }
     ensures left { OnOk result (gathered.new.draft ≡ draft_after command.now gathered.old.draft) }
     ensures short { OnOk result (length gathered.new.draft ≤ length gathered.old.draft + 1) }
-    ensures draft { OnOk result (list_all is_minimal_edit gathered.new.draft ≡ true) }
     ensures fewer { OnOk result (All IsFewer gathered.new.requests.items) }
 {
     match command {
@@ -54,14 +48,13 @@ fn gather(alloc: Global, gathered: &mut Gathered, command: &Command) -> Result<(
     Ok(())
 }
 
-/// The requests of a minimal script's commands.
+/// The requests of a script's commands.
 ///
 /// An `Err` is want of memory.
 pub fn requests_of(alloc: Global, commands: &[Command]) -> Result<Vec<Request>, AllocError>
     requires few { length commands.now < 2 ^ 32 }
-    requires minimal { list_all is_minimal_command commands.now ≡ true }
     ensures asked { IfOk result (λ requests. map request_of requests.items ≡ requests_of_lem commands.now) }
-    ensures minimal { IfOk result (λ requests. All IsFewer requests.items) }
+    ensures fewer { IfOk result (λ requests. All IsFewer requests.items) }
 {
     let mut gathered = Gathered {
         requests: Vec::new(alloc),

@@ -11,8 +11,15 @@ use Rattle.history_spec.specs.ReportText.{session_text}
 use Rattle.history_spec.specs.Sessions.{replies_to, script_of}
 use Rattle.history_spec.specs.Steps.{cell_after}
 use Rattle.plain_replay.specs.Runs.{IsRun, asked_at, asked_lists}
-use Rattle.plain_replay.proofs.Reports.{as_many, whole_report}
+use Rattle.plain_replay.proofs.Reports.{as_many, left_cell, whole_report}
 use Rattle.plain_replay.proofs.report.replay.Goals as goal
+
+pub run_in_order-requires-clause-few : goal.run_in_order-requires-clause-few
+run_in_order-requires-clause-few c =
+    let many = as_many c.in_ok-requests.requests.items c.args.scripts.now c.in_ok-requests.ensures.asked in
+    let all = ap length c.deref.ensures.value in
+    let few = c.requires.few in
+    omega (arith, many, all, few)
 
 pub run_in_order-requires-clause-sessions : goal.run_in_order-requires-clause-sessions
 run_in_order-requires-clause-sessions c = λ k d within.
@@ -22,8 +29,8 @@ run_in_order-requires-clause-sessions c = λ k d within.
     let all = ap length c.deref.ensures.value in
     (range.0, omega (arith, above, many, all))
 
-pub returns : goal.returns
-returns c =
+pub returns-clause-report : goal.returns-clause-report
+returns-clause-report c =
     let cell = c.args.cell in
     let scripts = c.args.scripts.now in
     let order = c.args.order.now in
@@ -37,3 +44,11 @@ returns c =
     let rows = all_findings built_kinds run.history.cell in
     whole_report cell scripts order run (asked_lists c.in_ok-requests.requests.items) c.push_cell.new.out.items c.in_ok-requests.ensures.asked ran
     (c.in_ok-push_cell.ensures rows c.findings.ensures.all ∙ (λ i. third i ++ text_with (c.cell.ensures i) rows))
+
+pub returns-clause-cell : goal.returns-clause-cell
+returns-clause-cell c =
+    let cell = c.args.cell in
+    let order = c.args.order.now in
+    let run = c.in_ok-run.run' in
+    let ran = subst (λ lists. IsRun cell (filter_map (asked_at (asked_lists lists) order) (enumerate_from 0 order)) run) c.deref.ensures.value (c.in_ok-run.ensures cell c.open-history.ensures) in
+    c.into_cell.ensures.same ∙ left_cell cell c.args.scripts.now order run (asked_lists c.in_ok-requests.requests.items) c.in_ok-requests.ensures.asked ran

@@ -1,6 +1,4 @@
-use Rattle.std.proofs.Common.{◌≡◌, ◌≤◌, ◌++◌, All, drop, length, map, true}
-use Rattle.std.specs.List.{list_all}
-use Rattle.text_spec.specs.EditLine.{is_minimal_edit}
+use Rattle.std.proofs.Common.{◌≡◌, ◌≤◌, ◌++◌, All, drop, length, map}
 use Rattle.history_spec.specs.Sessions.{requests_from, requests_of}
 use Rattle.plain_replay.specs.Requests.{IsFewer, request_of}
 use Rattle.plain_replay.proofs.request.requests_of.Given as goal
@@ -9,5 +7,4 @@ abbrev pub invariant-loop-command : goal.invariant-loop-command
 invariant-loop-command l =
     (map request_of l.gathered.requests.items ++ requests_from l.gathered.draft (drop l.command-index l.commands) ≡ requests_of l.commands)
     × (All IsFewer l.gathered.requests.items)
-    × (list_all is_minimal_edit l.gathered.draft ≡ true)
     × (length l.gathered.draft ≤ l.command-index)

@@ -1,9 +1,28 @@
 use Rattle.std.proofs.Common.{◌-◌, ◌<◌, ◌≤◌, ◌++◌, ap, length, option_to_list, filter_map, get_or, take, take_all, subst, sym, ◌∙◌, refl, arith}
 use Rattle.std.specs.List.{enumerate_from}
+use Rattle.std.specs.Prelude.{◌==◌, slice_index}
+use Rattle.std.proofs.Common.{◌+◌, rules}
+use Rattle.std.proofs.lemmas.List.{length-take}
 use Rattle.std.proofs.lemmas.List.FromFn.{length-enumerate_from}
+use Rattle.std.proofs.lemmas.List.Sums.{count_by-le-length}
 use Rattle.plain_replay.specs.Runs.{IsRun, asked_after, asked_at, asked_lists}
 use Rattle.plain_replay.proofs.Places.{asked_more, counts_more, read_there}
 use Rattle.plain_replay.proofs.run.run_in_order.Goals as goal
+
+pub count_up-requires-clause-room : goal.count_up-requires-clause-room
+count_up-requires-clause-room c =
+    let order = c.args.order.now in
+    let k = c.loop-session.session-index in
+    let session = get_or order k 0 in
+    let before = c.loop-session.invariant in
+    let in_range = c.requires.sessions k 0 c.loop-session-test.true in
+    let below : session - 1 < length c.loop-session.used.items = (let low = in_range.0 in let range = in_range.1 in let many = before.0 in omega (arith, low, range, many)) in
+    let counted = before.1 (session - 1) below in
+    let few = count_by-le-length (λ other. other == session - 1 + 1) (take k order) in
+    let short = length-take k order in
+    let inside = c.loop-session-test.true in
+    let small : slice_index c.loop-session.used.items (session - 1) ≤ k = omega (arith, counted, few, short) in
+    search rules
 
 pub loop-session-preserved : goal.loop-session-preserved
 loop-session-preserved c =
