@@ -33,7 +33,7 @@ empty_there name (Some fs) there = record { written = there; others = λ other a
 pub is_there : (name x : List ℕ) (a b : Option Files) → Told (Writes name x) a b → StaysUntold a b → IfSome b (λ fs. IsSome (fs name))
 is_there name x a None wrote stays = tt
 is_there name x None (Some gs) wrote stays = absurd (false≢true (sym (stays refl)))
-is_there name x (Some fs) (Some gs) wrote stays = subst IsSome (sym wrote.written) tt
+is_there name x (Some fs) (Some gs) wrote stays = subst IsSome (sym wrote.written) refl
 
 pub made_empty : (name : List ℕ) (a b : Option Files) → Told (Writes name []) a b → StaysUntold a b → IfSome b (λ fs. fs name ≡ Some [])
 made_empty name a None wrote stays = tt
@@ -52,7 +52,7 @@ made_and_begun name bytes a b c =
   where
     front : {F : Option (List ℕ)} (new mid : Option (List ℕ)) → mid ≡ Some [] → (new ≡ mid) ⊎ ((n : ℕ) × (new ≡ Some (take n bytes))) → (new ≡ F) ⊎ ((n : ℕ) × (new ≡ Some (take n bytes)))
     front new mid made (inl same) = inr (0, same ∙ made)
-    front new mid made (inr front) = inr front
+    front new mid made (inr some) = inr some
 
 pub maybe_empty : (name bytes : List ℕ) (a b : Option Files) → Told (MayEmpty name) a b → Told (MayHaveFront name bytes) a b
 maybe_empty name bytes None b may = tt

@@ -29,18 +29,16 @@ few_words (a ∷ b ∷ d ∷ rest) few = absurd (omega (arith, few))
 between : (n : ℕ) → 1 ≤ n → n ≤ 16 → is_between 1 16 n ≡ true
 between n low high = grind (arith, nat_tests)
 
-pub replay_words : (others : List (String Global)) (cell order : String Global) (names : List (String Global)) → 3 ≤ length others → cell ≡ get_or others 0 cell → order ≡ get_or others 2 order → names ≡ drop 3 others
-    → 1 ≤ length names → length names ≤ 16 → (out : List ℕ) × (replay_among (map string_bytes others) ≡ replay_form (string_bytes cell) out (string_bytes order) (map string_bytes names))
-replay_words [] cell order names many is_cell is_order are low high = absurd (omega (arith, many))
-replay_words (a ∷ []) cell order names many is_cell is_order are low high = absurd (omega (arith, many))
-replay_words (a ∷ b ∷ []) cell order names many is_cell is_order are low high = absurd (omega (arith, many))
-replay_words (a ∷ b ∷ d ∷ rest) cell order names many is_cell is_order are low high =
+pub replay_words : (others : List (String Global)) (cell out order : String Global) (names : List (String Global)) → 3 ≤ length others → cell ≡ get_or others 0 cell → out ≡ get_or others 1 out → order ≡ get_or others 2 order → names ≡ drop 3 others
+    → 1 ≤ length names → length names ≤ 16 → replay_among (map string_bytes others) ≡ replay_form (string_bytes cell) (string_bytes out) (string_bytes order) (map string_bytes names)
+replay_words [] cell out order names many is_cell is_out is_order are low high = absurd (omega (arith, many))
+replay_words (a ∷ []) cell out order names many is_cell is_out is_order are low high = absurd (omega (arith, many))
+replay_words (a ∷ b ∷ []) cell out order names many is_cell is_out is_order are low high = absurd (omega (arith, many))
+replay_words (a ∷ b ∷ d ∷ rest) cell out order names many is_cell is_out is_order are low high =
     let count : length (map string_bytes rest) ≡ length names = length-map rest string_bytes ∙ ap length (sym are) in
-    let right : is_between 1 16 (length (map string_bytes rest)) ≡ true = between (length (map string_bytes rest)) (omega (arith, low, count)) (omega (arith, high, count)) in (
-      string_bytes b,
-      ap (λ t. cond t (replay_form (string_bytes a) (string_bytes b) (string_bytes d) (map string_bytes rest)) no_form) right
-          ∙ (λ i. replay_form (string_bytes (sym is_cell i)) (string_bytes b) (string_bytes (sym is_order i)) (map string_bytes (sym are i))),
-    )
+    let right : is_between 1 16 (length (map string_bytes rest)) ≡ true = between (length (map string_bytes rest)) (omega (arith, low, count)) (omega (arith, high, count)) in
+    ap (λ t. cond t (replay_form (string_bytes a) (string_bytes b) (string_bytes d) (map string_bytes rest)) no_form) right
+    ∙ (λ i. replay_form (string_bytes (sym is_cell i)) (string_bytes (sym is_out i)) (string_bytes (sym is_order i)) (map string_bytes (sym are i)))
 
 not_between : (n : ℕ) → (1 ≤ n → n ≤ 16 → ⊥) → is_between 1 16 n ≡ false
 not_between n other = by_tests (nat_le 1 n) (nat_le n 16) refl refl

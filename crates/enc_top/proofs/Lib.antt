@@ -1,7 +1,7 @@
 pub mod Puts
 pub mod Ranges
 pub mod WordLists
-pub mod MinimalCells
+pub mod FileWrites
 pub mod Answered
 pub mod Sessions
 pub mod Causes

@@ -12,6 +12,7 @@ ghost use Rattle.enc_top.specs.Refused.{IsRefusal};
 use crate::input::{InputRefusal, read_file};
 use crate::status::Status;
 use cell_decode::ReadRefusal;
+use decode_laws::decoded_cell_is_writable;
 use edge_findings::{FindingRefusal, Findings, find_all};
 use enc_outside::Shelf;
 use order_text::{Order, OrderRefusal, read_order};
@@ -81,6 +82,7 @@ fn judge_cell(alloc: Global, bytes: &[u8]) -> Result<Checked, Status>
     ensures findings { IfOk result (λ checked. IsAllOf checked.cell finding_limit checked.findings) }
     ensures status { IfErr result (IsInputStatus (λ n. ⊥)) }
 {
+    decoded_cell_is_writable();
     let cell = match cell_decode::read_cell(alloc, bytes) {
         Ok(cell) => cell,
         Err(ReadRefusal::Fault(fault)) => return Err(Status::BadCell(fault)),

@@ -3,7 +3,7 @@ use Rattle.std.specs.Prelude.{codes}
 use Rattle.enc_top.specs.Outcome.{IsAskedBy}
 use Rattle.enc_top.specs.Words.{is_word}
 use Rattle.enc_top.proofs.FormWords.{behind, check_not_later, check_words, later_words, no_words, other_words, run_not_later, run_words}
-use Rattle.enc_top.proofs.top.asked_text.Goals as goal
+use Rattle.enc_top.proofs.top.asked_work.Goals as goal
 
 pub returns-in_default-clause-asked : goal.returns-in_default-clause-asked
 returns-in_default-clause-asked g c = no_words c.args.words.now c.in_default.len_below

@@ -1,9 +1,11 @@
-use Rattle.std.proofs.Common.{◌≡◌, ◌++◌, Ok, IfSome, inl, length, sym, ap, ◌∙◌, subst, arith}
+use Rattle.std.proofs.Common.{ℕ, List, None, ◌≡◌, ◌++◌, Ok, IfSome, inl, length, sym, ap, ◌∙◌, subst, arith}
 use Rattle.rule_spec.specs.Findings.{all_findings}
 use Rattle.rule_spec.specs.Kinds.{built_kinds}
 use Rattle.text_spec.specs.CellText.{cell_text, text_with}
 use Rattle.enc_top.specs.Inputs.{OutputIs}
-use Rattle.enc_top.specs.Outcome.{IsOutput}
+use Rattle.enc_top.specs.Outcome.{IsAskedBy}
+use Rattle.enc_top.specs.Task.{Task, check_task, task_of}
+use Rattle.enc_top.specs.declared.work.Work.{Work}
 use Rattle.enc_top.specs.Words.{check_form}
 use Rattle.enc_top.proofs.Answered.{both_told}
 use Rattle.enc_top.proofs.FormWords.{one_word}
@@ -16,5 +18,6 @@ returns-clause-asked g c =
     let cell = c.in-Ok.checked.cell in
     let text : c.push_cell.new.out.items ≡ cell_text built_kinds cell =
     c.in_ok-push_cell.ensures (all_findings built_kinds cell) c.in-Ok.ensures.findings.all ∙ ap (λ before. before ++ text_with cell (all_findings built_kinds cell)) c.new-text.ensures.items in
-    let told = both_told (g.H.Shelf.files c.args.shelf.now) c.in-Ok.ensures.tells c.in-Ok.ensures.tells (λ fs step _. inl (cell, step, ap Ok text)) in
-    subst (λ f. IsOutput f c.push_cell.new.out.items × IfSome (g.H.Shelf.files c.args.shelf.now) (λ fs. OutputIs f fs (Ok c.push_cell.new.out.items))) (sym form) ((cell, text), told)
+    let is : task_of (record { text = c.push_cell.new.out; export = None }) ≡ check_task cell = ap (λ (text : List ℕ). record { text = text; file = None }) text in
+    let told = both_told (g.H.Shelf.files c.args.shelf.now) c.in-Ok.ensures.tells c.in-Ok.ensures.tells (λ fs step _. inl (cell, step, ap Ok is)) in
+    subst (λ f. IsAskedBy f (g.H.Shelf.files c.args.shelf.now) (g.H.Shelf.read_faults c.args.shelf.now) (g.H.Shelf.read_faults c.read_cell.new.shelf) (Ok (record { text = c.push_cell.new.out; export = None }))) (sym form) ((cell, is), told)

@@ -1,5 +1,6 @@
 use Rattle.std.proofs.Common.{◌≡◌, ◌⊎◌, inl, inr, ℕ, Ok, Global, map, string_bytes, refl, subst}
 use Rattle.std.specs.Prelude.{Vec}
+use Rattle.enc_top.specs.Task.{task_of}
 use Rattle.script_text.specs.declared.script.Script.{Script}
 use Rattle.enc_top.specs.Inputs.{IsAmong, OrderedRunIs, RunIs, ScriptsAre, Tells}
 use Rattle.enc_top.proofs.Answered.{if_err_more, status_of_more, tells_first, tells_last}
@@ -7,7 +8,7 @@ use Rattle.enc_top.proofs.top.run_on.Goals as goal
 
 pub returns-in-Err-clause-tells : goal.returns-in-Err-clause-tells
 returns-in-Err-clause-tells g c =
-    tells_first (λ (scripts : Vec Script Global). scripts.items) (λ (text : Vec ℕ Global). text.items) (ScriptsAre (map string_bytes c.args.names.now)) (RunIs c.args.checked.cell c.args.order.now (map string_bytes c.args.names.now))
+    tells_first (λ (scripts : Vec Script Global). scripts.items) task_of (ScriptsAre (map string_bytes c.args.names.now)) (RunIs c.args.checked.cell c.args.out.now c.args.order.now (map string_bytes c.args.names.now))
     (g.H.Shelf.files c.args.shelf.now) (g.H.Shelf.read_faults c.args.shelf.now) (g.H.Shelf.read_faults c.read_scripts.new.shelf) c.in-Err.status
     (λ fs bad. inr (c.in-Err.status, bad, refl)) c.in-Err.ensures.tells
 
@@ -19,11 +20,11 @@ pub returns-clause-tells : goal.returns-clause-tells
 returns-clause-tells g c =
     let names = map string_bytes c.args.names.now in
     let tells =
-    subst (λ files. Tells (λ (text : Vec ℕ Global). text.items) (OrderedRunIs c.args.checked.cell c.args.order.now c.in-Ok.scripts.items) files (g.H.Shelf.read_faults c.read_scripts.new.shelf) (g.H.Shelf.read_faults c.run_in_order_of.new.shelf) c.run_in_order_of.result)
+    subst (λ files. Tells task_of (OrderedRunIs c.args.checked.cell c.args.out.now c.args.order.now c.in-Ok.scripts.items) files (g.H.Shelf.read_faults c.read_scripts.new.shelf) (g.H.Shelf.read_faults c.run_in_order_of.new.shelf) c.run_in_order_of.result)
     c.in-Ok.ensures.files
-    (subst (λ scripts. Tells (λ (text : Vec ℕ Global). text.items) (OrderedRunIs c.args.checked.cell c.args.order.now scripts) (g.H.Shelf.files c.read_scripts.new.shelf) (g.H.Shelf.read_faults c.read_scripts.new.shelf) (g.H.Shelf.read_faults c.run_in_order_of.new.shelf) c.run_in_order_of.result)
+    (subst (λ scripts. Tells task_of (OrderedRunIs c.args.checked.cell c.args.out.now c.args.order.now scripts) (g.H.Shelf.files c.read_scripts.new.shelf) (g.H.Shelf.read_faults c.read_scripts.new.shelf) (g.H.Shelf.read_faults c.run_in_order_of.new.shelf) c.run_in_order_of.result)
     c.deref.ensures.value c.run_in_order_of.ensures.tells) in
-    tells_last (λ (text : Vec ℕ Global). text.items) (OrderedRunIs c.args.checked.cell c.args.order.now c.in-Ok.scripts.items) (RunIs c.args.checked.cell c.args.order.now names) (λ fs. ScriptsAre names fs (Ok c.in-Ok.scripts.items))
+    tells_last task_of (OrderedRunIs c.args.checked.cell c.args.out.now c.args.order.now c.in-Ok.scripts.items) (RunIs c.args.checked.cell c.args.out.now c.args.order.now names) (λ fs. ScriptsAre names fs (Ok c.in-Ok.scripts.items))
     (g.H.Shelf.files c.args.shelf.now) (g.H.Shelf.read_faults c.args.shelf.now) (g.H.Shelf.read_faults c.read_scripts.new.shelf) (g.H.Shelf.read_faults c.run_in_order_of.new.shelf) c.run_in_order_of.result
     c.in-Ok.ensures.read_faults c.in-Ok.ensures.tells (λ fs answer good step. inl (c.in-Ok.scripts.items, good, step)) tells
 

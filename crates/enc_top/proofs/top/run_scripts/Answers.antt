@@ -1,7 +1,8 @@
 use Rattle.std.proofs.Common.{◌≡◌, ◌⊎◌, ◌-◌, ◌≤◌, ℕ, take, Ok, Err, Global, inl, inr, length, map, drop, string_bytes, refl, sym, ap, ◌∙◌, subst, arith}
-use Rattle.std.specs.Prelude.{Vec}
+use Rattle.enc_top.specs.Task.{task_of}
+use Rattle.enc_top.specs.declared.work.Work.{Work}
 use Rattle.std.proofs.lemmas.Bool.Decides.{nat_tests}
-use Rattle.enc_top.specs.Inputs.{CellIs, IsAmong, IsInputOf, IsReportOf, OutputIs, RunIs, Tells}
+use Rattle.enc_top.specs.Inputs.{CellIs, IsAmong, IsInputOf, IsRunOf, OutputIs, RunIs, Tells}
 use Rattle.enc_top.specs.Outcome.{IsAskedBy, IsOutput}
 use Rattle.enc_top.specs.Words.{Form, replay_among, replay_form}
 use Rattle.enc_top.specs.declared.inputs.Checked.{Checked}
@@ -14,13 +15,13 @@ returns-in-Err-clause-asked g c =
     let names = take (length c.args.others.now - 3) (drop 3 c.args.others.now) in
     let low : 1 ≤ length names = (let empty = c.is_empty.ensures in let not = c.if-is_empty.false in grind (arith, nat_tests)) in
     let high : length names ≤ 16 = (let few = c.if-names-gt-SESSION_LIMIT.false in omega (arith, few)) in
-    let words = replay_words c.args.others.now c.cell-item.result c.order-item.result names c.in-len3-up.len_at_least c.cell-item.is c.order-item.is (behind 3 c.args.others.now) low high in
-    let form : Form = replay_form c.as_str.result.now words.0 (string_bytes c.order-item.result) (map string_bytes names) in
-    let is : replay_among (map string_bytes c.args.others.now) ≡ form = words.1 ∙ ap (λ cell. replay_form cell words.0 (string_bytes c.order-item.result) (map string_bytes names)) (sym c.as_str.ensures.value) in
+    let words = replay_words c.args.others.now c.cell-item.result c.out-item.result c.order-item.result names c.in-len3-up.len_at_least c.cell-item.is c.out-item.is c.order-item.is (behind 3 c.args.others.now) low high in
+    let form : Form = replay_form c.as_str.result.now (string_bytes c.out-item.result) (string_bytes c.order-item.result) (map string_bytes names) in
+    let is : replay_among (map string_bytes c.args.others.now) ≡ form = words ∙ ap (λ cell. replay_form cell (string_bytes c.out-item.result) (string_bytes c.order-item.result) (map string_bytes names)) (sym c.as_str.ensures.value) in
     subst (λ f. IsAskedBy f (g.H.Shelf.files c.args.shelf.now) (g.H.Shelf.read_faults c.args.shelf.now) (g.H.Shelf.read_faults c.read_cell.new.shelf) (Err c.in-Err.status)) (sym is)
-    (asked_status (λ (text : Vec ℕ Global). text.items) form (g.H.Shelf.files c.args.shelf.now) (g.H.Shelf.read_faults c.args.shelf.now) (g.H.Shelf.read_faults c.read_cell.new.shelf) c.in-Err.status tt
+    (asked_status form (g.H.Shelf.files c.args.shelf.now) (g.H.Shelf.read_faults c.args.shelf.now) (g.H.Shelf.read_faults c.read_cell.new.shelf) c.in-Err.status tt
     (status_of_more (λ n. n ≡ c.as_str.result.now) (IsInputOf form) c.in-Err.status (λ n same. inl same) c.in-Err.ensures.status)
-    (tells_first (λ (checked : Checked). checked.cell) (λ (text : Vec ℕ Global). text.items) (CellIs c.as_str.result.now) (OutputIs form)
+    (tells_first (λ (checked : Checked). checked.cell) task_of (CellIs c.as_str.result.now) (OutputIs form)
     (g.H.Shelf.files c.args.shelf.now) (g.H.Shelf.read_faults c.args.shelf.now) (g.H.Shelf.read_faults c.read_cell.new.shelf) c.in-Err.status (λ fs bad. inr (c.in-Err.status, bad, refl)) c.in-Err.ensures.tells))
 
 pub returns-clause-asked : goal.returns-clause-asked
@@ -28,16 +29,16 @@ returns-clause-asked g c =
     let names = take (length c.args.others.now - 3) (drop 3 c.args.others.now) in
     let low : 1 ≤ length names = (let empty = c.is_empty.ensures in let not = c.if-is_empty.false in grind (arith, nat_tests)) in
     let high : length names ≤ 16 = (let few = c.if-names-gt-SESSION_LIMIT.false in omega (arith, few)) in
-    let words = replay_words c.args.others.now c.cell-item.result c.order-item.result names c.in-len3-up.len_at_least c.cell-item.is c.order-item.is (behind 3 c.args.others.now) low high in
-    let form : Form = replay_form c.as_str.result.now words.0 c.as_str-2.result.now (map string_bytes names) in
-    let is : replay_among (map string_bytes c.args.others.now) ≡ form = words.1 ∙ (λ i. replay_form (sym c.as_str.ensures.value i) words.0 (sym c.as_str-2.ensures.value i) (map string_bytes names)) in
+    let words = replay_words c.args.others.now c.cell-item.result c.out-item.result c.order-item.result names c.in-len3-up.len_at_least c.cell-item.is c.out-item.is c.order-item.is (behind 3 c.args.others.now) low high in
+    let form : Form = replay_form c.as_str.result.now c.as_str-2.result.now c.as_str-3.result.now (map string_bytes names) in
+    let is : replay_among (map string_bytes c.args.others.now) ≡ form = words ∙ (λ i. replay_form (sym c.as_str.ensures.value i) (sym c.as_str-2.ensures.value i) (sym c.as_str-3.ensures.value i) (map string_bytes names)) in
     let cell = c.in-Ok.checked.cell in
-    let tells = subst (λ files. Tells (λ (text : Vec ℕ Global). text.items) (RunIs cell c.as_str-2.result.now (map string_bytes names)) files (g.H.Shelf.read_faults c.read_cell.new.shelf) (g.H.Shelf.read_faults c.run_on.new.shelf) c.run_on.result)
+    let tells = subst (λ files. Tells task_of (RunIs cell c.as_str-2.result.now c.as_str-3.result.now (map string_bytes names)) files (g.H.Shelf.read_faults c.read_cell.new.shelf) (g.H.Shelf.read_faults c.run_on.new.shelf) c.run_on.result)
     c.in-Ok.ensures.files c.run_on.ensures.tells in
     subst (λ f. IsAskedBy f (g.H.Shelf.files c.args.shelf.now) (g.H.Shelf.read_faults c.args.shelf.now) (g.H.Shelf.read_faults c.run_on.new.shelf) c.run_on.result) (sym is)
     (asked_answer form (g.H.Shelf.files c.args.shelf.now) (g.H.Shelf.read_faults c.args.shelf.now) (g.H.Shelf.read_faults c.run_on.new.shelf) c.run_on.result tt
-    (if_ok_more (λ (text : Vec ℕ Global). IsReportOf cell text.items) (λ (text : Vec ℕ Global). IsOutput form text.items) c.run_on.result (λ text report. (cell, report)) c.run_on.ensures.report)
-    (if_err_more (λ n. (n ≡ c.as_str-2.result.now) ⊎ IsAmong (map string_bytes names) n) (IsInputOf form) c.run_on.result (λ n other. inr other) c.run_on.ensures.status)
-    (tells_last (λ (text : Vec ℕ Global). text.items) (RunIs cell c.as_str-2.result.now (map string_bytes names)) (OutputIs form) (λ fs. CellIs c.as_str.result.now fs (Ok cell))
+    (if_ok_more (λ (work : Work). IsRunOf cell c.as_str-2.result.now (task_of work)) (λ (work : Work). IsOutput form (task_of work)) c.run_on.result (λ work ran. (cell, ran)) c.run_on.ensures.run)
+    (if_err_more (λ n. (n ≡ c.as_str-3.result.now) ⊎ IsAmong (map string_bytes names) n) (IsInputOf form) c.run_on.result (λ n other. inr other) c.run_on.ensures.status)
+    (tells_last task_of (RunIs cell c.as_str-2.result.now c.as_str-3.result.now (map string_bytes names)) (OutputIs form) (λ fs. CellIs c.as_str.result.now fs (Ok cell))
     (g.H.Shelf.files c.args.shelf.now) (g.H.Shelf.read_faults c.args.shelf.now) (g.H.Shelf.read_faults c.read_cell.new.shelf) (g.H.Shelf.read_faults c.run_on.new.shelf) c.run_on.result
     c.in-Ok.ensures.read_faults c.in-Ok.ensures.tells (λ fs answer good step. inl (cell, good, step)) tells))
