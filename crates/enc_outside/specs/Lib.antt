@@ -5,3 +5,5 @@ pub mod MemShelf
 pub mod MemSink
 pub mod Shelf
 pub mod Sink
+pub mod SureShelf
+pub mod SureSink

@@ -7,12 +7,16 @@ mod mem_shelf;
 mod mem_sink;
 mod shelf;
 mod sink;
+mod sure_shelf;
+mod sure_sink;
 
 pub use meet::{Meet, NoMeet, Stuck};
 pub use mem_shelf::MemShelf;
 pub use mem_sink::MemSink;
 pub use shelf::{Failed, Got, Shelf};
 pub use sink::Sink;
+pub use sure_shelf::SureShelf;
+pub use sure_sink::SureSink;
 
 #[cfg(test)]
 mod tests;

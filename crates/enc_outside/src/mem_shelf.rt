@@ -10,7 +10,7 @@ use std::alloc::{AllocError, Global};
 use std::collections::BTreeMap;
 
 /// Puts a content under a name, in place of what stood there. An `Err` changes nothing.
-fn put_file(
+pub(crate) fn put_file(
     alloc: Global,
     files: &mut BTreeMap<String, Vec<u8>>,
     name: &str,
@@ -25,7 +25,7 @@ fn put_file(
 }
 
 /// Appends bytes to a file that is there. An `Err` changes nothing.
-fn append_file(
+pub(crate) fn append_file(
     files: &mut BTreeMap<String, Vec<u8>>,
     name: &str,
     bytes: &[u8],
@@ -43,7 +43,7 @@ fn append_file(
 }
 
 /// Reads bytes of a content from a place on.
-fn read_content(content: &[u8], at: usize, into: &mut [u8]) -> Got
+pub(crate) fn read_content(content: &[u8], at: usize, into: &mut [u8]) -> Got
     requires { 0 < length into.old }
     ensures told { TellsFile (Some content.now) at into.new result }
     ensures fits { FitsGot into.new result }
@@ -119,6 +119,13 @@ impl MemShelf {
             Some(content) => Some(content.as_slice()),
             None => None,
         }
+    }
+
+    /// Its files, without taking memory.
+    pub(crate) fn into_files(self) -> (Global, BTreeMap<String, Vec<u8>>)
+        ensures { files_of result.1 ≡ mem_files self }
+    {
+        (self.alloc, self.files)
     }
 
     /// Counts a call, and says whether it is to fail.

@@ -68,3 +68,24 @@ fn one_call_of_a_sink_fails(rt: HostRuntime) {
 fn nobody_waits_without_a_rendezvous(rt: HostRuntime) {
     assert_eq!(rt; NoMeet.arrive(1, 1), Ok(()));
 }
+
+#[test]
+fn sure_stand_ins_do_not_fail(rt: HostRuntime) -> Result<(), Fail> {
+    let alloc = rt.alloc();
+    let mut inner = MemShelf::make(alloc);
+    inner.place("CELL", b"abcde")?;
+    inner.fail_at(1);
+    let mut shelf = SureShelf::make(inner);
+    let mut into = [0u8; 3];
+    assert_eq!(rt; shelf.read_at("CELL", 3, &mut into), Ok(Got::Bytes(2)));
+    assert_eq!(rt; into, *b"de\0");
+    assert_eq!(rt; shelf.read_at("NONE", 0, &mut into), Ok(Got::Absent));
+    assert_eq!(rt; shelf.make("OUT"), Ok(()));
+    assert_eq!(rt; shelf.append("OUT", b"yz"), Ok(2));
+    assert_eq!(rt; shelf.file("OUT").ok_or("it is there")?, b"yz".as_slice());
+    let mut sink = SureSink::make(alloc);
+    assert_eq!(rt; sink.put(b"one"), Ok(3));
+    assert_eq!(rt; sink.put(b"two"), Ok(3));
+    assert_eq!(rt; sink.bytes(), b"onetwo".as_slice());
+    Ok(())
+}
