@@ -1,7 +1,5 @@
-mod square;
-
 use super::*;
-use s57_types::{Cell, CellFault, Feature, Rec, Vector};
+use s57_types::{Cell, CellFault, Rec, Vector};
 use std::alloc::{AllocError, Global};
 use std::test::Fail;
 
@@ -60,54 +58,6 @@ fn vector(rec: Option<&Rec>) -> Option<&Vector> {
         Some(Rec::V(vector)) => Some(vector),
         _ => None,
     }
-}
-
-fn feature(rec: Option<&Rec>) -> Option<&Feature> {
-    match rec {
-        Some(Rec::F(feature)) => Some(feature),
-        _ => None,
-    }
-}
-
-#[test]
-fn square_is_read(rt: HostRuntime) -> Result<(), Fail> {
-    let alloc = rt.alloc();
-    let cell = read(alloc, &joined(alloc, &square::ROWS)?)
-        .ok()
-        .ok_or("it is a cell file")?;
-    assert_eq!(rt; cell.head.dsnm.as_slice(), b"MAKE.000".as_slice());
-    let counts = (cell.vi.len(), cell.vc.len(), cell.ve.len(), cell.fe.len());
-    assert_eq!(rt; counts, (0, 4, 4, 2));
-    let node = vector(cell.vc.as_slice().get(3)).ok_or("it is a node")?;
-    assert_eq!(rt; node.plane.as_slice(), [(40_000, 40_000)].as_slice());
-    let coverage = feature(cell.fe.as_slice().get(1)).ok_or("it is a feature")?;
-    let ids = (coverage.name.id, coverage.objl, coverage.places.len());
-    assert_eq!(rt; ids, (2, 302, 4));
-    Ok(())
-}
-
-#[test]
-fn changed_bytes_have_their_faults(rt: HostRuntime) -> Result<(), Fail> {
-    let alloc = rt.alloc();
-    for (place, byte, fault) in [
-        (0, 120, refused(1, 0, 2)),
-        (1_635, 2, refused(2, 1_578, 8)),
-        (1_681, 3, refused(2, 1_578, 9)),
-        (1_682, 2, refused(2, 1_578, 4)),
-        (1_789, 57, refused(5, 1_854, 2)),
-        (1_816, 88, refused(4, 1_785, 7)),
-        (1_830, 32, refused(4, 1_785, 3)),
-        (1_833, 0, None),
-        (1_841, 2, refused(4, 1_785, 8)),
-        (1_902, 1, refused(5, 1_852, 10)),
-    ] {
-        let mut file = joined(alloc, &square::ROWS)?;
-        if let Some(changed) = file.get_mut(place) {
-            *changed = byte;
-        }
-        assert_eq!(rt; read(alloc, &file).err(), fault, "{place}");
-    }
-    Ok(())
 }
 
 #[test]

@@ -30,5 +30,5 @@ pub short_edges : (c : Cell) → IsWritable c → (es : List (Bor Vector)) → I
 short_edges c w es moved =
     let now : Bor Vector → Vector = λ e. e.now in
     let few : All HasFewEnds (map now es) = All-permutation HasFewEnds (vectors_of c.ve) (map now es) moved
-        (All-from_recursion HasFewEnds (vectors_of c.ve) (few_ends c.head.nall c.ve (recursion_from_All (λ r. unfitness c.head.nall r ≡ None) c.ve (edges_fit c w)))) in
+    (All-from_recursion HasFewEnds (vectors_of c.ve) (few_ends c.head.nall c.ve (recursion_from_All (λ r. unfitness c.head.nall r ≡ None) c.ve (edges_fit c w)))) in
     λ k d within. subst HasFewEnds (get_or-map now es k d d.now within) (few k d.now (omega (arith, length-map es now)))

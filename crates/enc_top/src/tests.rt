@@ -112,21 +112,21 @@ fn words_are_of_five_forms(rt: HostRuntime) -> Result<(), Fail> {
 }
 
 #[test]
-fn other_files_are_not_minimal(rt: HostRuntime) -> Result<(), Fail> {
+fn a_bad_cell_is_told_with_its_first_fault(rt: HostRuntime) -> Result<(), Fail> {
     let whole = minimal_file(rt.alloc())?;
     let mut with_feature = minimal_file(rt.alloc())?;
     with_feature.extend_from_slice(
-        b"00055 D     00039   12040001300FRID133\x1e\x07\x00\x1e\x64\x01\x00\x00\x00\x01\x01\x2a\x00\x01\x00\x01\x1e",
+        b"00057 D     00041   220400010300FRID1303\x1e\x07\x00\x1e\x64\x01\x00\x00\x00\x01\x01\x2a\x00\x01\x00\x01\x1e",
     )?;
     let mut twice = minimal_file(rt.alloc())?;
     twice.extend_from_slice(whole.get(1785..1852).ok_or("it is long")?)?;
     let cases = [
-        (whole.get(..2069).ok_or("it is long")?, 13),
-        (b"".as_slice(), 13),
-        (with_feature.as_slice(), 13),
-        (twice.as_slice(), 13),
+        (whole.get(..2069).ok_or("it is long")?, (7, 1999, 1)),
+        (b"".as_slice(), (1, 0, 1)),
+        (with_feature.as_slice(), (8, 2070, 5)),
+        (twice.as_slice(), (8, 2070, 10)),
     ];
-    for (bytes, number) in cases {
+    for (bytes, (number, offset, code)) in cases {
         let mut shelf = shelf_of(rt.alloc(), bytes)?;
         let mut out = MemSink::make(rt.alloc());
         let status = run_plain(
@@ -136,7 +136,12 @@ fn other_files_are_not_minimal(rt: HostRuntime) -> Result<(), Fail> {
             &mut shelf,
             &mut out,
         );
-        assert_eq!(rt; status.number(), number);
+        let fault = CellFault {
+            number,
+            offset,
+            code,
+        };
+        assert!(rt; matches!(status, Status::BadCell(found) if found == fault));
         assert!(rt; out.bytes().is_empty());
     }
     Ok(())
@@ -422,15 +427,59 @@ fn a_cell_has_at_most_262_144_findings(rt: HostRuntime) -> Result<(), Fail> {
 #[test]
 fn each_failing_read_ends_a_run(rt: HostRuntime) -> Result<(), Fail> {
     let alloc = rt.alloc();
-    for call in 1..8u64 {
+    for call in 1..7u64 {
         let mut shelf = shelf_of(alloc, &minimal_file(alloc)?)?;
         let words = place_sessions(alloc, &mut shelf, b"order 1\n", &[b"view\n"])?;
         shelf.fail_at(call);
         let mut out = MemSink::make(alloc);
         let status = run_plain(&rt, alloc, &words, &mut shelf, &mut out);
-        assert_eq!(rt; status.number(), if call < 7 { 6 } else { 0 });
-        assert_eq!(rt; out.bytes().is_empty(), call < 7);
+        assert_eq!(rt; status.number(), 6);
+        assert!(rt; out.bytes().is_empty());
+        assert!(rt; shelf.file("OUT").is_none());
     }
+    Ok(())
+}
+
+#[test]
+fn each_failing_write_leaves_a_beginning_of_the_file(rt: HostRuntime) -> Result<(), Fail> {
+    let alloc = rt.alloc();
+    let whole = minimal_file(alloc)?;
+    let (_, report) = replayed(&rt, alloc, b"order 1\n", &[b"view\n"])?;
+    for (call, number, length) in [
+        (2_087, 7, None),
+        (2_088, 7, Some(0)),
+        (2_089, 7, Some(1)),
+        (4_157, 7, Some(2_069)),
+        (4_158, 0, Some(2_070)),
+    ] {
+        let mut shelf = SlowShelf {
+            inner: shelf_of(alloc, &whole)?,
+        };
+        let words = place_sessions(alloc, &mut shelf.inner, b"order 1\n", &[b"view\n"])?;
+        shelf.inner.fail_at(call);
+        let mut out = MemSink::make(alloc);
+        let status = run_plain(&rt, alloc, &words, &mut shelf, &mut out);
+        assert_eq!(rt; status.number(), number, "{call}");
+        assert_eq!(rt; out.bytes(), report.as_slice());
+        let written = shelf.inner.file("OUT");
+        let expected = length.and_then(|length| whole.get(..length));
+        assert_eq!(rt; written, expected, "{call}");
+        assert_eq!(rt; shelf.inner.file("CELL"), Some(whole.as_slice()));
+    }
+    Ok(())
+}
+
+#[test]
+fn no_file_is_made_where_the_report_was_cut(rt: HostRuntime) -> Result<(), Fail> {
+    let alloc = rt.alloc();
+    let mut shelf = shelf_of(alloc, &minimal_file(alloc)?)?;
+    let words = place_sessions(alloc, &mut shelf, b"order\n", &[b""])?;
+    let mut out = MemSink::make(alloc);
+    out.fail_at(1);
+    let status = run_plain(&rt, alloc, &words, &mut shelf, &mut out);
+    assert_eq!(rt; status.number(), 7);
+    assert!(rt; out.bytes().is_empty());
+    assert!(rt; shelf.file("OUT").is_none());
     Ok(())
 }
 

@@ -32,7 +32,7 @@ pub writable_after : (c : Cell) (edits : List Edit) → IsWritable c → form_fa
     → length (all_records (apply_edits edits c)) ≤ 262144 → IsWritable (apply_edits edits c)
 writable_after c edits w form taken few =
     edits_keep_writable c edits w form (
-        sym (refusals_are_exact built_kinds c edits)
-        ∙ ap (λ first. is_taken (option_map_or Some first (size_refusal built_kinds (apply_edits edits c)))) taken
-        ∙ size_taken (apply_edits edits c) few
+    sym (refusals_are_exact built_kinds c edits)
+    ∙ ap (λ first. is_taken (option_map_or Some first (size_refusal built_kinds (apply_edits edits c)))) taken
+    ∙ size_taken (apply_edits edits c) few
     )

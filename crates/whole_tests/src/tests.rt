@@ -1,0 +1,5 @@
+mod calls;
+mod export;
+mod faults;
+mod liberties;
+mod square;
