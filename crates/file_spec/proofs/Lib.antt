@@ -1,5 +1,4 @@
 pub mod CellFields
-pub mod MinimalSteps
 pub mod RecordSteps
 pub mod WrittenFile
 pub mod RecordBack

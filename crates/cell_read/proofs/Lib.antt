@@ -1,3 +1,0 @@
-pub mod FieldLists
-pub mod NameOrder
-pub mod Grown
