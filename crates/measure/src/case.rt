@@ -1,6 +1,6 @@
 //! The cases by their names.
 
-use crate::{fields, lookups, table};
+use crate::{cells, fields, lookups, table};
 use std::fmt;
 
 /// What is timed.
@@ -18,6 +18,8 @@ pub enum Case {
     Lookups(lookups::Work),
     /// Fields read or written; the size is how often.
     Fields(fields::Work),
+    /// A generated cell read or written; the size is how often.
+    Cells(cells::Work),
 }
 
 impl Case {
@@ -30,7 +32,8 @@ impl Case {
             _ => table::Work::of(name)
                 .map(Case::Table)
                 .or_else(|| lookups::Work::of(name).map(Case::Lookups))
-                .or_else(|| fields::Work::of(name).map(Case::Fields)),
+                .or_else(|| fields::Work::of(name).map(Case::Fields))
+                .or_else(|| cells::Work::of(name).map(Case::Cells)),
         }
     }
 }
@@ -44,6 +47,7 @@ impl fmt::Display for Case {
             Case::Table(work) => work.fmt(f),
             Case::Lookups(work) => work.fmt(f),
             Case::Fields(work) => work.fmt(f),
+            Case::Cells(work) => work.fmt(f),
         }
     }
 }

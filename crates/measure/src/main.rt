@@ -6,6 +6,7 @@
 
 mod baseline;
 mod case;
+mod cells;
 mod fields;
 mod lookups;
 mod segments;
@@ -35,6 +36,7 @@ fn outcome<R: Threads + Wait + Sync>(
         Case::Table(work) => table::outcome(alloc, work, size),
         Case::Lookups(work) => lookups::outcome(alloc, work, size),
         Case::Fields(work) => fields::outcome(alloc, work, size),
+        Case::Cells(work) => cells::outcome(alloc, work, size),
     }
 }
 

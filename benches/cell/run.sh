@@ -1,0 +1,37 @@
+#!/bin/sh
+# Times a generated cell of 3,454,558 bytes, read and written, in Rattle and in plain Rust, in one go, and measures the memory:
+# benches/cell/run.sh [ROUNDS] [RUNS]. The runs take turns, and the least time of each counts, since other work may disturb them.
+set -eu
+here=$(cd "$(dirname "$0")" && pwd)
+rounds=${1:-20}
+runs=${2:-7}
+. "$here/../built.sh"
+
+# one run of a program; each says the same
+timed() {
+    name=$1
+    shift
+    "$@" "$rounds" 2>>"$work/times_$name" >"$work/said_$name"
+    cmp "$work/said_ours" "$work/said_$name"
+}
+
+# the least time of a program's runs in milliseconds a cell
+least() {
+    sed 's/ ns$//' "$work/times_$1" | sort -n | awk -v rounds="$rounds" 'NR == 1 { printf "%.2f", $1 / rounds / 1e6 }'
+}
+
+# the most memory of a program in megabytes, with one round
+memory() {
+    command time -f %M "$@" 1 2>&1 >/dev/null | awk 'END { printf "%.0f", $1 / 1024 }'
+}
+
+printf '%-11s %12s %10s %7s %11s %9s\n' "" 'Rattle, ms' 'Rust, ms' ratio 'Rattle, MB' 'Rust, MB'
+for what in cell_read cell_write; do
+    rm -f "$work"/times_*
+    for _ in $(seq "$runs"); do
+        timed ours "$work/measure" "$what"
+        timed plain "$work/plain" "$what"
+    done
+    awk -v what="$what" -v ours="$(least ours)" -v plain="$(least plain)" -v mo="$(memory "$work/measure" "$what")" -v mp="$(memory "$work/plain" "$what")" \
+        'BEGIN { printf "%-11s %12s %10s %7.2f %11s %9s\n", what, ours, plain, ours / plain, mo, mp }'
+done
