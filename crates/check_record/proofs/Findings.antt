@@ -52,13 +52,13 @@ node_kinds c v h =
 -- the findings about an edge
 pub edge_kinds : (c : Cell) (v : Vector) (places : Found) (line : Option EdgeLine) → is_edge_name v.name ≡ true → places ≡ dangling_end c v → line ≡ line_of c v
     → ((map (finding 1) (bad_shape c v) ++ map (finding 2) (end_count c v)) ++ map (finding 3) places)
-        ++ (map (finding 4) (option_map_or (λ (line : EdgeLine). found_at (stacked_segment line.points)) line []) ++ map (finding 5) (option_map_or (λ (line : EdgeLine). self_meet_of line.points) line []))
+    ++ (map (finding 4) (option_map_or (λ (line : EdgeLine). found_at (stacked_segment line.points)) line []) ++ map (finding 5) (option_map_or (λ (line : EdgeLine). self_meet_of line.points) line []))
     ≡ findings_of_record record_kinds c (V v)
 unfolding all_kinds
 edge_kinds c v places line h dangling is_line =
     let all = λ (edge node : Bool). all_kinds edge node (bad_shape c v) (end_count c v) (dangling_end c v) (stacked c v) (self_meet c v) (node_pointer c v) in
     (λ i. ((map (finding 1) (bad_shape c v) ++ map (finding 2) (end_count c v)) ++ map (finding 3) (dangling i))
-        ++ (map (finding 4) (option_map_or (λ (line : EdgeLine). found_at (stacked_segment line.points)) (is_line i) []) ++ map (finding 5) (option_map_or (λ (line : EdgeLine). self_meet_of line.points) (is_line i) [])))
+    ++ (map (finding 4) (option_map_or (λ (line : EdgeLine). found_at (stacked_segment line.points)) (is_line i) []) ++ map (finding 5) (option_map_or (λ (line : EdgeLine). self_meet_of line.points) (is_line i) [])))
     ∙ regroup (map (finding 1) (bad_shape c v)) (map (finding 2) (end_count c v)) (map (finding 3) (dangling_end c v)) (map (finding 4) (stacked c v)) (map (finding 5) (self_meet c v))
     ∙ ap (all true) (sym (edge_is_no_node v.name.kind h)) ∙ ap (λ edge. all edge (is_node_name v.name)) (sym h)
     ∙ sym (are_all_kinds c v)

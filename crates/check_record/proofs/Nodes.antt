@@ -120,8 +120,10 @@ each_end P (e ∷ ends) h = (h e.to (own e.to), each_end P ends (λ m asked. h m
   where
     same : (a b : ℕ) → ((a == a) && (b == b)) ≡ true
     same a b = grind (arith, nat_tests)
+
     own : (m : RecName) → (same_name m m || list_any (is_key_of m) (map (λ (e : End). Name e.to) ends)) ≡ true
     own m = ap (λ b. b || list_any (is_key_of m) (map (λ (e : End). Name e.to) ends)) (same (kind_rank m.kind) m.id)
+
     later : (a b : Bool) → b ≡ true → (a || b) ≡ true
     later true b h = refl
     later false b h = h

@@ -2,7 +2,6 @@
 
 ghost use Rattle.std.specs.Prelude.{◌≡◌, IfOk};
 
-
 use std::alloc::AllocError;
 
 /// A number of a finding. A greater one would belong to a record of billions of rows, and is answered with want of

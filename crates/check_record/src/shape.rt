@@ -28,10 +28,7 @@ fn has_its_shape(vector: &Vector) -> bool
 }
 
 /// BadShape: appends its finding about a vector record.
-pub(crate) fn push_bad_shape(
-    findings: &mut Vec<Finding>,
-    vector: &Vector,
-) -> Result<(), AllocError>
+pub(crate) fn push_bad_shape(findings: &mut Vec<Finding>, vector: &Vector) -> Result<(), AllocError>
     ensures { (c : SpecCell) → OnOk result (findings.new.items ≡ findings.old.items ++ map (finding 1) (bad_shape c vector.now)) }
 {
     if !has_its_shape(vector) {

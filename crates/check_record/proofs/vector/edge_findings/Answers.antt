@@ -16,8 +16,8 @@ returns-clause-findings g c =
     let two = map (finding 2) (end_count cell edge) in
     let shape = two_appended _ _ _ one two c.new-findings.ensures.items (c.in_ok-push_bad_shape.ensures cell) (c.in_ok-push_end_count.ensures cell) in
     let dangling =
-      same_dangling cell c.args.reads.now _ edge c.in_ok-nodes.ensures.nodes
-      (λ m there. ap (list_any (is_key_of m)) c.requires.reads ∙ ends_read cell c.args.name edge c.requires.found c.requires.kind m there) in
+    same_dangling cell c.args.reads.now _ edge c.in_ok-nodes.ensures.nodes
+    (λ m there. ap (list_any (is_key_of m)) c.requires.reads ∙ ends_read cell c.args.name edge c.requires.found c.requires.kind m there) in
     let line = c.as_ref.ensures.value ∙ c.in_ok-line.ensures.line ∙ found_line cell c.args.name edge c.requires.found c.requires.kind in
     four_appended _ _ _ one two _ _ shape c.in_ok-push_dangling_ends.ensures c.in_ok-push_line_findings.ensures
     ∙ edge_kinds cell edge _ _ c.requires.kind dangling line

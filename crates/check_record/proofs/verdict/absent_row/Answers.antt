@@ -6,7 +6,7 @@ use Rattle.check_record.proofs.verdict.absent_row.Goals as goal
 
 pub returns : goal.returns
 returns c = λ cell absent. record {
-    subject = refl;
-    findings = c.make.ensures ∙ sym (findings_absent cell c.args.name absent);
-    reads = c.ascending_keys.ensures ∙ ap (ascending key_order) c.in_ok-keys.ensures.items ∙ sym (absent_set cell c.args.name absent);
-  }
+  subject = refl;
+  findings = c.make.ensures ∙ sym (findings_absent cell c.args.name absent);
+  reads = c.ascending_keys.ensures ∙ ap (ascending key_order) c.in_ok-keys.ensures.items ∙ sym (absent_set cell c.args.name absent);
+}

@@ -11,7 +11,7 @@ returns-clause-steps g c = omega (arith, c.feature_reads.ensures.steps, some_key
 
 pub returns-clause-row : goal.returns-clause-row
 returns-clause-row g c = record {
-    subject = refl;
-    findings = c.make.ensures ∙ sym (findings_found (g.B.Look.cell c.args.look.now) c.args.name (F c.args.feature.now) c.requires);
-    reads = c.in_ok-reads.ensures.reads;
-  }
+  subject = refl;
+  findings = c.make.ensures ∙ sym (findings_found (g.B.Look.cell c.args.look.now) c.args.name (F c.args.feature.now) c.requires);
+  reads = c.in_ok-reads.ensures.reads;
+}

@@ -8,7 +8,7 @@ returns-in_err-reads-clause-steps g c = omega (arith, some_keys (g.B.Look.cell c
 
 pub returns-clause-row : goal.returns-clause-row
 returns-clause-row g c = record {
-    subject = refl;
-    findings = c.of_vec.ensures ∙ c.in_ok-findings.ensures.findings ∙ sym (findings_found (g.B.Look.cell c.args.look.now) c.args.name (V c.args.vector.now) c.requires);
-    reads = c.in_ok-reads.ensures (g.B.Look.cell c.args.look.now) c.requires;
-  }
+  subject = refl;
+  findings = c.of_vec.ensures ∙ c.in_ok-findings.ensures.findings ∙ sym (findings_found (g.B.Look.cell c.args.look.now) c.args.name (V c.args.vector.now) c.requires);
+  reads = c.in_ok-reads.ensures (g.B.Look.cell c.args.look.now) c.requires;
+}
