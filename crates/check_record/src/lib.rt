@@ -12,3 +12,6 @@ mod vector;
 mod verdict;
 
 pub use verdict::verdict_rec;
+
+#[cfg(test)]
+mod tests;

@@ -6,3 +6,6 @@ mod keys;
 
 pub use distinct::{ascending_keys, ascending_names};
 pub use keys::{push_end_keys, push_vector_keys};
+
+#[cfg(test)]
+mod tests;
