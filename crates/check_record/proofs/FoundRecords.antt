@@ -2,12 +2,12 @@
 use Rattle.std.proofs.Common.{◌≡◌, Bool, true, false, List, [], ◌∷◌, Option, None, Some, cond, find, refl, sym, ap, ◌∙◌}
 use Rattle.s57_types.specs.declared.name.RecName.{RecName}
 use Rattle.s57_types.specs.declared.record.Rec.{Rec}
-use Rattle.s57_types.specs.declared.record.Rec.TheVariants.{V, F}
+use Rattle.s57_types.specs.declared.record.Rec.TheVariants.{V}
 use Rattle.s57_types.specs.declared.record.Vector.{Vector}
 use Rattle.s57_types.specs.declared.cell.Cell.{Cell}
 use Rattle.cell_spec.specs.Lookup.{all_records, is_named, lookup_record, name_of}
 use Rattle.rule_spec.specs.EdgePoints.{edge_line_of, line_of}
-use Rattle.rule_spec.specs.Records.{edge_named, is_edge_name, vector_of}
+use Rattle.rule_spec.specs.Records.{is_edge_name, vector_of}
 use Rattle.std.specs.Prelude.{option_and_then}
 use Rattle.chain_topo.proofs.Orders.{one_when_same}
 

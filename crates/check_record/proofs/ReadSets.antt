@@ -1,5 +1,5 @@
 -- The read set of a record, by what the cell has under its name.
-use Rattle.std.proofs.Common.{◌≡◌, ℕ, ◌+◌, ◌≤◌, Bool, true, false, ◌||◌, not, is_some, List, [], ◌∷◌, ◌++◌, length, count_by, map, flat_map, Option, None, Some, cond, refl, sym, ap, ◌∙◌, append_assoc, arith}
+use Rattle.std.proofs.Common.{◌≡◌, ◌+◌, ◌≤◌, Bool, true, false, ◌||◌, not, is_some, List, [], ◌∷◌, ◌++◌, length, count_by, map, flat_map, None, Some, cond, refl, sym, ap, ◌∙◌, append_assoc, arith}
 use Rattle.std.specs.Prelude.{◌==◌, option_and_then}
 use Rattle.std.specs.List.{list_any}
 use Rattle.std.specs.Option.{option_map_or}
@@ -23,7 +23,7 @@ use Rattle.cell_spec.specs.Ascending.{ascending}
 use Rattle.cell_spec.specs.Lookup.{lookup_record}
 use Rattle.cell_spec.specs.Names.{is_of_kind, key_order, kind_rank}
 use Rattle.rule_spec.specs.Findings.{findings_of_record, findings_of_subject}
-use Rattle.rule_spec.specs.Reads.{end_keys, end_keys_at, feature_keys, keys_read, read_set, record_keys}
+use Rattle.rule_spec.specs.Reads.{end_keys, end_keys_at, feature_keys, keys_read, read_set}
 use Rattle.rule_spec.specs.Records.{feature_of, is_edge_name, vector_of}
 use Rattle.chain_topo.proofs.Ascending.{holds-ascending, same_when_sorted, sorted-ascending}
 use Rattle.read_sets.proofs.KeyOrder.{exact_keys, total_keys}

@@ -1,11 +1,7 @@
-use Rattle.std.proofs.Common.{ℕ, ◌+◌, ◌≤◌, List, ◌≡◌, ◌∷◌, ◌++◌, ◌∙◌, cond, flat_map, map, length, sym, ap, arith, rules}
-use Rattle.std.specs.Prelude.{◌==◌}
-use Rattle.s57_types.specs.declared.record.Partner.{Partner}
-use Rattle.s57_types.specs.declared.record.Spot.{Spot}
+use Rattle.std.proofs.Common.{ℕ, ◌+◌, ◌≤◌, List, ◌≡◌, ◌∙◌, length, ap, arith}
 use Rattle.cell_spec.specs.declared.key.Key.{Key}
 use Rattle.cell_spec.specs.Ascending.{ascending}
 use Rattle.cell_spec.specs.Names.{key_order}
-use Rattle.check_record.specs.EndKeys.{ends_of_key}
 use Rattle.check_record.proofs.ReadSets.{feature_places, feature_set}
 use Rattle.check_record.proofs.reads.feature_reads.Goals as goal
 

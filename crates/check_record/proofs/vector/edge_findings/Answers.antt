@@ -1,4 +1,4 @@
-use Rattle.std.proofs.Common.{◌∙◌, ◌++◌, ap, map}
+use Rattle.std.proofs.Common.{◌∙◌, ap, map}
 use Rattle.std.specs.List.{list_any}
 use Rattle.rule_spec.specs.EdgeEnds.{end_count}
 use Rattle.rule_spec.specs.Findings.{finding}
