@@ -1,0 +1,5 @@
+//! The rules on two connected nodes or edges of a chart cell: how they may meet.
+#![tactic(auto)]
+
+mod bounds;
+mod contact;
