@@ -1,5 +1,5 @@
 -- The box around several segments. This project's own.
-use Rattle.std.specs.Prelude.{List, fold}
+use Rattle.std.specs.Prelude.{List, [], ◌∷◌, Option, None, Some, fold}
 use Rattle.std.specs.Int.{int_min, int_max}
 use Rattle.geometry_spec.specs.Boxes.{box_of}
 use Rattle.geometry_spec.specs.declared.tile.Box4.{Box4}
@@ -16,3 +16,8 @@ box_of_segment s = box_of s.1.0 s.1.1
 -- the least box that holds a box and the boxes of segments
 abbrev pub box_with : Box4 → List Numbered → Box4
 box_with start segments = fold (λ around s. united around (box_of_segment s)) start segments
+
+-- the least box that holds the segments of a line, if it has any
+abbrev pub line_box : List Numbered → Option Box4
+line_box [] = None
+line_box (s ∷ rest) = Some (box_with (box_of_segment s) (s ∷ rest))

@@ -2,7 +2,7 @@
 
 ghost use Rattle.std.specs.Prelude.{◌≡◌};
 ghost use Rattle.geometry_spec.specs.Boxes.{are_disjoint as spec_are_disjoint, are_disjoint_ranges};
-ghost use Rattle.check_pairs.specs.Bounds.{box_of_segment as spec_box_of_segment, box_with, united as spec_united};
+ghost use Rattle.check_pairs.specs.Bounds.{box_of_segment as spec_box_of_segment, box_with, line_box, united as spec_united};
 
 use geo_exact::box_of;
 use geometry_spec::Box4;
@@ -46,7 +46,7 @@ pub(crate) fn box_of_segment(segment: Numbered) -> Box4
 }
 
 /// The least box that holds a box and the boxes of segments.
-pub(crate) fn box_around(start: Box4, segments: &[Numbered]) -> Box4
+fn box_around(start: Box4, segments: &[Numbered]) -> Box4
     ensures { result ≡ box_with start segments.now }
 {
     let mut around = start;
@@ -54,4 +54,14 @@ pub(crate) fn box_around(start: Box4, segments: &[Numbered]) -> Box4
         around = united(around, box_of_segment(*segment));
     }
     around
+}
+
+/// The least box that holds the segments of a line, if it has any.
+pub(crate) fn box_of_line(segments: &[Numbered]) -> Option<Box4>
+    ensures { result ≡ line_box segments.now }
+{
+    match segments {
+        [first, ..] => Some(box_around(box_of_segment(*first), segments)),
+        [] => None,
+    }
 }
