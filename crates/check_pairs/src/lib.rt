@@ -3,3 +3,8 @@
 
 mod bounds;
 mod contact;
+mod finding;
+mod part;
+mod verdict;
+
+pub use verdict::verdict_pair;
