@@ -1,5 +1,5 @@
 -- What a box around segments says of them.
-use Rattle.std.proofs.Common.{◌≡◌, Bool, true, false, ◌||◌, List, [], ◌∷◌, map, find, None, Some, refl, sym, ap, ◌∙◌, ◌≤◌, arith, ⊎_elim, inl, inr, ◌⊎◌, ℤ}
+use Rattle.std.proofs.Common.{◌≡◌, Bool, true, false, ◌||◌, List, [], ◌∷◌, map, find, None, Some, refl, ap, ◌∙◌, arith, ℤ}
 use Rattle.std.proofs.Math.Bool.{or_comm}
 use Rattle.std.specs.Prelude.{int_lt}
 use Rattle.std.specs.Int.{int_min, int_max}
@@ -7,13 +7,11 @@ use Rattle.std.proofs.lemmas.Int.{ints, clamps}
 use Rattle.std.proofs.lemmas.Bool.Decides.{nat_tests}
 use Rattle.geometry_spec.specs.Points.{Point}
 use Rattle.geometry_spec.specs.Boxes.{are_disjoint, are_disjoint_ranges}
-use Rattle.geometry_spec.specs.declared.segment.MeetCase.{MeetCase}
-use Rattle.geometry_spec.specs.declared.segment.MeetCase.TheVariants.{Apart}
 use Rattle.geometry_spec.specs.declared.tile.Box4.{Box4}
 use Rattle.geometry_spec.proofs.DisjointBoxes.{apart_by_boxes}
 use Rattle.rule_spec.specs.Contacts.{have_illegal_contact, is_illegal}
 use Rattle.plain_lookups.proofs.Appends.{find_missed}
-use Rattle.rule_spec.specs.Vectors.{Numbered, each_with_each, meeting_of_segments}
+use Rattle.rule_spec.specs.Vectors.{Numbered, each_with_each}
 use Rattle.check_pairs.specs.Bounds.{united, box_of_segment, box_with, line_box}
 
 -- a range that ends before a wider one begins ends before it, and so where it begins after

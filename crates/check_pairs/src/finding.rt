@@ -23,11 +23,19 @@ use s57_types::{RecName, Vector};
 use std::alloc::{AllocError, Global};
 use std::sync::ledger::Ledger;
 
-/// The numbers of the kinds of finding.
+/// The number of the kind of two edges that cross.
 const CROSS: u8 = 7;
+
+/// The number of the kind of two edges that touch.
 const TOUCH: u8 = 8;
+
+/// The number of the kind of two edges that overlap.
 const COINCIDE: u8 = 9;
+
+/// The number of the kind of two nodes at one place.
 const SAME_PLACE: u8 = 10;
+
+/// The number of the kind of a node that lies on an edge.
 const NODE_ON_EDGE: u8 = 11;
 
 fn touch_at_an_end(s: Segment, t: Segment) -> bool

@@ -8,3 +8,6 @@ mod part;
 mod verdict;
 
 pub use verdict::verdict_pair;
+
+#[cfg(test)]
+mod tests;

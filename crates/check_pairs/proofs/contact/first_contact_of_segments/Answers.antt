@@ -1,5 +1,5 @@
 use Rattle.std.proofs.Common.{sym, ◌∙◌}
-use Rattle.check_pairs.proofs.Boxes.{none_by_boxes, none_first, none_second}
+use Rattle.check_pairs.proofs.Boxes.{none_by_boxes, none_second}
 use Rattle.check_pairs.proofs.contact.first_contact_of_segments.Goals as goal
 
 pub returns-in_default-box_of_line : goal.returns-in_default-box_of_line

@@ -1,4 +1,4 @@
-use Rattle.std.proofs.Common.{◌≡◌, ◌≤◌, length, arith, sym, ◌∙◌}
+use Rattle.std.proofs.Common.{◌≤◌, length, arith, sym, ◌∙◌}
 use Rattle.cell_spec.specs.declared.key.Subject.TheVariants.{Pair}
 use Rattle.rule_spec.specs.Reads.{read_set}
 use Rattle.check_pairs.proofs.Keys.{two_keys}
