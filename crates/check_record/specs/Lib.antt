@@ -1,0 +1,4 @@
+pub mod EndKeys
+pub mod Nodes
+pub mod RecordKinds
+pub mod RecordRow
