@@ -1,0 +1,15 @@
+//! Cells and scripts to try the program with: squares in rows and columns, and sessions that edit them.
+#![tactic(auto)]
+
+mod cell;
+mod coverage;
+mod law;
+mod record;
+mod script;
+
+pub use cell::make_cell;
+pub use law::{one_square_is_made, records_are_numbered};
+pub use script::make_commands;
+
+#[cfg(test)]
+mod tests;

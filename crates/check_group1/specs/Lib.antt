@@ -1,0 +1,2 @@
+pub mod AskedKinds
+pub mod Referrers
