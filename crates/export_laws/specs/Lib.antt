@@ -1,0 +1,3 @@
+pub mod DecodedTypes
+pub mod ExportedCells
+pub mod ScriptTypes
