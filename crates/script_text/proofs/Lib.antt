@@ -1,10 +1,11 @@
 pub mod Cuts
 pub mod Words
-pub mod Lists
+pub mod Texts
+pub mod Items
+pub mod Frees
 pub mod Vectors
+pub mod Features
+pub mod Widths
 pub mod Commands
-pub mod Fed
-pub mod Steps
-pub mod Scripts
 pub mod Alike
-pub mod AlikeScripts
+pub mod AlikeCommands
