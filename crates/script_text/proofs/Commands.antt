@@ -20,6 +20,7 @@ use Rattle.text_spec.specs.ScriptLines.{command_line, IsCommand, IsOfWidth, reco
 use Rattle.text_spec.specs.declared.command.Command.{Command}
 use Rattle.text_spec.specs.declared.command.Command.TheVariants.{View, Commit, Drop, List as Findings, Push}
 use Rattle.script_text.specs.Cuts.{IsFrom}
+use Rattle.script_text.specs.Faults.{IsCommandWord}
 use Rattle.script_text.specs.Guess.{HasLine, IsReadOf, can_stand, command_text, first_word, other_words}
 use Rattle.script_text.specs.Widths.{IsNameOfWidth, IsVectorOfWidth, IsFeatureOfWidth, IsRecordOfWidth}
 use Rattle.script_text.proofs.Cuts.{IsCut, cut_of}
@@ -172,3 +173,48 @@ read_by line c false both width found = record {
 
 pub edit_width : (r : Rec) → IsRecordOfWidth r → record_has_line r ≡ true → (record_has_line r ≡ true) × All IsOfWidth (record_subfields r)
 edit_width r width own = (own, width_of_record r width)
+
+-- the words of commands
+abbrev some_vector : Vector
+some_vector = record { name = record { kind = Vi; id = 0 }; rver = 0; attrs = []; ends = []; plane = []; deep = [] }
+
+pub view_known : (word : List ℕ) → word ≡ codes "view" → IsCommandWord word
+view_known word is = (View, sym is)
+
+pub commit_known : (word : List ℕ) → word ≡ codes "commit" → IsCommandWord word
+commit_known word is = (Commit, sym is)
+
+pub drop_known : (word : List ℕ) → word ≡ codes "drop" → IsCommandWord word
+drop_known word is = (Drop, sym is)
+
+pub list_known : (word : List ℕ) → word ≡ codes "list" → IsCommandWord word
+list_known word is = (Findings 0, sym is)
+
+pub del_known : (word : List ℕ) → word ≡ codes "del" → IsCommandWord word
+del_known word is = (Push (Del (record { kind = Vi; id = 0 })), sym is)
+
+pub add_known : (word : List ℕ) → word ≡ codes "add" → IsCommandWord word
+add_known word is = (Push (Add (V some_vector)), sym is)
+
+pub set_known : (word : List ℕ) → word ≡ codes "set" → IsCommandWord word
+set_known word is = (Push (Set (V some_vector)), sym is)
+
+pub record IsLastWord (word : List ℕ) : Type 0 where
+  pub no_view : word ≡ codes "view" → ⊥
+  pub no_commit : word ≡ codes "commit" → ⊥
+  pub no_drop : word ≡ codes "drop" → ⊥
+  pub no_list : word ≡ codes "list" → ⊥
+  pub no_del : word ≡ codes "del" → ⊥
+  pub no_add : word ≡ codes "add" → ⊥
+
+set_by : (c : Command) (word : List ℕ) → IsLastWord word → first_word c ≡ word → word ≡ codes "set"
+set_by View word last is = absurd (last.no_view (sym is))
+set_by Commit word last is = absurd (last.no_commit (sym is))
+set_by Drop word last is = absurd (last.no_drop (sym is))
+set_by (Findings shown) word last is = absurd (last.no_list (sym is))
+set_by (Push (Add r)) word last is = absurd (last.no_add (sym is))
+set_by (Push (Set r)) word last is = sym is
+set_by (Push (Del n)) word last is = absurd (last.no_del (sym is))
+
+pub set_last : (word : List ℕ) → IsLastWord word → IsCommandWord word → word ≡ codes "set"
+set_last word last known = set_by known.0 word last known.1

@@ -9,3 +9,6 @@ pub mod Widths
 pub mod Commands
 pub mod Alike
 pub mod AlikeCommands
+pub mod Fed
+pub mod Readings
+pub mod Steps

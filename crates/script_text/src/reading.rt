@@ -151,13 +151,25 @@ fn is_skipped(line: &[u8]) -> bool
 fn is_command_word(word: &[u8]) -> bool
     ensures { IsTrue result ↔ IsCommandWord word.now }
 {
-    is_word(word, "view")
-        || is_word(word, "commit")
-        || is_word(word, "drop")
-        || is_word(word, "list")
-        || is_word(word, "del")
-        || is_word(word, "add")
-        || is_word(word, "set")
+    if is_word(word, "view") {
+        return true;
+    }
+    if is_word(word, "commit") {
+        return true;
+    }
+    if is_word(word, "drop") {
+        return true;
+    }
+    if is_word(word, "list") {
+        return true;
+    }
+    if is_word(word, "del") {
+        return true;
+    }
+    if is_word(word, "add") {
+        return true;
+    }
+    is_word(word, "set")
 }
 
 /// What is wrong with a line that is of no command.
