@@ -1,5 +1,5 @@
 -- Which command the words of a line are.
-use Rattle.std.proofs.Common.{◌≡◌, ℕ, ◌<◌, ◌^◌, true, false, Bool, ◌↔◌, Some, not, nat_le, List, [], ◌∷◌, ◌++◌, length, codes, get_or, drop, All, refl, sym, ap, ◌∙◌, arith}
+use Rattle.std.proofs.Common.{◌≡◌, ℕ, ◌<◌, ◌^◌, true, false, Bool, ◌↔◌, Option, Result, Ok, Err, IfOk, Some, not, nat_le, List, [], ◌∷◌, ◌++◌, length, codes, get_or, drop, All, refl, sym, ap, ◌∙◌, arith}
 use Rattle.std.specs.Fmt.{decimal}
 use Rattle.std.proofs.lemmas.Bool.{leb-true, le-leb, false≢true, not-true, false_from_ne_true}
 use Rattle.std.proofs.lemmas.List.{same_from_push}
@@ -15,7 +15,7 @@ use Rattle.cell_spec.specs.declared.edit.Edit.{Edit}
 use Rattle.cell_spec.specs.declared.edit.Edit.TheVariants.{Add, Set, Del}
 use Rattle.text_spec.specs.CellText.{kind_word, name_words}
 use Rattle.text_spec.specs.Lines.{spaced_words}
-use Rattle.text_spec.specs.EditLine.{vector_words, feature_words, record_words, is_feature, record_has_line}
+use Rattle.text_spec.specs.EditLine.{vector_words, feature_words, record_words, edit_line, is_feature, record_has_line}
 use Rattle.text_spec.specs.ScriptLines.{command_line, IsCommand, IsOfWidth, record_subfields, shown_limit}
 use Rattle.text_spec.specs.declared.command.Command.{Command}
 use Rattle.text_spec.specs.declared.command.Command.TheVariants.{View, Commit, Drop, List as Findings, Push}
@@ -218,3 +218,9 @@ set_by (Push (Del n)) word last is = absurd (last.no_del (sym is))
 
 pub set_last : (word : List ℕ) → IsLastWord word → IsCommandWord word → word ≡ codes "set"
 set_last word last known = set_by known.0 word last known.1
+
+-- the line of an edit is read as it
+pub written : {R : Type 0} (result : Result (Option Command) R) (line : List ℕ) (edit : Edit) → IfOk result (IsReadOf line) → line ≡ edit_line edit → IsCommand (Push edit)
+    → IfOk result (λ read. read ≡ Some (Push edit))
+written (Ok read) line edit is line_is can = is.found (Push edit) can (sym line_is)
+written (Err _) line edit is line_is can = tt

@@ -13,6 +13,8 @@ use Rattle.script_text.specs.Faults.{HasSpoken, IsLineFault, IsFirstFault, IsBeg
 use Rattle.script_text.specs.Guess.{IsReadOf}
 use Rattle.script_text.specs.Reading.{IsReading, IsOnlyReading, IsOnlyScript}
 use Rattle.script_text.specs.Steps.{IsReadTo, IsLineRead, IsLineRefusal, IsTaken, IsNotTaken, IsTextFault, IsFormFault, IsFirstRefusal, first_refusal}
+use Rattle.script_text.specs.declared.reading.FirstRefusal.{FirstRefusal}
+use Rattle.script_text.specs.declared.reading.FirstRefusal.TheVariants.{Fault as FirstFault}
 use Rattle.script_text.specs.declared.refusal.LineFault.{LineFault}
 use Rattle.script_text.specs.declared.refusal.LineFault.TheVariants.{NoLineFeed, UnknownWord, WrongForm, TooManyCommands}
 use Rattle.script_text.specs.declared.refusal.LineRefusal.{LineRefusal}
@@ -124,5 +126,7 @@ pub no_minimal : (bytes : List ℕ) (commands : List Command) → IsOnlyReading 
 no_minimal bytes commands reading not_minimal others script =
     false≢true (sym not_minimal ∙ ap (list_all is_minimal_command) (sym (same_ok others commands (reading.only (Ok others) script.is_script))) ∙ script.minimal)
 
-pub no_script : (bytes : List ℕ) (fault : ℕ × ℕ) → IsOnlyReading bytes (Err fault) → (others : List Command) → IsMinimalScript bytes others → ⊥
-no_script bytes fault reading others script = absurd (let e = reading.only (Ok others) script.is_script in cc)
+pub no_script : (bytes : List ℕ) (refusal : FirstRefusal) (line code : ℕ) → refusal ≡ FirstFault line code → IsFirstRefusal bytes refusal → (others : List Command) → IsMinimalScript bytes others → ⊥
+no_script bytes refusal line code refusal_is is others script =
+    let reading = (subst (IsFirstRefusal bytes) refusal_is is).0 in
+    absurd (let e = reading.only (Ok others) script.is_script in cc)
