@@ -1,8 +1,7 @@
 -- Values with the same words are the same.
-use Rattle.std.proofs.Common.{◌≡◌, ℕ, ℤ, pos, negsuc, ◌<◌, ◌^◌, ◌+◌, not, true, false, List, [], ◌∷◌, ◌++◌, length, map, get_or, drop, codes, All, refl, sym, ap, ◌∙◌, arith, w32, FitsSigned}
+use Rattle.std.proofs.Common.{◌≡◌, ℕ, ℤ, pos, negsuc, ◌<◌, ◌^◌, false, List, [], ◌∷◌, ◌++◌, length, map, get_or, drop, All, refl, sym, ap, ◌∙◌, arith, w32, FitsSigned}
 use Rattle.std.specs.List.{flat_map}
 use Rattle.std.specs.Fmt.{decimal, signed_decimal}
-use Rattle.std.proofs.lemmas.Bool.{false≢true, not-true}
 use Rattle.std.proofs.lemmas.Fmt.{decimal_injective, signed_decimal_injective}
 use Rattle.std.proofs.lemmas.List.{append-nil}
 use Rattle.std.proofs.lemmas.List.Elements.{All-head, All-tail, All-nil, All-cons}
@@ -18,7 +17,7 @@ use Rattle.s57_types.specs.declared.record.Partner.{Partner}
 use Rattle.text_spec.specs.CellText.{kind_word}
 use Rattle.text_spec.specs.EditLine.{attribute_item, end_item, plane_item, deep_item, partner_item, place_item, text_word}
 use Rattle.script_text.specs.Cuts.{IsFrom}
-use Rattle.script_text.specs.Widths.{IsNameOfWidth, IsIdentityOfWidth, IsAttributeOfWidth, IsEndOfWidth, IsPointOfWidth, IsSoundingOfWidth, IsPartnerOfWidth, IsPlaceOfWidth}
+use Rattle.script_text.specs.Widths.{IsAttributeOfWidth, IsEndOfWidth, IsPointOfWidth, IsSoundingOfWidth, IsPartnerOfWidth, IsPlaceOfWidth}
 use Rattle.script_text.proofs.Cuts.{cut_between, cut_of}
 use Rattle.script_text.proofs.Words.{IsFree, free_kind, free_decimal, free_signed, from_parts, same_end, same_point, same_sounding, same_attribute, same_place, same_partner}
 use Rattle.script_text.proofs.Texts.{same_text}

@@ -1,5 +1,5 @@
 -- A line is of one command.
-use Rattle.std.proofs.Common.{◌≡◌, ℕ, ◌<◌, ◌^◌, not, true, false, List, [], ◌∷◌, ◌++◌, length, map, get_or, drop, codes, refl, sym, ap, ◌∙◌, arith}
+use Rattle.std.proofs.Common.{◌≡◌, ℕ, ◌<◌, ◌^◌, not, true, List, [], ◌∷◌, length, get_or, drop, codes, refl, sym, ap, ◌∙◌, arith}
 use Rattle.std.specs.Fmt.{decimal}
 use Rattle.std.proofs.lemmas.Bool.{false≢true, not-true}
 use Rattle.std.proofs.lemmas.List.{same_from_push}

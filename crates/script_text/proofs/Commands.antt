@@ -1,7 +1,7 @@
 -- Which command the words of a line are.
-use Rattle.std.proofs.Common.{◌≡◌, ℕ, ◌<◌, ◌^◌, true, false, Bool, ◌↔◌, Option, Result, Ok, Err, IfOk, Some, not, nat_le, List, [], ◌∷◌, ◌++◌, length, codes, get_or, drop, All, refl, sym, ap, ◌∙◌, arith}
+use Rattle.std.proofs.Common.{◌≡◌, ℕ, ◌<◌, ◌^◌, true, false, Bool, ◌↔◌, Option, Result, Ok, Err, IfOk, Some, List, [], ◌∷◌, ◌++◌, length, codes, get_or, drop, All, refl, sym, ap, ◌∙◌, arith}
 use Rattle.std.specs.Fmt.{decimal}
-use Rattle.std.proofs.lemmas.Bool.{leb-true, le-leb, false≢true, not-true, false_from_ne_true}
+use Rattle.std.proofs.lemmas.Bool.{le-leb, false≢true, not-true, false_from_ne_true}
 use Rattle.std.proofs.lemmas.List.{same_from_push}
 use Rattle.std.specs.Bool.{then_some}
 use Rattle.s57_types.specs.declared.name.Kind.{Kind}
@@ -25,7 +25,7 @@ use Rattle.script_text.specs.Guess.{HasLine, IsReadOf, can_stand, command_text, 
 use Rattle.script_text.specs.Widths.{IsNameOfWidth, IsVectorOfWidth, IsFeatureOfWidth, IsRecordOfWidth}
 use Rattle.script_text.proofs.Cuts.{IsCut, cut_of}
 use Rattle.script_text.proofs.Words.{IsFree, from_parts}
-use Rattle.script_text.proofs.Widths.{name_of_width, width_of_name, record_of_width, width_of_record}
+use Rattle.script_text.proofs.Widths.{name_of_width, record_of_width, width_of_record}
 
 -- the kind of feature records
 pub feature_kind : (kind : Kind) (t : Bool) (word : List ℕ) → ((t ≡ true) ↔ (word ≡ codes "fe")) → word ≡ kind_word kind → t ≡ is_feature kind

@@ -1,5 +1,5 @@
 -- The words of a feature record are read as it.
-use Rattle.std.proofs.Common.{◌≡◌, ℕ, List, [], ◌∷◌, ◌++◌, map, codes, length, refl, sym, ap, ◌∙◌, arith, subst}
+use Rattle.std.proofs.Common.{◌≡◌, ℕ, List, [], ◌++◌, map, codes, refl, ap, ◌∙◌, arith, subst}
 use Rattle.std.proofs.lemmas.List.{append-nil}
 use Rattle.s57_types.specs.declared.name.RecName.{RecName}
 use Rattle.s57_types.specs.declared.name.Lnam.{Lnam}
@@ -9,7 +9,7 @@ use Rattle.s57_types.specs.declared.record.Partner.{Partner}
 use Rattle.s57_types.specs.declared.record.Feature.{Feature}
 use Rattle.text_spec.specs.EditLine.{attribute_item, partner_item, place_item}
 use Rattle.text_spec.specs.Lines.{spaced_words}
-use Rattle.script_text.specs.Items.{with_letter, AreFeatureItems, AreFeatureItemsOf}
+use Rattle.script_text.specs.Items.{with_letter, AreFeatureItemsOf}
 use Rattle.script_text.specs.Widths.{IsFeatureOfWidth}
 use Rattle.script_text.specs.declared.feature.FeatureItems.{FeatureItems}
 use Rattle.script_text.proofs.Frees.{feature_items, without_feature_items}

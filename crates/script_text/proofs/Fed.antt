@@ -1,5 +1,5 @@
 -- A line has one line feed, at its end.
-use Rattle.std.proofs.Common.{◌≡◌, ℕ, ◌<◌, ◌^◌, ◌+◌, true, false, List, [], ◌∷◌, ◌++◌, length, take, drop, codes, refl, sym, ap, ◌∙◌, arith, append_assoc}
+use Rattle.std.proofs.Common.{◌≡◌, ℕ, ◌+◌, false, List, [], ◌∷◌, ◌++◌, length, take, drop, codes, refl, sym, ap, ◌∙◌, arith, append_assoc}
 use Rattle.std.specs.Fmt.{decimal}
 use Rattle.std.proofs.lemmas.Bool.{false≢true}
 use Rattle.std.proofs.Math.Seq.{take-append-add, drop-append-add}
@@ -8,14 +8,14 @@ use Rattle.s57_types.specs.Subfield.{holds}
 use Rattle.cell_spec.specs.declared.edit.Edit.TheVariants.{Add, Set, Del}
 use Rattle.text_spec.specs.CellText.{name_words}
 use Rattle.text_spec.specs.EditLine.{record_words}
-use Rattle.text_spec.specs.ScriptLines.{ScriptLine, skipped, spoken, line_text, IsLine, IsCommand, is_skipped, command_line}
+use Rattle.text_spec.specs.ScriptLines.{ScriptLine, skipped, spoken, line_text, IsLine, IsCommand, is_skipped}
 use Rattle.text_spec.specs.declared.command.Command.{Command}
 use Rattle.text_spec.specs.declared.command.Command.TheVariants.{View, Commit, Drop, List as Findings, Push}
 use Rattle.script_text.specs.Cuts.{before, from, IsFrom}
 use Rattle.script_text.specs.Faults.{IsOf, HasSpoken}
 use Rattle.script_text.specs.Guess.{command_text, first_word}
 use Rattle.script_text.proofs.Cuts.{whole, cut_between, cut_of}
-use Rattle.script_text.proofs.Words.{IsFree, free_nothing, free_append}
+use Rattle.script_text.proofs.Words.{IsFree, free_append}
 use Rattle.script_text.proofs.Frees.{without_number, without_name, without_record, free_spaced}
 use Rattle.script_text.proofs.Widths.{name_of_width, record_of_width}
 use Rattle.script_text.proofs.Commands.{line_is, text_cut}

@@ -1,7 +1,6 @@
 -- The words of records have no white space.
-use Rattle.std.proofs.Common.{◌≡◌, ℕ, ℤ, ◌<◌, ◌^◌, false, List, [], ◌∷◌, ◌++◌, map, codes, All, refl, ap, arith, subst, w32, FitsSigned}
-use Rattle.std.specs.Fmt.{decimal, signed_decimal}
-use Rattle.std.proofs.lemmas.List.{append-nil}
+use Rattle.std.proofs.Common.{◌≡◌, ℕ, ℤ, ◌<◌, ◌^◌, false, List, [], ◌∷◌, ◌++◌, map, codes, All, arith, w32, FitsSigned}
+use Rattle.std.specs.Fmt.{decimal}
 use Rattle.std.proofs.lemmas.List.Elements.{All-head, All-tail, All-nil, All-cons, All-append}
 use Rattle.s57_types.specs.Subfield.{holds}
 use Rattle.s57_types.specs.declared.name.RecName.{RecName}
@@ -16,7 +15,7 @@ use Rattle.text_spec.specs.CellText.{kind_word, name_words}
 use Rattle.text_spec.specs.EditLine.{attribute_item, end_item, plane_item, deep_item, partner_item, place_item, text_word, vector_words, feature_words, record_words}
 use Rattle.text_spec.specs.Lines.{spaced_words}
 use Rattle.script_text.specs.Widths.{IsNameOfWidth, IsAttributeOfWidth, IsEndOfWidth, IsPointOfWidth, IsSoundingOfWidth, IsPartnerOfWidth, IsPlaceOfWidth, IsVectorOfWidth, IsFeatureOfWidth, IsRecordOfWidth}
-use Rattle.script_text.proofs.Words.{IsFree, free_nothing, free_cons, free_append, free_part, free_kind, free_decimal, free_signed, free_end, free_point}
+use Rattle.script_text.proofs.Words.{IsFree, free_nothing, free_cons, free_part, free_kind, free_decimal, free_signed, free_end, free_point}
 use Rattle.script_text.proofs.Texts.{free_text}
 
 pub free_number : (mark n : ℕ) → mark < 33 → n < 2 ^ 32 → IsFree mark (decimal n)

@@ -2,12 +2,12 @@
 use Rattle.std.proofs.Common.{◌≡◌, ◌⊎◌, inl, inr, false, ℕ, ◌<◌, ◌≤◌, ◌+◌, List, [], ◌∷◌, ◌++◌, length, Result, Ok, Err, All, refl, sym, ap, ◌∙◌, arith, subst, append_assoc}
 use Rattle.std.specs.List.{flat_map, filter_map}
 use Rattle.std.proofs.lemmas.List.{length-append, append-nil}
-use Rattle.std.proofs.lemmas.List.Elements.{All-head, All-tail, All-nil, filter_map-append}
+use Rattle.std.proofs.lemmas.List.Elements.{All-head, All-tail, filter_map-append}
 use Rattle.s57_types.specs.Subfield.{holds}
 use Rattle.text_spec.specs.ScriptLines.{ScriptLine, skipped, spoken, line_text, spoken_command, IsLine, IsScript, command_limit}
 use Rattle.text_spec.specs.declared.command.Command.{Command}
 use Rattle.script_text.specs.Cuts.{before}
-use Rattle.script_text.specs.Faults.{HasSpoken, IsCommandWord, IsLineFault, IsFirstFault, IsBegun, IsOf, fault_code}
+use Rattle.script_text.specs.Faults.{HasSpoken, IsLineFault, IsFirstFault, IsBegun, IsOf, fault_code}
 use Rattle.script_text.specs.Reading.{IsReading, IsOnlyReading}
 use Rattle.script_text.specs.declared.refusal.LineFault.{LineFault}
 use Rattle.script_text.specs.declared.refusal.LineFault.TheVariants.{NoLineFeed, UnknownWord, WrongForm, TooManyCommands}

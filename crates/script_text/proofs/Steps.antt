@@ -1,17 +1,15 @@
 -- Reading a script line by line.
-use Rattle.std.proofs.Common.{◌≡◌, ℕ, ◌<◌, ◌≤◌, ◌+◌, true, false, List, [], ◌∷◌, ◌++◌, length, Result, Ok, Err, Option, Some, None, All, refl, sym, ap, ◌∙◌, arith, subst, append_assoc}
-use Rattle.std.specs.List.{flat_map, filter_map, list_all}
+use Rattle.std.proofs.Common.{◌≡◌, ℕ, ◌≤◌, ◌+◌, true, false, List, [], ◌∷◌, ◌++◌, length, Result, Ok, Err, Option, Some, None, refl, sym, ap, ◌∙◌, arith, subst, append_assoc}
+use Rattle.std.specs.List.{flat_map, list_all}
 use Rattle.std.proofs.lemmas.Bool.{false≢true}
 use Rattle.std.proofs.lemmas.List.{length-append, append-nil}
 use Rattle.std.proofs.lemmas.List.Concat.{flat_map-append}
 use Rattle.std.proofs.lemmas.List.Elements.{All-nil, All-cons, All-append, filter_map-append}
-use Rattle.s57_types.specs.Subfield.{holds}
-use Rattle.text_spec.specs.ScriptLines.{ScriptLine, skipped, spoken, line_text, spoken_command, IsLine, IsScript, IsMinimalScript, IsCommand, is_skipped, is_minimal_command, command_line, command_limit}
+use Rattle.text_spec.specs.ScriptLines.{ScriptLine, skipped, spoken, line_text, spoken_command, IsLine, IsMinimalScript, is_skipped, is_minimal_command, command_limit}
 use Rattle.text_spec.specs.declared.command.Command.{Command}
-use Rattle.script_text.specs.Cuts.{before}
-use Rattle.script_text.specs.Faults.{HasSpoken, IsLineFault, IsFirstFault, IsBegun, IsOf, IsCommandWord, fault_code}
+use Rattle.script_text.specs.Faults.{IsLineFault, IsOf, fault_code}
 use Rattle.script_text.specs.Guess.{IsReadOf}
-use Rattle.script_text.specs.Reading.{IsReading, IsOnlyReading, IsOnlyScript}
+use Rattle.script_text.specs.Reading.{IsOnlyReading, IsOnlyScript}
 use Rattle.script_text.specs.Steps.{IsReadTo, IsLineRead, IsLineRefusal, IsTaken, IsNotTaken, IsTextFault, IsFormFault, IsFirstRefusal, first_refusal}
 use Rattle.script_text.specs.declared.reading.FirstRefusal.{FirstRefusal}
 use Rattle.script_text.specs.declared.reading.FirstRefusal.TheVariants.{Fault as FirstFault}

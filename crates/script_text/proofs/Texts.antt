@@ -1,6 +1,6 @@
 -- Texts as parts of words.
-use Rattle.std.proofs.Common.{◌≡◌, ℕ, ◌+◌, ◌-◌, ◌*◌, ◌/◌, ◌%◌, ◌<◌, ◌≤◌, ◌==◌, ◌&&◌, not, nat_le, nat_lt, cond, eqb, ltb, true, false, List, [], ◌∷◌, ◌++◌, length, get_or, drop, All, refl, sym, ap, ◌∙◌, arith, append_assoc}
-use Rattle.std.proofs.lemmas.Bool.{and_parts, leb-true, ltb-true, ltb-false, lt-ltb, le-ltb, eq-eqb, ne_eqb, not_from_true, false≢true, cond-true, cond-false, cond_both, cases_Bool}
+use Rattle.std.proofs.Common.{◌≡◌, ℕ, ◌+◌, ◌-◌, ◌*◌, ◌/◌, ◌%◌, ◌<◌, ◌≤◌, ◌==◌, ◌&&◌, not, nat_le, nat_lt, cond, eqb, ltb, true, List, [], ◌∷◌, ◌++◌, length, get_or, drop, refl, sym, ap, ◌∙◌, arith, append_assoc}
+use Rattle.std.proofs.lemmas.Bool.{and_parts, leb-true, ltb-true, ltb-false, lt-ltb, le-ltb, eq-eqb, ne_eqb, not_from_true, false≢true, cond-true, cond-false, cond_both}
 use Rattle.std.proofs.lemmas.List.{append-nil}
 use Rattle.std.proofs.lemmas.List.Elements.{All-head, All-tail, All-nil, All-cons, All-append}
 use Rattle.text_spec.specs.EditLine.{stands_for_itself, hexadecimal, text_byte, text_word}
@@ -55,11 +55,11 @@ record IsBack (b : ℕ) (rest text : List ℕ) : Type 0 where
 byte_back : (b : ℕ) (rest : List ℕ) → b < 256 → IsBack b rest (text_byte b ++ rest)
 byte_back b rest small = cond_both (stands_for_itself b) (b ∷ []) (37 ∷ hexadecimal (b / 16) ∷ hexadecimal (b % 16) ∷ []) (λ x. IsBack b rest (x ++ rest))
     (λ is.
-      let other = ne_eqb b 37 (itself b is).no_percent in
-      record {
-        first = cond-false (eqb b 37) (16 * value_of (get_or (b ∷ rest) 1 0) + value_of (get_or (b ∷ rest) 2 0)) b other;
-        behind = cond-false (eqb b 37) (drop 3 (b ∷ rest)) rest other;
-      })
+    let other = ne_eqb b 37 (itself b is).no_percent in
+    record {
+      first = cond-false (eqb b 37) (16 * value_of (get_or (b ∷ rest) 1 0) + value_of (get_or (b ∷ rest) 2 0)) b other;
+      behind = cond-false (eqb b 37) (drop 3 (b ∷ rest)) rest other;
+    })
     (λ other. record { first = omega (arith, hex_back (b / 16), hex_back (b % 16)); behind = refl })
 
 pub record AreSameBytes (b b' : ℕ) (rest rest' : List ℕ) : Type 0 where

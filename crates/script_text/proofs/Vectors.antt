@@ -1,5 +1,5 @@
 -- The words of a vector record are read as it.
-use Rattle.std.proofs.Common.{◌≡◌, ℕ, ℤ, List, [], ◌∷◌, ◌++◌, map, codes, length, refl, sym, ap, ◌∙◌, arith, subst}
+use Rattle.std.proofs.Common.{◌≡◌, ℕ, ℤ, List, [], ◌++◌, map, codes, refl, ap, ◌∙◌, arith, subst}
 use Rattle.std.proofs.lemmas.List.{append-nil}
 use Rattle.s57_types.specs.declared.name.RecName.{RecName}
 use Rattle.s57_types.specs.declared.record.Attr.{Attr}
@@ -7,7 +7,7 @@ use Rattle.s57_types.specs.declared.record.End.{End}
 use Rattle.s57_types.specs.declared.record.Vector.{Vector}
 use Rattle.text_spec.specs.EditLine.{attribute_item, end_item, plane_item, deep_item}
 use Rattle.text_spec.specs.Lines.{spaced_words}
-use Rattle.script_text.specs.Items.{with_letter, AreVectorItems, AreVectorItemsOf}
+use Rattle.script_text.specs.Items.{with_letter, AreVectorItemsOf}
 use Rattle.script_text.specs.Widths.{IsVectorOfWidth}
 use Rattle.script_text.specs.declared.vector.VectorItems.{VectorItems}
 use Rattle.script_text.proofs.Frees.{vector_items, without_vector_items}

@@ -1,5 +1,5 @@
 -- The widths of the values of edits.
-use Rattle.std.proofs.Common.{◌≡◌, ℕ, ℤ, ◌<◌, List, [], ◌∷◌, ◌++◌, All, arith}
+use Rattle.std.proofs.Common.{ℤ, ◌<◌, List, [], ◌∷◌, ◌++◌, All, arith}
 use Rattle.std.specs.List.{flat_map}
 use Rattle.std.proofs.lemmas.List.Elements.{All-nil, All-cons, All-head, All-tail, All-append, All-from_recursion, recursion_from_All}
 use Rattle.s57_types.specs.Subfield.{Subfield, unsigned_of}

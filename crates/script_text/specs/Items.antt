@@ -2,9 +2,6 @@
 use Rattle.std.specs.Prelude.{◌≡◌, ℕ, ◌==◌, Bool, false, List, [], ◌∷◌, ◌++◌, codes, map, filter, All}
 use Rattle.s57_types.specs.Subfield.{holds}
 use Rattle.s57_types.specs.declared.record.Attr.{Attr}
-use Rattle.s57_types.specs.declared.record.End.{End}
-use Rattle.s57_types.specs.declared.record.Spot.{Spot}
-use Rattle.s57_types.specs.declared.record.Partner.{Partner}
 use Rattle.text_spec.specs.EditLine.{attribute_item, end_item, plane_item, deep_item, partner_item, place_item}
 use Rattle.text_spec.specs.Lines.{spaced_words}
 use Rattle.script_text.specs.Widths.{IsAttributeOfWidth, IsEndOfWidth, IsPointOfWidth, IsSoundingOfWidth, IsPartnerOfWidth, IsPlaceOfWidth}

@@ -1,5 +1,5 @@
 -- What a text is read as: its commands, or its first fault. This project's own.
-use Rattle.std.specs.Prelude.{◌≡◌, ℕ, List, Result, Ok, Err, ⊤}
+use Rattle.std.specs.Prelude.{◌≡◌, ℕ, List, Result, Ok, Err}
 use Rattle.text_spec.specs.ScriptLines.{IsScript, IsMinimalScript}
 use Rattle.text_spec.specs.declared.command.Command.{Command}
 use Rattle.script_text.specs.Faults.{IsFirstFault}

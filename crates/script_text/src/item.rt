@@ -21,13 +21,7 @@ fn behind_letter(letter: u8, word: &[u8]) -> Option<&[u8]>
     ensures { MatchOption result (begins letter word.now ≡ false) (λ parts. word.now ≡ letter ∷ parts.now) }
 {
     match word.split_first() {
-        Some((first, parts)) => {
-            if *first == letter {
-                Some(parts)
-            } else {
-                None
-            }
-        }
+        Some((first, parts)) => { if *first == letter { Some(parts) } else { None } }
         None => None,
     }
 }
@@ -143,7 +137,12 @@ fn place_of(parts: &[u8]) -> Spot
 }
 
 /// Appends the attribute that a word stands for, if it begins with this letter.
-pub fn take_attribute(alloc: Global, letter: u8, word: &[u8], attrs: &mut Attrs) -> Result<(), AllocError>
+pub fn take_attribute(
+    alloc: Global,
+    letter: u8,
+    word: &[u8],
+    attrs: &mut Attrs,
+) -> Result<(), AllocError>
     ensures { OnOk result (IsListTaken letter (attribute_item (letter ∷ [])) IsAttributeOfWidth word.now attrs.old attrs.new) }
 {
     match behind_letter(letter, word) {

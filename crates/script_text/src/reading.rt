@@ -185,7 +185,12 @@ fn form_fault(text: &[u8]) -> LineFault
 }
 
 /// Takes a line into a script. The text is the line without its line feed.
-fn take_command(alloc: Global, text: &[u8], line: &[u8], script: &mut Script) -> Result<(), LineRefusal>
+fn take_command(
+    alloc: Global,
+    text: &[u8],
+    line: &[u8],
+    script: &mut Script,
+) -> Result<(), LineRefusal>
     requires { line.now ≡ text.now ++ 10 ∷ [] }
     ensures { MatchResult result (λ _. IsTaken text.now script.old script.new) (λ refusal. IsNotTaken text.now script.old refusal) }
 {

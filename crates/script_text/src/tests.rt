@@ -41,7 +41,8 @@ fn a_script_has_its_commands(rt: HostRuntime) -> Result<(), Fail> {
 
 #[test]
 fn a_vector_record_has_its_items(rt: HostRuntime) -> Result<(), Fail> {
-    let text = b"add ve 2 65535 a=42:x%25%20:y a=65535: e=vc:4294967295:255:0:2:254 p=-2147483648,2147483647 d=1,-2,300 d=0,0,0\n";
+    let text =
+        b"add ve 2 65535 a=42:x%25%20:y a=65535: e=vc:4294967295:255:0:2:254 p=-2147483648,2147483647 d=1,-2,300 d=0,0,0\n";
     let script = read_script(rt.alloc(), text.as_slice())?;
     assert_eq!(rt; script.commands().len(), 1);
     if let Command::Push(Edit::Add(Rec::V(vector))) = &script.commands()[0] {
@@ -64,7 +65,10 @@ fn a_vector_record_has_its_items(rt: HostRuntime) -> Result<(), Fail> {
             vector.plane.as_slice(),
             [(-2_147_483_648, 2_147_483_647)].as_slice()
         );
-        assert_eq!(rt; vector.deep.as_slice(), [(1, -2, 300), (0, 0, 0)].as_slice());
+        assert_eq!(rt;
+            vector.deep.as_slice(),
+            [(1, -2, 300), (0, 0, 0)].as_slice()
+        );
     } else {
         assert!(rt; false, "no edge");
     }
@@ -73,12 +77,16 @@ fn a_vector_record_has_its_items(rt: HostRuntime) -> Result<(), Fail> {
 
 #[test]
 fn a_feature_record_has_its_items(rt: HostRuntime) -> Result<(), Fail> {
-    let text = b"set fe 1 2 3 4 42 550 7 65535 a=116:Name n=301:%C3%A9 f=550:9:1:2:see:a f=1:2:3:1: s=ve:3:1:2:255 s=vi:9:255:255:0\n";
+    let text =
+        b"set fe 1 2 3 4 42 550 7 65535 a=116:Name n=301:%C3%A9 f=550:9:1:2:see:a f=1:2:3:1: s=ve:3:1:2:255 s=vi:9:255:255:0\n";
     let script = read_script(rt.alloc(), text.as_slice())?;
     assert_eq!(rt; script.commands().len(), 1);
     if let Command::Push(Edit::Set(Rec::F(feature))) = &script.commands()[0] {
         assert_eq!(rt; feature.name, name(Kind::Fe, 1));
-        assert_eq!(rt; (feature.rver, feature.prim, feature.grup, feature.objl), (2, 3, 4, 42));
+        assert_eq!(rt;
+            (feature.rver, feature.prim, feature.grup, feature.objl),
+            (2, 3, 4, 42)
+        );
         let foid = Lnam {
             agen: 550,
             fidn: 7,
@@ -92,7 +100,14 @@ fn a_feature_record_has_its_items(rt: HostRuntime) -> Result<(), Fail> {
         assert_eq!(rt; natf[0].value.as_slice(), [0xC3, 0xA9].as_slice());
         let partners = feature.partners.as_slice();
         assert_eq!(rt; partners.len(), 2);
-        assert_eq!(rt; partners[0].to, Lnam { agen: 550, fidn: 9, fids: 1 });
+        assert_eq!(rt;
+            partners[0].to,
+            Lnam {
+                agen: 550,
+                fidn: 9,
+                fids: 1
+            }
+        );
         assert_eq!(rt; (partners[0].rind, partners[1].rind), (2, 1));
         assert_eq!(rt; partners[0].comt.as_slice(), b"see:a".as_slice());
         assert!(rt; partners[1].comt.is_empty());
@@ -134,7 +149,11 @@ fn lines_have_their_faults(rt: HostRuntime) -> Result<(), Fail> {
         ("del vd 1\n", 3),
         ("del vc 4294967296\n", 3),
     ] {
-        assert_eq!(rt; fault_of(alloc, line.as_bytes()), Some((1, code)), "{line:?}");
+        assert_eq!(rt;
+            fault_of(alloc, line.as_bytes()),
+            Some((1, code)),
+            "{line:?}"
+        );
     }
     for line in [
         "add vc 1\n",
@@ -157,8 +176,17 @@ fn lines_have_their_faults(rt: HostRuntime) -> Result<(), Fail> {
     ] {
         assert_eq!(rt; fault_of(alloc, line.as_bytes()), Some((1, 3)), "{line:?}");
     }
-    for line in ["add vc 1 1 a=1:%25%7F\n", "add fe 1 1 1 1 42 1 1 1\n", "# view", "view\nview\n"] {
-        let expected = if line.ends_with('\n') { None } else { Some((1, 1)) };
+    for line in [
+        "add vc 1 1 a=1:%25%7F\n",
+        "add fe 1 1 1 1 42 1 1 1\n",
+        "# view",
+        "view\nview\n",
+    ] {
+        let expected = if line.ends_with('\n') {
+            None
+        } else {
+            Some((1, 1))
+        };
         assert_eq!(rt; fault_of(alloc, line.as_bytes()), expected, "{line:?}");
     }
     Ok(())
@@ -175,7 +203,11 @@ fn the_first_line_with_a_fault_is_told(rt: HostRuntime) -> Result<(), Fail> {
         ("view x\nlook\nview", 1, 3),
         ("\n#", 2, 1),
     ] {
-        assert_eq!(rt; fault_of(alloc, text.as_bytes()), Some((line, code)), "{text:?}");
+        assert_eq!(rt;
+            fault_of(alloc, text.as_bytes()),
+            Some((line, code)),
+            "{text:?}"
+        );
     }
     let mut text = Vec::new(alloc);
     for _ in 0..50_000 {

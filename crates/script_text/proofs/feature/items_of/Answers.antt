@@ -10,10 +10,10 @@ loop-rest-init c = (
   [],
   cut_none c.args.text.now,
   record {
-      attf = none 97 (attribute_item (codes "a")) IsAttributeOfWidth _ c.make.ensures;
-      natf = none 110 (attribute_item (codes "n")) IsAttributeOfWidth _ c.make-2.ensures;
-      partners = none 102 partner_item IsPartnerOfWidth _ c.make-3.ensures;
-      places = none 115 place_item IsPlaceOfWidth _ c.make-4.ensures;
+    attf = none 97 (attribute_item (codes "a")) IsAttributeOfWidth _ c.make.ensures;
+    natf = none 110 (attribute_item (codes "n")) IsAttributeOfWidth _ c.make-2.ensures;
+    partners = none 102 partner_item IsPartnerOfWidth _ c.make-3.ensures;
+    places = none 115 place_item IsPlaceOfWidth _ c.make-4.ensures;
   },
 )
 

@@ -1,8 +1,7 @@
-use Rattle.std.proofs.Common.{sym, ap, ◌∙◌}
+use Rattle.std.proofs.Common.{sym}
 use Rattle.text_spec.specs.EditLine.{end_item}
-use Rattle.script_text.specs.Items.{begins}
 use Rattle.script_text.specs.Widths.{IsEndOfWidth}
-use Rattle.script_text.proofs.Items.{grown, stay}
+use Rattle.script_text.proofs.Items.{grown}
 use Rattle.script_text.proofs.item.take_end.Goals as goal
 
 pub returns-in-Some : goal.returns-in-Some

@@ -1,4 +1,4 @@
-use Rattle.std.proofs.Common.{sym, ap, ◌∙◌, subst}
+use Rattle.std.proofs.Common.{sym, ap, ◌∙◌}
 use Rattle.std.specs.List.{list_all}
 use Rattle.text_spec.specs.ScriptLines.{is_minimal_command}
 use Rattle.script_text.proofs.Steps.{minimal_script, no_minimal, no_script}

@@ -10,10 +10,10 @@ loop-rest-init c = (
   [],
   cut_none c.args.text.now,
   record {
-      attrs = none 97 (attribute_item (codes "a")) IsAttributeOfWidth _ c.make.ensures;
-      ends = none 101 end_item IsEndOfWidth _ c.make-2.ensures;
-      plane = none 112 plane_item IsPointOfWidth _ c.make-3.ensures;
-      deep = none 100 deep_item IsSoundingOfWidth _ c.make-4.ensures;
+    attrs = none 97 (attribute_item (codes "a")) IsAttributeOfWidth _ c.make.ensures;
+    ends = none 101 end_item IsEndOfWidth _ c.make-2.ensures;
+    plane = none 112 plane_item IsPointOfWidth _ c.make-3.ensures;
+    deep = none 100 deep_item IsSoundingOfWidth _ c.make-4.ensures;
   },
 )
 

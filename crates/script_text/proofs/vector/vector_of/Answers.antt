@@ -2,7 +2,7 @@ use Rattle.std.proofs.Common.{◌≡◌, ◌∷◌, ◌++◌, refl, arith}
 use Rattle.std.specs.Fmt.{decimal}
 use Rattle.text_spec.specs.CellText.{kind_word}
 use Rattle.text_spec.specs.Lines.{spaced_words}
-use Rattle.script_text.proofs.Words.{free_kind, free_decimal, from_parts}
+use Rattle.script_text.proofs.Words.{free_kind, from_parts}
 use Rattle.script_text.proofs.Frees.{vector_items, free_number}
 use Rattle.script_text.proofs.Vectors.{vector_items_are, same_vector}
 use Rattle.script_text.proofs.vector.vector_of.Goals as goal
