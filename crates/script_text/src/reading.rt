@@ -20,7 +20,7 @@ use crate::cut::{cut_at, next_part};
 use crate::feature::feature_of;
 use crate::refusal::{LineFault, LineRefusal, ScriptRefusal};
 use crate::script::{MOST_COMMANDS, Script};
-use crate::spelling::{can_stand, spelling};
+use crate::spelling::{can_stand, push_line};
 use crate::value::{is_word, number_of};
 use crate::vector::{name_of_words, vector_of};
 use cell_spec::Edit;
@@ -122,7 +122,8 @@ fn has_this_line(alloc: Global, command: &Command, line: &[u8]) -> Result<bool, 
     if !can_stand(command) {
         return Ok(false);
     }
-    let spelled = spelling(alloc, command)?;
+    let mut spelled = Vec::with_capacity(alloc, line.len())?;
+    push_line(alloc, command, &mut spelled)?;
     Ok(spelled.as_slice() == line)
 }
 

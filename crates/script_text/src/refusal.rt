@@ -17,7 +17,7 @@ pub enum ScriptRefusal {
 }
 
 /// What is wrong with a line.
-#[derive(Clone, Copy, Debug, PartialEq, Eq)]
+#[derive(Clone, Copy)]
 pub(crate) enum LineFault {
     NoLineFeed,
     UnknownWord,
@@ -40,7 +40,7 @@ impl LineFault {
 }
 
 /// Why a line wasn't taken.
-#[derive(Clone, Copy, Debug, PartialEq, Eq)]
+#[derive(Clone, Copy)]
 pub(crate) enum LineRefusal {
     Fault(LineFault),
     NoMemory,

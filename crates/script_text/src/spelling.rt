@@ -1,6 +1,6 @@
 //! Writing the line of a command.
 
-ghost use Rattle.std.specs.Prelude.{◌≡◌, ◌++◌, IfOk, OnOk, true};
+ghost use Rattle.std.specs.Prelude.{◌≡◌, ◌++◌, OnOk, true};
 ghost use Rattle.text_spec.specs.EditLine.{has_line as has_line_lem, is_feature as is_feature_lem, record_has_line as record_has_line_lem};
 ghost use Rattle.text_spec.specs.ScriptLines.{command_line};
 ghost use Rattle.text_spec.specs.declared.command.Command.{Command};
@@ -51,22 +51,20 @@ pub fn can_stand(command: &Command) -> bool
     }
 }
 
-/// The line of a command.
+/// Appends the line of a command.
 ///
 /// An `Err` is want of memory.
-pub fn spelling(alloc: Global, command: &Command) -> Result<Vec<u8>, AllocError>
+pub fn push_line(alloc: Global, command: &Command, line: &mut Vec<u8>) -> Result<(), AllocError>
     requires { can_stand_lem command.now ≡ true }
-    ensures { IfOk result (λ line. line.items ≡ command_line command.now) }
+    ensures { OnOk result (line.new.items ≡ line.old.items ++ command_line command.now) }
 {
-    let mut line = Vec::new(alloc);
     match command {
-        Command::View => push_text(&mut line, "view\n")?,
-        Command::Commit => push_text(&mut line, "commit\n")?,
-        Command::Drop => push_text(&mut line, "drop\n")?,
-        Command::List(shown) => push_list(&mut line, *shown)?,
-        Command::Push(edit) => write_edit(alloc, edit, &mut line)?,
+        Command::View => push_text(line, "view\n"),
+        Command::Commit => push_text(line, "commit\n"),
+        Command::Drop => push_text(line, "drop\n"),
+        Command::List(shown) => push_list(line, *shown),
+        Command::Push(edit) => write_edit(alloc, edit, line),
     }
-    Ok(line)
 }
 
 /// Appends the line that asks for so many findings.
