@@ -1,7 +1,6 @@
 -- The items of a record, by their letters. This project's own.
 use Rattle.std.specs.Prelude.{◌≡◌, ℕ, ◌==◌, Bool, false, List, [], ◌∷◌, ◌++◌, codes, map, filter, All}
 use Rattle.s57_types.specs.Subfield.{holds}
-use Rattle.s57_types.specs.declared.record.Attr.{Attr}
 use Rattle.text_spec.specs.EditLine.{attribute_item, end_item, plane_item, deep_item, partner_item, place_item}
 use Rattle.text_spec.specs.Lines.{spaced_words}
 use Rattle.script_text.specs.Widths.{IsAttributeOfWidth, IsEndOfWidth, IsPointOfWidth, IsSoundingOfWidth, IsPartnerOfWidth, IsPlaceOfWidth}
@@ -24,9 +23,6 @@ pub record IsListOf {X : Type 0} (letter : ℕ) (item : X → List ℕ) (Fits : 
 -- one word more, which is a value more where it begins with the letter
 abbrev pub IsListTaken : {X : Type 0} (letter : ℕ) (item : X → List ℕ) (Fits : X → Type 0) (word : List ℕ) (earlier values : List X) → Type 0
 IsListTaken letter item Fits word earlier values = (words : List (List ℕ)) → IsListOf letter item Fits words earlier → IsListOf letter item Fits (words ++ word ∷ []) values
-
-abbrev pub IsAttributesOf : ℕ → List (List ℕ) → List Attr → Type 0
-IsAttributesOf letter = IsListOf letter (attribute_item (letter ∷ [])) IsAttributeOfWidth
 
 pub record AreVectorItems (words : List (List ℕ)) (items : VectorItems) : Type 0 where
   pub attrs : IsListOf 97 (attribute_item (codes "a")) IsAttributeOfWidth words items.attrs

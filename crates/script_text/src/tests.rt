@@ -219,3 +219,57 @@ fn the_first_line_with_a_fault_is_told(rt: HostRuntime) -> Result<(), Fail> {
     assert_eq!(rt; fault_of(alloc, text.as_slice()), Some((50_002, 4)));
     Ok(())
 }
+
+#[test]
+fn every_byte_stands_in_a_text(rt: HostRuntime) -> Result<(), Fail> {
+    let alloc = rt.alloc();
+    let digits = b"0123456789ABCDEF";
+    let mut line = Vec::new(alloc);
+    line.extend_from_slice(b"add vi 1 1 a=1:")?;
+    for number in 0..256u32 {
+        let byte = number as u8;
+        if 33 <= byte && byte <= 126 && byte != b'%' {
+            line.push(byte)?;
+        } else {
+            line.push(b'%')?;
+            line.push(digits[usize::from(byte / 16)])?;
+            line.push(digits[usize::from(byte % 16)])?;
+        }
+    }
+    line.push(b'\n')?;
+    let Some(Command::Push(edit)) = read_command(alloc, line.as_slice())? else {
+        assert!(rt; false, "no edit");
+        return Ok(());
+    };
+    let written = read_written(alloc, &edit)?;
+    for edit in [Some(Command::Push(edit)), written] {
+        let Some(Command::Push(Edit::Add(Rec::V(vector)))) = edit else {
+            assert!(rt; false, "no vector record");
+            return Ok(());
+        };
+        assert_eq!(rt; vector.attrs.len(), 1);
+        let value = vector.attrs.at(0).value.as_slice();
+        assert_eq!(rt; value.len(), 256);
+        for place in 0..256 {
+            assert_eq!(rt; usize::from(value[place]), place);
+        }
+    }
+    Ok(())
+}
+
+#[test]
+fn minimal_scripts_are_scripts(rt: HostRuntime) -> Result<(), Fail> {
+    let script = read_minimal_script(rt.alloc(), b"view\nset vc 1 2 p=0,1\ndel ve 1\n".as_slice())?;
+    assert_eq!(rt; script.shared(), 1);
+    assert_eq!(rt; script.commands().len(), 3);
+    for text in ["view", "list 1\n", "del vi 1\n", "add vc 1 1 a=1:\n"] {
+        assert!(rt;
+            matches!(
+                read_minimal_script(rt.alloc(), text.as_bytes()),
+                Err(MinimalScriptRefusal::NotMinimal)
+            ),
+            "{text:?}"
+        );
+    }
+    Ok(())
+}
