@@ -9,7 +9,11 @@ use Rattle.s57_types.specs.Subfield.{holds}
 use Rattle.s57_types.specs.declared.name.Kind.{Kind}
 use Rattle.s57_types.specs.declared.name.Kind.TheVariants.{Vi, Vc, Ve, Fe}
 use Rattle.s57_types.specs.declared.name.RecName.{RecName}
+use Rattle.s57_types.specs.declared.name.Lnam.{Lnam}
+use Rattle.s57_types.specs.declared.record.Attr.{Attr}
 use Rattle.s57_types.specs.declared.record.End.{End}
+use Rattle.s57_types.specs.declared.record.Spot.{Spot}
+use Rattle.s57_types.specs.declared.record.Partner.{Partner}
 use Rattle.text_spec.specs.CellText.{kind_word}
 use Rattle.text_spec.specs.EditLine.{end_item, plane_item}
 use Rattle.script_text.specs.Cuts.{IsFrom}
@@ -91,3 +95,31 @@ point_with latitude longitude = (latitude, longitude)
 
 pub same_point : (latitude longitude : ℤ) (p : ℤ × ℤ) → latitude ≡ p.0 → longitude ≡ p.1 → point_with latitude longitude ≡ p
 same_point latitude longitude p latitude_is longitude_is = ap (λ (z : ℤ). point_with z longitude) latitude_is ∙ ap (λ (z : ℤ). point_with p.0 z) longitude_is
+
+abbrev pub sounding_with : ℤ → ℤ → ℤ → ℤ × ℤ × ℤ
+sounding_with latitude longitude depth = (latitude, longitude, depth)
+
+pub same_sounding : (latitude longitude depth : ℤ) (p : ℤ × ℤ × ℤ) → latitude ≡ p.0 → longitude ≡ p.1 → depth ≡ p.2 → sounding_with latitude longitude depth ≡ p
+same_sounding latitude longitude depth p latitude_is longitude_is depth_is =
+    ap (λ (z : ℤ). sounding_with z longitude depth) latitude_is ∙ ap (λ (z : ℤ). sounding_with p.0 z depth) longitude_is ∙ ap (λ (z : ℤ). sounding_with p.0 p.1 z) depth_is
+
+abbrev pub attribute_with : ℕ → List ℕ → Attr
+attribute_with code value = record { code = code; value = value }
+
+pub same_attribute : (code : ℕ) (value : List ℕ) (a : Attr) → code ≡ a.code → value ≡ a.value → attribute_with code value ≡ a
+same_attribute code value a code_is value_is = ap (λ (x : ℕ). attribute_with x value) code_is ∙ ap (λ (x : List ℕ). attribute_with a.code x) value_is
+
+abbrev pub place_with : RecName → ℕ → ℕ → ℕ → Spot
+place_with to ornt usag mask = record { to = to; ornt = ornt; usag = usag; mask = mask }
+
+pub same_place : (to : RecName) (ornt usag mask : ℕ) (s : Spot) → to ≡ s.to → ornt ≡ s.ornt → usag ≡ s.usag → mask ≡ s.mask → place_with to ornt usag mask ≡ s
+same_place to ornt usag mask s to_is ornt_is usag_is mask_is =
+    ap (λ (x : RecName). place_with x ornt usag mask) to_is ∙ ap (λ (x : ℕ). place_with s.to x usag mask) ornt_is
+    ∙ ap (λ (x : ℕ). place_with s.to s.ornt x mask) usag_is ∙ ap (λ (x : ℕ). place_with s.to s.ornt s.usag x) mask_is
+
+abbrev pub partner_with : Lnam → ℕ → List ℕ → Partner
+partner_with to rind comt = record { to = to; rind = rind; comt = comt }
+
+pub same_partner : (to : Lnam) (rind : ℕ) (comt : List ℕ) (p : Partner) → to ≡ p.to → rind ≡ p.rind → comt ≡ p.comt → partner_with to rind comt ≡ p
+same_partner to rind comt p to_is rind_is comt_is =
+    ap (λ (x : Lnam). partner_with x rind comt) to_is ∙ ap (λ (x : ℕ). partner_with p.to x comt) rind_is ∙ ap (λ (x : List ℕ). partner_with p.to p.rind x) comt_is

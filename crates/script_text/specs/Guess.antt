@@ -1,11 +1,11 @@
 -- The words of a command's line. This project's own.
-use Rattle.std.specs.Prelude.{◌≡◌, ℕ, List, [], ◌∷◌, ◌++◌, codes, true, Option, Some, IfSome}
+use Rattle.std.specs.Prelude.{◌≡◌, ℕ, Bool, true, nat_le, List, [], ◌∷◌, ◌++◌, codes, Option, Some, IfSome}
 use Rattle.std.specs.Fmt.{decimal}
 use Rattle.cell_spec.specs.declared.edit.Edit.TheVariants.{Add, Set, Del}
 use Rattle.text_spec.specs.Lines.{spaced_words}
 use Rattle.text_spec.specs.CellText.{name_words}
-use Rattle.text_spec.specs.EditLine.{record_words}
-use Rattle.text_spec.specs.ScriptLines.{IsCommand, is_minimal_command, command_line}
+use Rattle.text_spec.specs.EditLine.{record_words, has_line}
+use Rattle.text_spec.specs.ScriptLines.{IsCommand, command_line, shown_limit}
 use Rattle.text_spec.specs.declared.command.Command.{Command}
 use Rattle.text_spec.specs.declared.command.Command.TheVariants.{View, Commit, Drop, List as Findings, Push}
 
@@ -31,16 +31,19 @@ other_words (Push (Del n)) = name_words n
 abbrev pub command_text : Command → List ℕ
 command_text c = first_word c ++ spaced_words (other_words c)
 
--- a command of a minimal script
-pub record IsMinimalCommand (c : Command) : Type 0 where
-  pub command : IsCommand c
-  pub minimal : is_minimal_command c ≡ true
+-- a command has a line where it shows no more findings than it may, and its edit has one
+abbrev pub can_stand : Command → Bool
+can_stand View = true
+can_stand Commit = true
+can_stand Drop = true
+can_stand (Findings shown) = nat_le shown shown_limit
+can_stand (Push edit) = has_line edit
 
--- the command may stand in a minimal script, and the bytes are its line
+-- the command may stand in a script, and the bytes are its line
 abbrev pub HasLine : List ℕ → Command → Type 0
-HasLine line c = (is_minimal_command c ≡ true) × (command_line c ≡ line)
+HasLine line c = (can_stand c ≡ true) × (command_line c ≡ line)
 
 -- the command whose line the bytes are, if there is one
 pub record IsReadOf (line : List ℕ) (read : Option Command) : Type 0 where
-  pub spelled : IfSome read (λ c. IsMinimalCommand c × (command_line c ≡ line))
-  pub found : (c : Command) → IsMinimalCommand c → command_line c ≡ line → read ≡ Some c
+  pub spelled : IfSome read (λ c. IsCommand c × (command_line c ≡ line))
+  pub found : (c : Command) → IsCommand c → command_line c ≡ line → read ≡ Some c

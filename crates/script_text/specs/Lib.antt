@@ -1,4 +1,7 @@
 pub mod Cuts
 pub mod Widths
+pub mod Items
 pub mod Guess
+pub mod Faults
 pub mod Reading
+pub mod Steps

@@ -1,17 +1,60 @@
-//! The items of a vector record.
+//! The items of records: the value that each stands for, by what follows its letter.
 
-ghost use Rattle.std.specs.Prelude.{◌≡◌, ◌++◌, ◌∷◌, [], ℤ, List, map, All, IfOk, OnOk, codes, decimal};
+ghost use Rattle.std.specs.Prelude.{◌≡◌, ◌++◌, ◌∷◌, [], ℤ, List, ℕ, codes, false, IfOk, MatchOption, OnOk};
+ghost use Rattle.s57_types.specs.declared.name.Lnam.{Lnam};
+ghost use Rattle.s57_types.specs.declared.record.Attr.{Attr};
 ghost use Rattle.s57_types.specs.declared.record.End.{End};
-ghost use Rattle.text_spec.specs.EditLine.{end_item, plane_item};
-ghost use Rattle.text_spec.specs.Lines.{spaced_words};
-ghost use Rattle.script_text.specs.Widths.{IsEndOfWidth, IsPointOfWidth};
+ghost use Rattle.s57_types.specs.declared.record.Spot.{Spot};
+ghost use Rattle.s57_types.specs.declared.record.Partner.{Partner};
+ghost use Rattle.text_spec.specs.EditLine.{attribute_item, deep_item, end_item, partner_item, place_item, plane_item, text_word};
+ghost use Rattle.script_text.specs.Items.{begins, IsListTaken};
+ghost use Rattle.script_text.specs.Widths.{IsAttributeOfWidth, IsEndOfWidth, IsPartnerOfWidth, IsPlaceOfWidth, IsPointOfWidth, IsSoundingOfWidth, IsTextOfWidth};
 
 use crate::cut::next_part;
-use crate::value::{byte_of, coordinate_of, name_of};
-use s57_types::{End, Ends, Plane};
+use crate::text::text_of;
+use crate::value::{byte_of, coordinate_of, identity_of, name_of, short_of};
+use s57_types::{Attr, Attrs, Deep, End, Ends, Partner, Partners, Places, Plane, Spot, Text};
 use std::alloc::{AllocError, Global};
 
-/// The pointer that an item stands for, by what follows its letter.
+/// What follows the letter of a word, if it begins with this letter.
+fn behind_letter(letter: u8, word: &[u8]) -> Option<&[u8]>
+    ensures { MatchOption result (begins letter word.now ≡ false) (λ parts. word.now ≡ letter ∷ parts.now) }
+{
+    match word.split_first() {
+        Some((first, parts)) => { if *first == letter { Some(parts) } else { None } }
+        None => None,
+    }
+}
+
+/// The text behind a colon.
+///
+/// An `Err` is want of memory.
+fn text_behind(alloc: Global, parts: &[u8]) -> Result<Text, AllocError>
+    ensures width { IfOk result IsTextOfWidth }
+    ensures found { (value : List ℕ) → IsTextOfWidth value → parts.now ≡ 58 ∷ text_word value → IfOk result (λ text. text ≡ value) }
+{
+    match parts.split_first() {
+        Some((_, part)) => text_of(alloc, part),
+        None => Ok(Text::make(alloc)),
+    }
+}
+
+/// The attribute that an item stands for.
+///
+/// An `Err` is want of memory.
+fn attribute_of(alloc: Global, parts: &[u8]) -> Result<Attr, AllocError>
+    ensures width { IfOk result IsAttributeOfWidth }
+    ensures found { (attr : Attr) → IsAttributeOfWidth attr → attribute_item [] attr ≡ parts.now → IfOk result (λ read. read ≡ attr) }
+{
+    let (code, parts) = next_part(b':', parts);
+    let value = text_behind(alloc, parts)?;
+    Ok(Attr {
+        code: short_of(code),
+        value,
+    })
+}
+
+/// The pointer of a vector record that an item stands for.
 fn end_of(parts: &[u8]) -> End
     ensures width { IsEndOfWidth result }
     ensures found { (end : End) → IsEndOfWidth end → end_item end ≡ codes "e" ++ parts.now → result ≡ end }
@@ -31,7 +74,7 @@ fn end_of(parts: &[u8]) -> End
     }
 }
 
-/// The coordinates that an item stands for, by what follows its letter. Latitude first, in integer coordinate units.
+/// The coordinates that an item stands for. Latitude first, in integer coordinate units.
 fn point_of(parts: &[u8]) -> (i32, i32)
     ensures width { IsPointOfWidth result }
     ensures found { (point : ℤ × ℤ) → IsPointOfWidth point → plane_item point ≡ codes "p" ++ parts.now → result ≡ point }
@@ -41,53 +84,119 @@ fn point_of(parts: &[u8]) -> (i32, i32)
     (coordinate_of(latitude), coordinate_of(longitude))
 }
 
-/// The lists of a minimal vector record.
-#[derive(Drop)]
-pub struct Lists {
-    pub ends: Ends,
-    pub plane: Plane,
-}
-
-/// Appends the value that an item stands for to its list.
-fn take_item(word: &[u8], lists: &mut Lists) -> Result<(), AllocError>
-    requires ends_kept { All IsEndOfWidth lists.old.ends }
-    requires plane_kept { All IsPointOfWidth lists.old.plane }
-    ensures ends_width { OnOk result (All IsEndOfWidth lists.new.ends) }
-    ensures plane_width { OnOk result (All IsPointOfWidth lists.new.plane) }
-    ensures end { (end : End) → IsEndOfWidth end → word.now ≡ end_item end
-        → OnOk result ((lists.new.ends ≡ lists.old.ends ++ end ∷ []) × (lists.new.plane ≡ lists.old.plane)) }
-    ensures point { (point : ℤ × ℤ) → IsPointOfWidth point → word.now ≡ plane_item point
-        → OnOk result ((lists.new.ends ≡ lists.old.ends) × (lists.new.plane ≡ lists.old.plane ++ point ∷ [])) }
+/// The sounding that an item stands for: latitude, longitude and depth, in integer coordinate and sounding units.
+fn sounding_of(parts: &[u8]) -> (i32, i32, i32)
+    ensures width { IsSoundingOfWidth result }
+    ensures found { (sounding : ℤ × ℤ × ℤ) → IsSoundingOfWidth sounding → deep_item sounding ≡ codes "d" ++ parts.now → result ≡ sounding }
 {
-    if let Some((letter, parts)) = word.split_first() {
-        if *letter == b'e' {
-            lists.ends.push(end_of(parts))?;
-        } else if *letter == b'p' {
-            lists.plane.push(point_of(parts))?;
-        }
-    }
-    Ok(())
+    let (latitude, parts) = next_part(b',', parts);
+    let (longitude, parts) = next_part(b',', parts);
+    let (depth, _) = next_part(b',', parts);
+    (
+        coordinate_of(latitude),
+        coordinate_of(longitude),
+        coordinate_of(depth),
+    )
 }
 
-/// The lists that items stand for, each item behind a space.
+/// The pointer to a feature that an item stands for.
 ///
 /// An `Err` is want of memory.
-pub fn lists_of(alloc: Global, items: &[u8]) -> Result<Lists, AllocError>
-    ensures ends_width { IfOk result (λ lists. All IsEndOfWidth lists.ends) }
-    ensures plane_width { IfOk result (λ lists. All IsPointOfWidth lists.plane) }
-    ensures found { (ends : List End) (plane : List (ℤ × ℤ)) → All IsEndOfWidth ends → All IsPointOfWidth plane
-        → items.now ≡ spaced_words (map end_item ends ++ map plane_item plane)
-        → IfOk result (λ lists. (lists.ends ≡ ends) × (lists.plane ≡ plane)) }
+fn partner_of(alloc: Global, parts: &[u8]) -> Result<Partner, AllocError>
+    ensures width { IfOk result IsPartnerOfWidth }
+    ensures found { (partner : Partner) → IsPartnerOfWidth partner → partner_item partner ≡ codes "f" ++ parts.now → IfOk result (λ read. read ≡ partner) }
 {
-    let mut lists = Lists {
-        ends: Ends::make(alloc),
-        plane: Plane::make(alloc),
-    };
-    let mut rest = items;
-    while !rest.is_empty() {
-        let (word, behind) = next_part(b' ', rest);
-        take_item(word, &mut lists)?;
-        rest = behind;
+    let (agen, parts) = next_part(b':', parts);
+    let (fidn, parts) = next_part(b':', parts);
+    let (fids, parts) = next_part(b':', parts);
+    let (rind, parts) = next_part(b':', parts);
+    let comt = text_behind(alloc, parts)?;
+    Ok(Partner {
+        to: identity_of(agen, fidn, fids),
+        rind: byte_of(rind),
+        comt,
+    })
+}
+
+/// The pointer of a feature to a vector record that an item stands for.
+fn place_of(parts: &[u8]) -> Spot
+    ensures width { IsPlaceOfWidth result }
+    ensures found { (place : Spot) → IsPlaceOfWidth place → place_item place ≡ codes "s" ++ parts.now → result ≡ place }
+{
+    let (kind, parts) = next_part(b':', parts);
+    let (id, parts) = next_part(b':', parts);
+    let (ornt, parts) = next_part(b':', parts);
+    let (usag, parts) = next_part(b':', parts);
+    let (mask, _) = next_part(b':', parts);
+    Spot {
+        to: name_of(kind, id),
+        ornt: byte_of(ornt),
+        usag: byte_of(usag),
+        mask: byte_of(mask),
     }
-    Ok(lists)
+}
+
+/// Appends the attribute that a word stands for, if it begins with this letter.
+pub fn take_attribute(
+    alloc: Global,
+    letter: u8,
+    word: &[u8],
+    attrs: &mut Attrs,
+) -> Result<(), AllocError>
+    ensures { OnOk result (IsListTaken letter (attribute_item (letter ∷ [])) IsAttributeOfWidth word.now attrs.old attrs.new) }
+{
+    match behind_letter(letter, word) {
+        Some(parts) => attrs.push(attribute_of(alloc, parts)?),
+        None => Ok(()),
+    }
+}
+
+/// Appends the pointer that a word stands for, if it is one of a vector record.
+pub fn take_end(word: &[u8], ends: &mut Ends) -> Result<(), AllocError>
+    ensures { OnOk result (IsListTaken 101 end_item IsEndOfWidth word.now ends.old ends.new) }
+{
+    match behind_letter(b'e', word) {
+        Some(parts) => ends.push(end_of(parts)),
+        None => Ok(()),
+    }
+}
+
+/// Appends the 2-D coordinates that a word stands for, if it has some.
+pub fn take_point(word: &[u8], plane: &mut Plane) -> Result<(), AllocError>
+    ensures { OnOk result (IsListTaken 112 plane_item IsPointOfWidth word.now plane.old plane.new) }
+{
+    match behind_letter(b'p', word) {
+        Some(parts) => plane.push(point_of(parts)),
+        None => Ok(()),
+    }
+}
+
+/// Appends the sounding that a word stands for, if it is one.
+pub fn take_sounding(word: &[u8], deep: &mut Deep) -> Result<(), AllocError>
+    ensures { OnOk result (IsListTaken 100 deep_item IsSoundingOfWidth word.now deep.old deep.new) }
+{
+    match behind_letter(b'd', word) {
+        Some(parts) => deep.push(sounding_of(parts)),
+        None => Ok(()),
+    }
+}
+
+/// Appends the pointer to a feature that a word stands for, if it is one.
+pub fn take_partner(alloc: Global, word: &[u8], partners: &mut Partners) -> Result<(), AllocError>
+    ensures { OnOk result (IsListTaken 102 partner_item IsPartnerOfWidth word.now partners.old partners.new) }
+{
+    match behind_letter(b'f', word) {
+        Some(parts) => partners.push(partner_of(alloc, parts)?),
+        None => Ok(()),
+    }
+}
+
+/// Appends the pointer that a word stands for, if it is one of a feature to a vector record.
+pub fn take_place(word: &[u8], places: &mut Places) -> Result<(), AllocError>
+    ensures { OnOk result (IsListTaken 115 place_item IsPlaceOfWidth word.now places.old places.new) }
+{
+    match behind_letter(b's', word) {
+        Some(parts) => places.push(place_of(parts)),
+        None => Ok(()),
+    }
 }

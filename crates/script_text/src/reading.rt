@@ -1,19 +1,27 @@
-//! Reading minimal scripts. A line is taken only where it is the line of the command that was read from it.
+//! Reading scripts. A line is taken only where it is the line of the command that was read from it.
 
-ghost use Rattle.std.specs.Prelude.{◌≡◌, ◌↔◌, IsTrue, ◌∷◌, ◌++◌, [], ◌<◌, List, length, true, IfOk, OnOk, MatchResult, if◌then◌else◌};
+ghost use Rattle.std.specs.Prelude.{◌≡◌, ◌↔◌, IsTrue, ◌∷◌, ◌++◌, [], ◌<◌, ◌^◌, ◌≤◌, ℕ, List, Ok, length, true, IfOk, MatchResult, decimal};
 ghost use Rattle.cell_spec.specs.declared.edit.Edit.{Edit};
-ghost use Rattle.text_spec.specs.EditLine.{is_minimal_edit};
+ghost use Rattle.s57_types.specs.declared.name.Kind.{Kind};
+ghost use Rattle.s57_types.specs.declared.record.Rec.{Rec};
+ghost use Rattle.text_spec.specs.CellText.{kind_word};
+ghost use Rattle.text_spec.specs.EditLine.{has_line, is_feature as is_feature_lem, record_has_line, record_words};
 ghost use Rattle.text_spec.specs.Lines.{spaced_words};
-ghost use Rattle.text_spec.specs.ScriptLines.{command_line, is_minimal_command as is_minimal_command_lem, is_skipped as is_skipped_lem, IsCommand};
+ghost use Rattle.text_spec.specs.ScriptLines.{command_line, is_skipped as is_skipped_lem, IsCommand};
 ghost use Rattle.text_spec.specs.declared.command.Command.{Command};
-ghost use Rattle.script_text.specs.Guess.{HasLine, first_word, other_words, IsMinimalCommand, IsReadOf};
-ghost use Rattle.script_text.specs.Reading.{IsMinimalRefusal, IsOnlyScript, IsNotTaken, IsRead, IsStuck, IsTaken};
+ghost use Rattle.script_text.specs.Cuts.{IsFrom};
+ghost use Rattle.script_text.specs.Faults.{IsCommandWord};
+ghost use Rattle.script_text.specs.Guess.{HasLine, can_stand as can_stand_lem, first_word, other_words, IsReadOf};
+ghost use Rattle.script_text.specs.Reading.{IsOnlyReading, IsScriptRefusal};
+ghost use Rattle.script_text.specs.Steps.{first_refusal, IsFirstRefusal, IsFormFault, IsLineRead, IsLineRefusal, IsNotTaken, IsTaken};
+ghost use Rattle.script_text.specs.Widths.{IsRecordOfWidth};
 
-use crate::cut::cut_at;
-use crate::refusal::MinimalScriptRefusal;
+use crate::cut::{cut_at, next_part};
+use crate::feature::feature_of;
+use crate::refusal::{LineFault, LineRefusal, ScriptRefusal};
 use crate::script::{MOST_COMMANDS, Script};
-use crate::spelling::{is_minimal_command, spelling};
-use crate::value::is_word;
+use crate::spelling::{can_stand, push_line};
+use crate::value::{is_word, number_of};
 use crate::vector::{name_of_words, vector_of};
 use cell_spec::Edit;
 use s57_types::Rec;
@@ -24,8 +32,8 @@ use text_spec::Command;
 ///
 /// An `Err` is want of memory.
 fn command_of(alloc: Global, first: &[u8], others: &[u8]) -> Result<Command, AllocError>
-    ensures width { IfOk result (λ command. is_minimal_command_lem command ≡ true → IsCommand command) }
-    ensures found { (command : Command) → IsMinimalCommand command → first.now ≡ first_word command
+    ensures width { IfOk result (λ command. can_stand_lem command ≡ true → IsCommand command) }
+    ensures found { (command : Command) → IsCommand command → first.now ≡ first_word command
         → others.now ≡ spaced_words (other_words command) → IfOk result (λ read. read ≡ command) }
 {
     if is_word(first, "view") {
@@ -37,30 +45,64 @@ fn command_of(alloc: Global, first: &[u8], others: &[u8]) -> Result<Command, All
     if is_word(first, "drop") {
         return Ok(Command::Drop);
     }
+    if is_word(first, "list") {
+        return Ok(Command::List(number_of_words(others)));
+    }
     Ok(Command::Push(edit_of(alloc, first, others)?))
 }
 
-/// The same for the words of an edit.
+/// The number that is the one word.
+fn number_of_words(words: &[u8]) -> u32
+    ensures { (number : ℕ) → number < 2 ^ 32 → words.now ≡ spaced_words (decimal number ∷ []) → result ≡ number }
+{
+    let (number, _) = next_part(b' ', words);
+    number_of(number)
+}
+
+/// The edit that words stand for.
+///
+/// An `Err` is want of memory.
 fn edit_of(alloc: Global, first: &[u8], others: &[u8]) -> Result<Edit, AllocError>
-    ensures width { IfOk result (λ edit. is_minimal_edit edit ≡ true → IsCommand (Command.Push edit)) }
-    ensures found { (edit : Edit) → IsMinimalCommand (Command.Push edit) → first.now ≡ first_word (Command.Push edit)
+    ensures width { IfOk result (λ edit. has_line edit ≡ true → IsCommand (Command.Push edit)) }
+    ensures found { (edit : Edit) → IsCommand (Command.Push edit) → first.now ≡ first_word (Command.Push edit)
         → others.now ≡ spaced_words (other_words (Command.Push edit)) → IfOk result (λ read. read ≡ edit) }
 {
     if is_word(first, "add") {
-        return Ok(Edit::Add(Rec::V(vector_of(alloc, others)?)));
+        return Ok(Edit::Add(record_of(alloc, others)?));
     }
     if is_word(first, "set") {
-        return Ok(Edit::Set(Rec::V(vector_of(alloc, others)?)));
+        return Ok(Edit::Set(record_of(alloc, others)?));
     }
     Ok(Edit::Del(name_of_words(others)))
 }
 
-/// The command that a line is of, if it is of a command of a minimal script, and some command else.
+/// Whether the first word is the kind of a feature record.
+fn is_feature(words: &[u8]) -> bool
+    ensures { (kind : Kind) (rest : List ℕ) → IsFrom 32 rest → words.now ≡ 32 ∷ (kind_word kind ++ rest) → result ≡ is_feature_lem kind }
+{
+    let (kind, _) = next_part(b' ', words);
+    is_word(kind, "fe")
+}
+
+/// The record that words stand for.
+///
+/// An `Err` is want of memory.
+fn record_of(alloc: Global, words: &[u8]) -> Result<Rec, AllocError>
+    ensures width { IfOk result IsRecordOfWidth }
+    ensures found { (rec : Rec) → IsRecordOfWidth rec → record_has_line rec ≡ true → words.now ≡ spaced_words (record_words rec) → IfOk result (λ read. read ≡ rec) }
+{
+    if is_feature(words) {
+        return Ok(Rec::F(feature_of(alloc, words)?));
+    }
+    Ok(Rec::V(vector_of(alloc, words)?))
+}
+
+/// The command that a line is of, if it is of a command, and some command else.
 ///
 /// An `Err` is want of memory.
 fn guess(alloc: Global, line: &[u8]) -> Result<Command, AllocError>
-    ensures width { IfOk result (λ command. is_minimal_command_lem command ≡ true → IsCommand command) }
-    ensures found { (command : Command) → IsMinimalCommand command → command_line command ≡ line.now → IfOk result (λ read. read ≡ command) }
+    ensures width { IfOk result (λ command. can_stand_lem command ≡ true → IsCommand command) }
+    ensures found { (command : Command) → IsCommand command → command_line command ≡ line.now → IfOk result (λ read. read ≡ command) }
 {
     match line.split_last() {
         Some((_, text)) => {
@@ -71,27 +113,28 @@ fn guess(alloc: Global, line: &[u8]) -> Result<Command, AllocError>
     }
 }
 
-/// Whether a command may stand in a minimal script and has this line.
+/// Whether a command may stand in a script and has this line.
 ///
 /// An `Err` is want of memory.
-fn has_line(alloc: Global, command: &Command, line: &[u8]) -> Result<bool, AllocError>
+fn has_this_line(alloc: Global, command: &Command, line: &[u8]) -> Result<bool, AllocError>
     ensures { IfOk result (λ same. IsTrue same ↔ HasLine line.now command.now) }
 {
-    if !is_minimal_command(command) {
+    if !can_stand(command) {
         return Ok(false);
     }
-    let spelled = spelling(alloc, command)?;
+    let mut spelled = Vec::with_capacity(alloc, line.len())?;
+    push_line(alloc, command, &mut spelled)?;
     Ok(spelled.as_slice() == line)
 }
 
-/// The command of a minimal script that has this line, the line feed included, if there is one.
+/// The command that has this line, the line feed included, if there is one.
 ///
 /// An `Err` is want of memory.
 pub fn read_command(alloc: Global, line: &[u8]) -> Result<Option<Command>, AllocError>
     ensures { IfOk result (IsReadOf line.now) }
 {
     let command = guess(alloc, line)?;
-    let same = has_line(alloc, &command, line)?;
+    let same = has_this_line(alloc, &command, line)?;
     Ok(same.then_some(command))
 }
 
@@ -105,15 +148,58 @@ fn is_skipped(line: &[u8]) -> bool
     }
 }
 
-/// Takes the first line of a text, the line feed included, into a script.
-fn take_command(alloc: Global, line: &[u8], script: &mut Script) -> Result<(), MinimalScriptRefusal>
-    ensures { MatchResult result (λ _. IsTaken line.now script.old script.new) (λ refusal. IsNotTaken line.now script.old refusal) }
+/// Whether a word is the first of a command's line.
+fn is_command_word(word: &[u8]) -> bool
+    ensures { IsTrue result ↔ IsCommandWord word.now }
+{
+    if is_word(word, "view") {
+        return true;
+    }
+    if is_word(word, "commit") {
+        return true;
+    }
+    if is_word(word, "drop") {
+        return true;
+    }
+    if is_word(word, "list") {
+        return true;
+    }
+    if is_word(word, "del") {
+        return true;
+    }
+    if is_word(word, "add") {
+        return true;
+    }
+    is_word(word, "set")
+}
+
+/// What is wrong with a line that is of no command.
+fn form_fault(text: &[u8]) -> LineFault
+    ensures { IsFormFault text.now result }
+{
+    let (first, _) = cut_at(b' ', text);
+    if is_command_word(first) {
+        LineFault::WrongForm
+    } else {
+        LineFault::UnknownWord
+    }
+}
+
+/// Takes a line into a script. The text is the line without its line feed.
+fn take_command(
+    alloc: Global,
+    text: &[u8],
+    line: &[u8],
+    script: &mut Script,
+) -> Result<(), LineRefusal>
+    requires { line.now ≡ text.now ++ 10 ∷ [] }
+    ensures { MatchResult result (λ _. IsTaken text.now script.old script.new) (λ refusal. IsNotTaken text.now script.old refusal) }
 {
     let Some(command) = read_command(alloc, line)? else {
-        return Err(MinimalScriptRefusal::NotMinimal);
+        return Err(LineRefusal::Fault(form_fault(text)));
     };
     if script.commands().len() >= MOST_COMMANDS {
-        return Err(MinimalScriptRefusal::NotMinimal);
+        return Err(LineRefusal::Fault(LineFault::TooManyCommands));
     }
     script.push(command)?;
     Ok(())
@@ -124,34 +210,74 @@ fn take_line<'a>(
     alloc: Global,
     text: &'a [u8],
     script: &mut Script,
-) -> Result<&'a [u8], MinimalScriptRefusal>
+) -> Result<&'a [u8], LineRefusal>
     requires { 0 < length text.now }
-    ensures read { MatchResult result (λ rest. IsRead text.now script.old rest.now script.new) (IsStuck (length script.old) text.now) }
+    ensures read { MatchResult result (λ rest. IsLineRead text.now rest.now script.old script.new) (IsLineRefusal (length script.old) text.now) }
     ensures shorter { IfOk result (λ rest. length rest.now < length text.now) }
 {
     let (front, _) = cut_at(b'\n', text);
     if front.len() == text.len() {
-        return Err(MinimalScriptRefusal::NotMinimal);
+        return Err(LineRefusal::Fault(LineFault::NoLineFeed));
     }
     let (line, rest) = text.split_at(front.len() + 1);
     if is_skipped(front) {
         return Ok(rest);
     }
-    take_command(alloc, line, script)?;
+    take_command(alloc, front, line, script)?;
     Ok(rest)
 }
 
-/// The script that a text is, where each of its commands may stand in a minimal script: no findings asked for, and edits
-/// of connected nodes and edges alone, without attributes and soundings.
-///
-/// An `Err` is that the text is no such script, or want of memory.
-pub fn read_minimal_script(alloc: Global, bytes: &[u8]) -> Result<Script, MinimalScriptRefusal>
-    ensures { MatchResult result (IsOnlyScript bytes.now) (IsMinimalRefusal bytes.now) }
+/// Why a text wasn't read: its first fault, or want of memory.
+#[derive(Clone, Copy)]
+pub(crate) enum FirstRefusal {
+    Fault { line: usize, code: u8 },
+    NoMemory,
+}
+
+/// A line's refusal, with the number of the line.
+fn refusal_at(line: usize, refusal: LineRefusal) -> FirstRefusal
+    ensures { result ≡ first_refusal line refusal }
+{
+    match refusal {
+        LineRefusal::Fault(fault) => FirstRefusal::Fault {
+            line,
+            code: fault.code(),
+        },
+        LineRefusal::NoMemory => FirstRefusal::NoMemory,
+    }
+}
+
+/// The script that a text is, or why it is none.
+pub(crate) fn read_lines(alloc: Global, bytes: &[u8]) -> Result<Script, FirstRefusal>
+    ensures { MatchResult result (λ script. IsOnlyReading bytes.now (Ok script)) (IsFirstRefusal bytes.now) }
 {
     let mut script = Script::make(alloc);
     let mut rest = bytes;
+    let mut count: usize = 0;
     while !rest.is_empty() {
-        rest = take_line(alloc, rest, &mut script)?;
+        rest = match take_line(alloc, rest, &mut script) {
+            Ok(behind) => behind,
+            Err(refusal) => return Err(refusal_at(count + 1, refusal)),
+        };
+        count += 1;
     }
     Ok(script)
+}
+
+/// The script that a text is: a line for each command, and lines that are passed over, which are empty or begin with a
+/// number sign.
+///
+/// An `Err` is the first fault, or want of memory.
+pub fn read_script(alloc: Global, bytes: &[u8]) -> Result<Script, ScriptRefusal>
+    requires { length bytes.now < 2 ^ 32 }
+    ensures { MatchResult result (λ script. IsOnlyReading bytes.now (Ok script)) (IsScriptRefusal bytes.now) }
+{
+    match read_lines(alloc, bytes) {
+        Ok(script) => Ok(script),
+        Err(FirstRefusal::Fault { line, code }) => Err(ScriptRefusal::Fault {
+            line: line as u32,
+            code,
+        }),
+        Err(FirstRefusal::NoMemory) => Err(ScriptRefusal::NoMemory),
+    }
 }

@@ -5,11 +5,12 @@ ghost use Rattle.std.specs.Prelude.{◌≡◌, ◌↔◌, IsTrue, ℕ, ℤ, ◌<
 ghost use Rattle.std.specs.Fmt.{signed_decimal};
 ghost use Rattle.std.specs.Int.{w32};
 ghost use Rattle.s57_types.specs.declared.name.Kind.{Kind};
+ghost use Rattle.s57_types.specs.declared.name.Lnam.{Lnam};
 ghost use Rattle.s57_types.specs.declared.name.RecName.{RecName};
 ghost use Rattle.text_spec.specs.CellText.{kind_word};
-ghost use Rattle.script_text.specs.Widths.{IsNameOfWidth};
+ghost use Rattle.script_text.specs.Widths.{IsIdentityOfWidth, IsNameOfWidth};
 
-use s57_types::{Kind, RecName};
+use s57_types::{Kind, Lnam, RecName};
 use text_lines::{read_signed, read_unsigned};
 
 /// Whether a word is this text.
@@ -31,7 +32,7 @@ pub fn byte_of(word: &[u8]) -> u8
     u8::try_from(number_of(word)).unwrap_or(0)
 }
 
-pub fn version_of(word: &[u8]) -> u16
+pub fn short_of(word: &[u8]) -> u16
     ensures { (number : ℕ) → number < 2 ^ 16 → word.now ≡ decimal number → result ≡ number }
 {
     u16::try_from(number_of(word)).unwrap_or(0)
@@ -64,5 +65,18 @@ pub fn name_of(kind: &[u8], id: &[u8]) -> RecName
     RecName {
         kind: kind_of(kind),
         id: number_of(id),
+    }
+}
+
+/// The identifier of a feature object.
+pub fn identity_of(agen: &[u8], fidn: &[u8], fids: &[u8]) -> Lnam
+    ensures width { IsIdentityOfWidth result }
+    ensures found { (identity : Lnam) → IsIdentityOfWidth identity → agen.now ≡ decimal identity.agen → fidn.now ≡ decimal identity.fidn
+        → fids.now ≡ decimal identity.fids → result ≡ identity }
+{
+    Lnam {
+        agen: short_of(agen),
+        fidn: number_of(fidn),
+        fids: short_of(fids),
     }
 }

@@ -1,38 +1,79 @@
-//! The words of a minimal vector record.
+//! The words of a vector record.
 
-ghost use Rattle.std.specs.Prelude.{◌≡◌, [], IfOk};
+ghost use Rattle.std.specs.Prelude.{◌≡◌, ◌++◌, ◌∷◌, [], List, ℕ, IfOk, OnOk};
 ghost use Rattle.s57_types.specs.declared.record.Vector.{Vector};
 ghost use Rattle.s57_types.specs.declared.name.RecName.{RecName};
 ghost use Rattle.text_spec.specs.CellText.{name_words};
 ghost use Rattle.text_spec.specs.EditLine.{vector_words};
 ghost use Rattle.text_spec.specs.Lines.{spaced_words};
+ghost use Rattle.script_text.specs.Items.{AreVectorItems, AreVectorItemsOf};
 ghost use Rattle.script_text.specs.Widths.{IsNameOfWidth, IsVectorOfWidth};
 
 use crate::cut::next_part;
-use crate::item::lists_of;
-use crate::value::{name_of, version_of};
-use s57_types::{Attrs, Deep, RecName, Vector};
+use crate::item::{take_attribute, take_end, take_point, take_sounding};
+use crate::value::{name_of, short_of};
+use s57_types::{Attrs, Deep, Ends, Plane, RecName, Vector};
 use std::alloc::{AllocError, Global};
 
-/// The vector record that words stand for, without attributes and soundings.
+/// The items of a vector record.
+#[derive(Drop)]
+pub struct VectorItems {
+    pub attrs: Attrs,
+    pub ends: Ends,
+    pub plane: Plane,
+    pub deep: Deep,
+}
+
+/// Appends the value that an item stands for to its list.
+fn take_item(alloc: Global, word: &[u8], items: &mut VectorItems) -> Result<(), AllocError>
+    ensures { OnOk result ((words : List (List ℕ)) → AreVectorItems words items.old → AreVectorItems (words ++ word.now ∷ []) items.new) }
+{
+    take_attribute(alloc, b'a', word, &mut items.attrs)?;
+    take_end(word, &mut items.ends)?;
+    take_point(word, &mut items.plane)?;
+    take_sounding(word, &mut items.deep)?;
+    Ok(())
+}
+
+/// The lists that items stand for, each item behind a space.
+///
+/// An `Err` is want of memory.
+fn items_of(alloc: Global, text: &[u8]) -> Result<VectorItems, AllocError>
+    ensures { IfOk result (λ items. AreVectorItemsOf text.now items) }
+{
+    let mut items = VectorItems {
+        attrs: Attrs::make(alloc),
+        ends: Ends::make(alloc),
+        plane: Plane::make(alloc),
+        deep: Deep::make(alloc),
+    };
+    let mut rest = text;
+    while !rest.is_empty() {
+        let (word, behind) = next_part(b' ', rest);
+        take_item(alloc, word, &mut items)?;
+        rest = behind;
+    }
+    Ok(items)
+}
+
+/// The vector record that words stand for.
 ///
 /// An `Err` is want of memory.
 pub fn vector_of(alloc: Global, words: &[u8]) -> Result<Vector, AllocError>
     ensures width { IfOk result IsVectorOfWidth }
-    ensures found { (vector : Vector) → IsVectorOfWidth vector → vector.attrs ≡ [] → vector.deep ≡ []
-        → words.now ≡ spaced_words (vector_words vector) → IfOk result (λ read. read ≡ vector) }
+    ensures found { (vector : Vector) → IsVectorOfWidth vector → words.now ≡ spaced_words (vector_words vector) → IfOk result (λ read. read ≡ vector) }
 {
     let (kind, words) = next_part(b' ', words);
     let (id, words) = next_part(b' ', words);
     let (rver, words) = next_part(b' ', words);
-    let lists = lists_of(alloc, words)?;
+    let items = items_of(alloc, words)?;
     Ok(Vector {
         name: name_of(kind, id),
-        rver: version_of(rver),
-        attrs: Attrs::make(alloc),
-        ends: lists.ends,
-        plane: lists.plane,
-        deep: Deep::make(alloc),
+        rver: short_of(rver),
+        attrs: items.attrs,
+        ends: items.ends,
+        plane: items.plane,
+        deep: items.deep,
     })
 }
 

@@ -1,4 +1,4 @@
-use Rattle.script_text.proofs.AlikeScripts.{alike_commands}
+use Rattle.script_text.proofs.AlikeCommands.{alike_commands}
 use Rattle.script_text.proofs.law.a_line_is_of_one_command.Goals as goal
 
 pub returns : goal.returns

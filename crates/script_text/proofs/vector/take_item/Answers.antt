@@ -1,0 +1,9 @@
+use Rattle.script_text.proofs.vector.take_item.Goals as goal
+
+pub returns : goal.returns
+returns c = λ words earlier. record {
+  attrs = c.in_ok-take_attribute.ensures words earlier.attrs;
+  ends = c.in_ok-take_end.ensures words earlier.ends;
+  plane = c.in_ok-take_point.ensures words earlier.plane;
+  deep = c.in_ok-take_sounding.ensures words earlier.deep;
+}
