@@ -49,3 +49,7 @@ rounds_more f k =
     let last : 1 + k ≡ k + 1 = omega arith in
     ap (flat_map f) (range_join 1 k 1) ∙ flat_map-append f (range_with_len 1 k) (range_with_len (1 + k) 1)
     ∙ ap (λ xs. flat_map f (range_with_len 1 k) ++ xs) (append-nil (f (1 + k)) ∙ ap f last)
+
+-- one more script, the first being that of number 1
+pub scripts_more : {X : Type 0} (f : ℕ → X) (k : ℕ) → map f (range_with_len 1 (k + 1)) ≡ map f (range_with_len 1 k) ++ f (k + 1) ∷ []
+scripts_more f k = map-range_with_len_more f 1 k (k + 1) (omega arith)

@@ -1,11 +1,12 @@
 //! The generated scripts.
 
 ghost use Rattle.std.specs.Prelude.{◌≡◌, ◌+◌, ◌*◌, ◌≤◌, ◌<◌, ◌++◌, IfOk, OnOk, pos};
-ghost use Rattle.cell_make.specs.GeneratedScripts.{choice as choice_of, generated_edit, generated_round, generated_script, moved_node as moved_node_of};
+ghost use Rattle.cell_make.specs.GeneratedScripts.{choice as choice_of, generated_edit, generated_round, generated_script, generated_scripts, moved_node as moved_node_of};
 
 use crate::record::SIDE;
 use cell_spec::Edit;
 use s57_types::{Items, Kind, Rec, RecName, Vector};
+use script_text::Script;
 use std::alloc::{AllocError, Global};
 use text_spec::Command;
 
@@ -96,12 +97,9 @@ fn push_round(
     Ok(())
 }
 
-/// The commands of a script, from 1 to 16, on the cell of n rows of n squares: ten rounds of a view, an edit and a commit.
-/// Odd rounds move a node north and east by a few units, even rounds delete a depth area.
-///
-/// An `Err` is want of memory.
+/// The commands of a script: its ten rounds.
 #[tactic(auto, using(crate::proofs::Ranges::rounds_more))]
-pub fn make_commands(alloc: Global, n: u32, script: u32) -> Result<Vec<Command>, AllocError>
+fn commands_of(alloc: Global, n: u32, script: u32) -> Result<Vec<Command>, AllocError>
     requires some { 1 ≤ n }
     requires size { n ≤ 100 }
     requires script { script ≤ 16 }
@@ -112,4 +110,24 @@ pub fn make_commands(alloc: Global, n: u32, script: u32) -> Result<Vec<Command>,
         push_round(alloc, n, script, k + 1, &mut commands)?;
     }
     Ok(commands)
+}
+
+/// The scripts of k sessions, from 1 to 16, on the cell of n rows of n squares: ten rounds of a view, an edit and a commit
+/// each. Odd rounds move a node north and east by a few units, even rounds delete a depth area.
+///
+/// An `Err` is want of memory.
+#[tactic(auto, using(crate::proofs::Ranges::scripts_more))]
+pub fn make_scripts(alloc: Global, n: u32, k: u32) -> Result<Vec<Script>, AllocError>
+    requires some { 1 ≤ n }
+    requires size { n ≤ 100 }
+    requires one_session { 1 ≤ k }
+    requires sessions { k ≤ 16 }
+    ensures { IfOk result (λ scripts. scripts.items ≡ generated_scripts n k) }
+{
+    let mut scripts = Vec::new(alloc);
+    for session in 0..k {
+        let commands = commands_of(alloc, n, session + 1)?;
+        scripts.push(Script::of_vec(commands))?;
+    }
+    Ok(scripts)
 }

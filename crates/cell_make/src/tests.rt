@@ -26,7 +26,9 @@ fn cells_have_their_sizes(rt: HostRuntime) -> Result<(), Fail> {
 
 #[test]
 fn rounds_move_and_delete(rt: HostRuntime) -> Result<(), Fail> {
-    let commands = make_commands(rt.alloc(), 2, 1)?;
+    let scripts = make_scripts(rt.alloc(), 2, 3)?;
+    assert_eq!(rt; scripts.len(), 3);
+    let commands = scripts[0].commands();
     assert_eq!(rt; commands.len(), 30);
     assert!(rt; matches!(commands.first(), Some(Command::View)));
     if let Some(Command::Push(Edit::Set(Rec::V(node)))) = commands.get(1) {

@@ -49,6 +49,14 @@ impl Script {
         Ok(())
     }
 
+    /// The script of these commands. It takes no memory.
+    pub fn of_vec(commands: Vec<Command>) -> Script
+        requires { length commands.items ≤ command_limit }
+        ensures { result ≡ commands.items }
+    {
+        Script { commands }
+    }
+
     /// The commands one after the other.
     pub fn commands(&self) -> &[Command]
         ensures { result.now ≡ self.now }
