@@ -60,7 +60,7 @@ asked_status form files before after Done built is tells = absurd is
 asked_status form files before after Usage built is tells = absurd is
 asked_status form files before after (Absent name) built is tells = (is, built, tells)
 asked_status form files before after (BadCell fault) built is tells = (built, tells)
-asked_status form files before after (BadScript session line code) built is tells = absurd is
+asked_status form files before after (BadScript session line code) built is tells = (built, tells)
 asked_status form files before after (ReadFault name) built is tells = (is, tells)
 asked_status form files before after WriteFault built is tells = absurd is
 asked_status form files before after (TooLarge name) built is tells = (is, built, tells)
@@ -68,7 +68,7 @@ asked_status form files before after NoMemory built is tells = built
 asked_status form files before after (BadOrder place) built is tells = (built, tells)
 asked_status form files before after (Stuck desk serial) built is tells = absurd is
 asked_status form files before after TooManyFindings built is tells = (built, tells)
-asked_status form files before after NotYet built is tells = inr (built, tells)
+asked_status form files before after NotYet built is tells = absurd is
 
 -- ---- scripts one after the other
 pub name_there : (names : List (String Global)) (k : ℕ) (name : String Global) → k < length names → name ≡ get_or names k name → slice_index_or (map string_bytes names) k [] ≡ string_bytes name
@@ -84,21 +84,21 @@ at_earlier (first ∷ scripts) script zero within = refl
 at_earlier (first ∷ scripts) script (suc k) within = at_earlier scripts script k (omega (arith, within))
 
 pub scripts_more : (names : List (List ℕ)) (fs : Files) (scripts : List (List Command)) (name : List ℕ) (script : List Command) → slice_index_or names (length scripts) [] ≡ name
-    → AreScripts names fs scripts → ScriptIs name fs (Ok script) → AreScripts names fs (scripts ++ (script ∷ []))
+    → AreScripts names fs scripts → ScriptIs (length scripts + 1) name fs (Ok script) → AreScripts names fs (scripts ++ (script ∷ []))
 scripts_more names fs scripts name script there good next = record { each = λ k within. by_place k within (cases_lt k (length scripts)) }
   where
-    by_place : (k : ℕ) → k < length (scripts ++ (script ∷ [])) → (k < length scripts) ⊎ (length scripts ≤ k) → ScriptIs (slice_index_or names k []) fs (Ok (slice_index_or (scripts ++ (script ∷ [])) k []))
-    by_place k within (inl below) = subst (λ s. ScriptIs (slice_index_or names k []) fs (Ok s)) (sym (at_earlier scripts script k below)) (good.each k below)
+    by_place : (k : ℕ) → k < length (scripts ++ (script ∷ [])) → (k < length scripts) ⊎ (length scripts ≤ k) → ScriptIs (k + 1) (slice_index_or names k []) fs (Ok (slice_index_or (scripts ++ (script ∷ [])) k []))
+    by_place k within (inl below) = subst (λ s. ScriptIs (k + 1) (slice_index_or names k []) fs (Ok s)) (sym (at_earlier scripts script k below)) (good.each k below)
     by_place k within (inr past) =
         let last : length scripts ≡ k = omega (arith, within, past, length-append scripts (script ∷ [])) in
-        subst (λ n. ScriptIs (slice_index_or names n []) fs (Ok (slice_index_or (scripts ++ (script ∷ [])) n []))) last
-        (subst (λ n. ScriptIs n fs (Ok (slice_index_or (scripts ++ (script ∷ [])) (length scripts) []))) (sym there)
-        (subst (λ s. ScriptIs name fs (Ok s)) (sym (at_last scripts script)) next))
+        subst (λ n. ScriptIs (n + 1) (slice_index_or names n []) fs (Ok (slice_index_or (scripts ++ (script ∷ [])) n []))) last
+        (subst (λ n. ScriptIs (length scripts + 1) n fs (Ok (slice_index_or (scripts ++ (script ∷ [])) (length scripts) []))) (sym there)
+        (subst (λ s. ScriptIs (length scripts + 1) name fs (Ok s)) (sym (at_last scripts script)) next))
 
 pub first_bad : (names : List (List ℕ)) (fs : Files) (scripts : List (List Command)) (name : List ℕ) (status : Status) → length scripts < length names → slice_index_or names (length scripts) [] ≡ name
-    → AreScripts names fs scripts → ScriptIs name fs (Err status) → ScriptsAre names fs (Err status)
+    → AreScripts names fs scripts → ScriptIs (length scripts + 1) name fs (Err status) → ScriptsAre names fs (Err status)
 first_bad names fs scripts name status within there good bad =
-    record { before = scripts; within = within; good = good; bad = subst (λ n. ScriptIs n fs (Err status)) (sym there) bad }
+    record { before = scripts; within = within; good = good; bad = subst (λ n. ScriptIs (length scripts + 1) n fs (Err status)) (sym there) bad }
 
 any_told : (files : Option Files) → IfSome files (λ fs. Unit {0})
 any_told None = tt

@@ -26,10 +26,6 @@ work_cause form before after work (Stuck desk serial) output asked done = absurd
 work_cause form before after work TooManyFindings output asked done = absurd done
 work_cause form before after work NotYet output asked done = absurd done
 
-not_yet : (form : Form) (before after : Outside) → IsSilent before after → (form ≡ later_form) ⊎ (IsBuilt form × IsAsked before form (Err NotYet)) → IsCauseOf form before after NotYet
-not_yet form before after silent (inl is) = inl (is, silent)
-not_yet form before after silent (inr asked) = inr (asked.0, silent, asked.1)
-
 pub refused_cause : (form : Form) (before after : Outside) (status : Status) → IsSilent before after
     → IsAskedBy form before.files before.read_faults after.read_faults (Err status) → IsCauseOf form before after status
 refused_cause form before after Done silent asked = absurd asked
@@ -37,14 +33,14 @@ refused_cause form before after WriteFault silent asked = absurd asked
 refused_cause form before after Usage silent asked = (asked, silent)
 refused_cause form before after (Absent name) silent asked = (asked.0, (asked.1, silent, asked.2))
 refused_cause form before after (BadCell fault) silent asked = (asked.0, silent, asked.1)
-refused_cause form before after (BadScript session line code) silent asked = absurd asked
+refused_cause form before after (BadScript session line code) silent asked = (asked.0, silent, asked.1)
 refused_cause form before after (ReadFault name) silent asked = (asked.0, silent, asked.1)
 refused_cause form before after (TooLarge name) silent asked = (asked.0, (asked.1, silent, asked.2))
 refused_cause form before after NoMemory silent asked = (asked, silent)
 refused_cause form before after (BadOrder place) silent asked = (asked.0, silent, asked.1)
 refused_cause form before after (Stuck desk serial) silent asked = absurd asked
 refused_cause form before after TooManyFindings silent asked = (asked.0, silent, asked.1)
-refused_cause form before after NotYet silent asked = not_yet form before after silent asked
+refused_cause form before after NotYet silent asked = (asked, silent)
 
 -- ---- where no device failed
 of_told : (told : Option Files) (files : Files) (P : Files → Type 0) → told ≡ Some files → IfSome told P → P files
@@ -69,15 +65,14 @@ exact_of form before after WriteFault cause files smooth = absurd (no_cut cause.
 exact_of form before after Usage cause files smooth = inl (none_asked form files cause.0)
 exact_of form before after (Absent name) cause files smooth = inl (asked_of form before after files (Err (Absent name)) smooth cause.1.2)
 exact_of form before after (BadCell fault) cause files smooth = inl (asked_of form before after files (Err (BadCell fault)) smooth cause.2)
-exact_of form before after (BadScript session line code) cause files smooth = absurd cause
+exact_of form before after (BadScript session line code) cause files smooth = inl (asked_of form before after files (Err (BadScript session line code)) smooth cause.2)
 exact_of form before after (ReadFault name) cause files smooth = absurd (smooth.reads cause.2)
 exact_of form before after (TooLarge name) cause files smooth = inl (asked_of form before after files (Err (TooLarge name)) smooth cause.1.2)
 exact_of form before after NoMemory cause files smooth = inr refl
 exact_of form before after (BadOrder place) cause files smooth = inl (asked_of form before after files (Err (BadOrder place)) smooth cause.2)
 exact_of form before after (Stuck desk serial) cause files smooth = absurd cause
 exact_of form before after TooManyFindings cause files smooth = inl (asked_of form before after files (Err TooManyFindings) smooth cause.2)
-exact_of form before after NotYet (inl later) files smooth = inl (later_asked form files later.0)
-exact_of form before after NotYet (inr refused) files smooth = inl (asked_of form before after files (Err NotYet) smooth refused.2)
+exact_of form before after NotYet later files smooth = inl (later_asked form files later.0)
 
 pub exact_from_cause : (words : List (List ℕ)) (before after : Outside) (status : Status) → IsCause words before after status → IsExact words before after status
 exact_from_cause words before after status cause = exact_of (form_of words) before after status cause
@@ -101,15 +96,14 @@ usage_of_none form before after WriteFault cause none = absurd (no_output form c
 usage_of_none form before after Usage cause none = refl
 usage_of_none form before after (Absent name) cause none = absurd (no_input form name cause.0 none)
 usage_of_none form before after (BadCell fault) cause none = absurd (not_built form cause.0 none)
-usage_of_none form before after (BadScript session line code) cause none = absurd cause
+usage_of_none form before after (BadScript session line code) cause none = absurd (not_built form cause.0 none)
 usage_of_none form before after (ReadFault name) cause none = absurd (no_input form name cause.0 none)
 usage_of_none form before after (TooLarge name) cause none = absurd (no_input form name cause.0 none)
 usage_of_none form before after NoMemory cause none = absurd (not_built form cause.0 none)
 usage_of_none form before after (BadOrder place) cause none = absurd (not_built form cause.0 none)
 usage_of_none form before after (Stuck desk serial) cause none = absurd cause
 usage_of_none form before after TooManyFindings cause none = absurd (not_built form cause.0 none)
-usage_of_none form before after NotYet (inl later) none = absurd (apart (subst (λ (f : Form). f ≡ no_form) later.0 none))
-usage_of_none form before after NotYet (inr refused) none = absurd (not_built form refused.0 none)
+usage_of_none form before after NotYet later none = absurd (apart (subst (λ (f : Form). f ≡ no_form) later.0 none))
 
 pub none_of_usage : (form : Form) (before after : Outside) (status : Status) → IsCauseOf form before after status → status ≡ Usage → form ≡ no_form
 none_of_usage form before after status cause is = (subst (IsCauseOf form before after) is cause).0
@@ -129,7 +123,7 @@ status_of_later form files reads after WriteFault asked later = absurd asked
 status_of_later form files reads after Usage asked later = absurd (apart (sym later ∙ asked))
 status_of_later form files reads after (Absent name) asked later = absurd (later_input form name asked.0 later)
 status_of_later form files reads after (BadCell fault) asked later = absurd (later_built form asked.0 later)
-status_of_later form files reads after (BadScript session line code) asked later = absurd asked
+status_of_later form files reads after (BadScript session line code) asked later = absurd (later_built form asked.0 later)
 status_of_later form files reads after (ReadFault name) asked later = absurd (later_input form name asked.0 later)
 status_of_later form files reads after (TooLarge name) asked later = absurd (later_input form name asked.0 later)
 status_of_later form files reads after NoMemory asked later = absurd (later_built form asked later)

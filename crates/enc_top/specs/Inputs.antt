@@ -1,5 +1,5 @@
 -- What input files are, or why a call ends there. A relation tells what a step answers where nothing fails. This project's own.
-use Rattle.std.specs.Prelude.{◌≡◌, ◌⊎◌, ℕ, ◌<◌, nat_lt, List, [], length, map, count_by, slice_index_or, Option, None, Some, Result, Ok, Err, IfSome, if◌then◌else◌}
+use Rattle.std.specs.Prelude.{◌≡◌, ◌⊎◌, ℕ, ◌+◌, ◌<◌, nat_lt, List, [], length, map, count_by, slice_index_or, Option, None, Some, Result, Ok, Err, IfSome, if◌then◌else◌}
 use Rattle.enc_outside.specs.Count.{Rose}
 use Rattle.enc_outside.specs.Files.{Files}
 use Rattle.file_spec.specs.DecodedCell.{decoded_cell}
@@ -8,7 +8,8 @@ use Rattle.rule_spec.specs.Kinds.{built_kinds}
 use Rattle.s57_types.specs.declared.cell.Cell.{Cell}
 use Rattle.s57_types.specs.declared.fault.CellFault.{CellFault}
 use Rattle.text_spec.specs.OrderLine.{order_of}
-use Rattle.text_spec.specs.ScriptLines.{IsMinimalScript, is_shared}
+use Rattle.text_spec.specs.ScriptLines.{IsScript, is_shared}
+use Rattle.script_text.specs.Faults.{IsFirstFault}
 use Rattle.text_spec.specs.declared.command.Command.{Command}
 use Rattle.history_spec.specs.Steps.{finding_limit}
 use Rattle.enc_top.specs.Task.{Task, check_task, run_task}
@@ -53,23 +54,24 @@ cell_in bytes = judged (decoded_cell bytes)
 abbrev pub CellIs : List ℕ → Files → Result Cell Status → Type 0
 CellIs name files = AndThen (FileIs cell_limit name files) (λ bytes answer. cell_in bytes ≡ answer)
 
--- a minimal script
-abbrev pub ScriptIn : List ℕ → Result (List Command) Status → Type 0
-ScriptIn bytes (Ok commands) = IsMinimalScript bytes commands
-ScriptIn bytes (Err status) = (status ≡ NotYet) × ((commands : List Command) → IsMinimalScript bytes commands → ⊥)
+-- the script of a session, or its first fault
+abbrev pub ScriptIn : ℕ → List ℕ → Result (List Command) Status → Type 0
+ScriptIn session bytes (Ok commands) = IsScript bytes commands
+ScriptIn session bytes (Err (BadScript number line code)) = (number ≡ session) × IsFirstFault bytes line code
+ScriptIn session bytes (Err other) = ⊥
 
-abbrev pub ScriptIs : List ℕ → Files → Result (List Command) Status → Type 0
-ScriptIs name files = AndThen (FileIs script_limit name files) ScriptIn
+abbrev pub ScriptIs : ℕ → List ℕ → Files → Result (List Command) Status → Type 0
+ScriptIs session name files = AndThen (FileIs script_limit name files) (ScriptIn session)
 
--- the scripts of all names, or the status of the first that has one
+-- the scripts of all names, for sessions from 1 on, or the status of the first that has one
 pub record AreScripts (names : List (List ℕ)) (files : Files) (scripts : List (List Command)) : Type 0 where
-  pub each : (k : ℕ) → k < length scripts → ScriptIs (slice_index_or names k []) files (Ok (slice_index_or scripts k []))
+  pub each : (k : ℕ) → k < length scripts → ScriptIs (k + 1) (slice_index_or names k []) files (Ok (slice_index_or scripts k []))
 
 pub record IsFirstBad (names : List (List ℕ)) (files : Files) (status : Status) : Type 0 where
   pub before : List (List Command)
   pub within : length before < length names
   pub good : AreScripts names files before
-  pub bad : ScriptIs (slice_index_or names (length before) []) files (Err status)
+  pub bad : ScriptIs (length before + 1) (slice_index_or names (length before) []) files (Err status)
 
 abbrev pub ScriptsAre : List (List ℕ) → Files → Result (List (List Command)) Status → Type 0
 ScriptsAre names files (Ok scripts) = (length scripts ≡ length names) × AreScripts names files scripts
@@ -119,7 +121,7 @@ IsInputStatus IsInput Done = ⊥
 IsInputStatus IsInput Usage = ⊥
 IsInputStatus IsInput (Absent name) = IsInput name
 IsInputStatus IsInput (BadCell fault) = Unit {0}
-IsInputStatus IsInput (BadScript session line code) = ⊥
+IsInputStatus IsInput (BadScript session line code) = Unit {0}
 IsInputStatus IsInput (ReadFault name) = IsInput name
 IsInputStatus IsInput WriteFault = ⊥
 IsInputStatus IsInput (TooLarge name) = IsInput name
@@ -127,7 +129,7 @@ IsInputStatus IsInput NoMemory = Unit {0}
 IsInputStatus IsInput (BadOrder place) = Unit {0}
 IsInputStatus IsInput (Stuck desk serial) = ⊥
 IsInputStatus IsInput TooManyFindings = Unit {0}
-IsInputStatus IsInput NotYet = Unit {0}
+IsInputStatus IsInput NotYet = ⊥
 
 -- one of these names
 abbrev pub IsAmong : List (List ℕ) → List ℕ → Type 0
@@ -145,6 +147,6 @@ abbrev pub IsJudged : {A B : Type 0} → (A → B) → Result B Status → Resul
 IsJudged seen expected (Ok a) = expected ≡ Ok (seen a)
 IsJudged seen expected (Err status) = (expected ≡ Err status) ⊎ (status ≡ NoMemory)
 
-abbrev pub IsJudgedScript : List ℕ → Result (List Command) Status → Type 0
-IsJudgedScript bytes (Ok commands) = IsMinimalScript bytes commands
-IsJudgedScript bytes (Err status) = ScriptIn bytes (Err status) ⊎ (status ≡ NoMemory)
+abbrev pub IsJudgedScript : ℕ → List ℕ → Result (List Command) Status → Type 0
+IsJudgedScript session bytes (Ok commands) = IsScript bytes commands
+IsJudgedScript session bytes (Err status) = ScriptIn session bytes (Err status) ⊎ (status ≡ NoMemory)

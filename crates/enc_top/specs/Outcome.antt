@@ -85,14 +85,14 @@ IsCauseOf form before after Done = (task : Task) × IsOutput form task × IsAske
 IsCauseOf form before after Usage = (form ≡ no_form) × IsSilent before after
 IsCauseOf form before after (Absent name) = IsInputOf form name × IsRefused form before after (Absent name)
 IsCauseOf form before after (BadCell fault) = IsRefused form before after (BadCell fault)
+IsCauseOf form before after (BadScript session line code) = IsRefused form before after (BadScript session line code)
 IsCauseOf form before after (ReadFault name) = IsInputOf form name × IsSilent before after × Rose before.read_faults after.read_faults
 IsCauseOf form before after WriteFault = (task : Task) × IsOutput form task × IsAsked before form (Ok task) × IsCut task before after
 IsCauseOf form before after (TooLarge name) = IsInputOf form name × IsRefused form before after (TooLarge name)
 IsCauseOf form before after NoMemory = IsBuilt form × IsSilent before after
 IsCauseOf form before after (BadOrder place) = IsRefused form before after (BadOrder place)
 IsCauseOf form before after TooManyFindings = IsRefused form before after TooManyFindings
-IsCauseOf form before after NotYet = ((form ≡ later_form) × IsSilent before after) ⊎ IsRefused form before after NotYet
-IsCauseOf form before after (BadScript session line code) = ⊥
+IsCauseOf form before after NotYet = (form ≡ later_form) × IsSilent before after
 IsCauseOf form before after (Stuck desk serial) = ⊥
 
 abbrev pub IsCause : List (List ℕ) → Outside → Outside → Status → Type 0
@@ -120,10 +120,11 @@ IsAskedBy form files before after (Err (ReadFault name)) = IsInputOf form name �
 IsAskedBy form files before after (Err NoMemory) = IsBuilt form
 IsAskedBy form files before after (Err (Absent name)) = IsInputOf form name × IsBuilt form × IfSome files (λ fs. OutputIs form fs (Err (Absent name)))
 IsAskedBy form files before after (Err (BadCell fault)) = IsBuilt form × IfSome files (λ fs. OutputIs form fs (Err (BadCell fault)))
+IsAskedBy form files before after (Err (BadScript session line code)) = IsBuilt form × IfSome files (λ fs. OutputIs form fs (Err (BadScript session line code)))
 IsAskedBy form files before after (Err (TooLarge name)) = IsInputOf form name × IsBuilt form × IfSome files (λ fs. OutputIs form fs (Err (TooLarge name)))
 IsAskedBy form files before after (Err (BadOrder place)) = IsBuilt form × IfSome files (λ fs. OutputIs form fs (Err (BadOrder place)))
 IsAskedBy form files before after (Err TooManyFindings) = IsBuilt form × IfSome files (λ fs. OutputIs form fs (Err TooManyFindings))
-IsAskedBy form files before after (Err NotYet) = (form ≡ later_form) ⊎ (IsBuilt form × IfSome files (λ fs. OutputIs form fs (Err NotYet)))
+IsAskedBy form files before after (Err NotYet) = form ≡ later_form
 IsAskedBy form files before after (Err other) = ⊥
 
 -- the work was done whole, or a device failed in its course

@@ -18,7 +18,7 @@ use enc_outside::Shelf;
 use order_text::{Order, OrderRefusal, read_order};
 use plain_history::FINDING_LIMIT;
 use s57_types::{Cell, Text};
-use script_text::{MinimalScriptRefusal, Script, read_minimal_script};
+use script_text::{Script, ScriptRefusal, read_script};
 use std::alloc::{AllocError, Global};
 
 /// How many bytes a cell file may have.
@@ -109,22 +109,28 @@ pub fn read_cell<H: Shelf>(alloc: Global, shelf: &mut H, name: &str) -> Result<C
     judge_cell(alloc, &bytes)
 }
 
-/// The script that bytes are.
-fn judge_script(alloc: Global, bytes: &[u8]) -> Result<Script, Status>
-    ensures judged { IsJudgedScript bytes.now result }
+/// The script of a session that bytes are.
+fn judge_script(alloc: Global, bytes: &[u8], session: u32) -> Result<Script, Status>
+    requires short { length bytes.now < 2 ^ 32 }
+    ensures judged { IsJudgedScript session bytes.now result }
     ensures runnable { IfOk result IsRunnable }
     ensures status { IfErr result (IsInputStatus (λ n. ⊥)) }
 {
-    match read_minimal_script(alloc, bytes) {
+    match read_script(alloc, bytes) {
         Ok(script) => Ok(script),
-        Err(MinimalScriptRefusal::NotMinimal) => Err(Status::NotYet),
-        Err(MinimalScriptRefusal::NoMemory) => Err(Status::NoMemory),
+        Err(ScriptRefusal::Fault { line, code }) => Err(Status::BadScript(session, line, code)),
+        Err(ScriptRefusal::NoMemory) => Err(Status::NoMemory),
     }
 }
 
-/// The script of an input file.
-fn read_script<H: Shelf>(alloc: Global, shelf: &mut H, name: &str) -> Result<Script, Status>
-    ensures tells { Tells (λ script. script) (ScriptIs name.now) (H.files shelf.old) (H.read_faults shelf.old) (H.read_faults shelf.new) result }
+/// The script of a session in an input file.
+fn read_session<H: Shelf>(
+    alloc: Global,
+    shelf: &mut H,
+    name: &str,
+    session: u32,
+) -> Result<Script, Status>
+    ensures tells { Tells (λ script. script) (ScriptIs session name.now) (H.files shelf.old) (H.read_faults shelf.old) (H.read_faults shelf.new) result }
     ensures runnable { IfOk result IsRunnable }
     ensures status { IfErr result (IsInputStatus (λ n. n ≡ name.now)) }
     ensures files { H.files shelf.new ≡ H.files shelf.old }
@@ -132,7 +138,7 @@ fn read_script<H: Shelf>(alloc: Global, shelf: &mut H, name: &str) -> Result<Scr
     ensures write_faults { H.write_faults shelf.new ≡ H.write_faults shelf.old }
 {
     let bytes = read_input(alloc, shelf, name, SCRIPT_LIMIT)?;
-    judge_script(alloc, &bytes)
+    judge_script(alloc, &bytes, session)
 }
 
 /// Appends a script.
@@ -143,12 +149,13 @@ fn push_script(scripts: &mut Vec<Script>, script: Script) -> Result<(), AllocErr
     Ok(())
 }
 
-/// The scripts of input files, in order.
+/// The scripts of sessions in input files, in order.
 pub fn read_scripts<H: Shelf>(
     alloc: Global,
     shelf: &mut H,
     names: &[String],
 ) -> Result<Vec<Script>, Status>
+    requires few { length names.now ≤ 16 }
     ensures tells { Tells (λ scripts. scripts.items) (ScriptsAre (map string_bytes names.now)) (H.files shelf.old) (H.read_faults shelf.old) (H.read_faults shelf.new) result }
     ensures many { IfOk result (λ scripts. length scripts.items ≡ length names.now) }
     ensures runnable { IfOk result (λ scripts. All IsRunnable scripts.items) }
@@ -158,8 +165,9 @@ pub fn read_scripts<H: Shelf>(
     ensures write_faults { H.write_faults shelf.new ≡ H.write_faults shelf.old }
 {
     let mut scripts = Vec::new(alloc);
-    for name in names {
-        let script = match read_script(alloc, shelf, name.as_str()) {
+    for (k, name) in names.iter().enumerate() {
+        let session = k as u32 + 1;
+        let script = match read_session(alloc, shelf, name.as_str(), session) {
             Ok(script) => script,
             Err(status) => return Err(status),
         };

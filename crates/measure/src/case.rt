@@ -1,6 +1,6 @@
 //! The cases by their names.
 
-use crate::{cells, fields, lookups, table};
+use crate::{cells, fields, lookups, scripts, table};
 use std::fmt;
 
 /// What is timed.
@@ -20,6 +20,8 @@ pub enum Case {
     Fields(fields::Work),
     /// A generated cell read or written; the size is how often.
     Cells(cells::Work),
+    /// Scripts at their limits read; the size is how often.
+    Scripts(scripts::Work),
 }
 
 impl Case {
@@ -33,7 +35,8 @@ impl Case {
                 .map(Case::Table)
                 .or_else(|| lookups::Work::of(name).map(Case::Lookups))
                 .or_else(|| fields::Work::of(name).map(Case::Fields))
-                .or_else(|| cells::Work::of(name).map(Case::Cells)),
+                .or_else(|| cells::Work::of(name).map(Case::Cells))
+                .or_else(|| scripts::Work::of(name).map(Case::Scripts)),
         }
     }
 }
@@ -48,6 +51,7 @@ impl fmt::Display for Case {
             Case::Lookups(work) => work.fmt(f),
             Case::Fields(work) => work.fmt(f),
             Case::Cells(work) => work.fmt(f),
+            Case::Scripts(work) => work.fmt(f),
         }
     }
 }

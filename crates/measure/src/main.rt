@@ -9,6 +9,7 @@ mod case;
 mod cells;
 mod fields;
 mod lookups;
+mod scripts;
 mod segments;
 mod table;
 mod turns;
@@ -37,6 +38,7 @@ fn outcome<R: Threads + Wait + Sync>(
         Case::Lookups(work) => lookups::outcome(alloc, work, size),
         Case::Fields(work) => fields::outcome(alloc, work, size),
         Case::Cells(work) => cells::outcome(alloc, work, size),
+        Case::Scripts(work) => scripts::outcome(alloc, work, size),
     }
 }
 

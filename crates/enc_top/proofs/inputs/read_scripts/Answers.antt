@@ -16,10 +16,10 @@ returns-in-Err-clause-tells g c =
     let within = c.loop-name-test.true in
     let there = ap (λ k. slice_index_or names k []) before.many ∙ name_there c.args.names.now c.loop-name.name-index c.name-item.result within c.name-item.is ∙ sym c.as_str.ensures.value in
     let inside : length c.loop-name.scripts.items < length names = (let many = before.many in let all = length-map c.args.names.now string_bytes in omega (arith, within, many, all)) in
-    tells_later (λ script. script) (λ (scripts : Vec Script Global). scripts.items) (ScriptIs c.as_str.result.now) (ScriptsAre names) (λ fs. AreScripts names fs c.loop-name.scripts.items)
+    tells_later (λ script. script) (λ (scripts : Vec Script Global). scripts.items) (ScriptIs c.session c.as_str.result.now) (ScriptsAre names) (λ fs. AreScripts names fs c.loop-name.scripts.items)
     (g.H.Shelf.files c.args.shelf.now) (g.H.Shelf.read_faults c.args.shelf.now) (g.H.Shelf.read_faults c.loop-name.shelf) (g.H.Shelf.read_faults c.read_script.new.shelf) c.in-Err.status
     before.read_faults before.good (λ fs good bad. first_bad names fs c.loop-name.scripts.items c.as_str.result.now c.in-Err.status inside there good bad)
-    (subst (λ files. Tells (λ script. script) (ScriptIs c.as_str.result.now) files (g.H.Shelf.read_faults c.loop-name.shelf) (g.H.Shelf.read_faults c.read_script.new.shelf) (Err c.in-Err.status)) before.files c.in-Err.ensures.tells)
+    (subst (λ files. Tells (λ script. script) (ScriptIs c.session c.as_str.result.now) files (g.H.Shelf.read_faults c.loop-name.shelf) (g.H.Shelf.read_faults c.read_script.new.shelf) (Err c.in-Err.status)) before.files c.in-Err.ensures.tells)
 
 pub returns-in-Err-clause-status : goal.returns-in-Err-clause-status
 returns-in-Err-clause-status g c =
@@ -36,7 +36,7 @@ loop-name-preserved g c =
     let within = c.loop-name-test.true in
     let scripts = c.loop-name.scripts.items in
     let there = ap (λ k. slice_index_or names k []) before.many ∙ name_there c.args.names.now c.loop-name.name-index c.name-item.result within c.name-item.is ∙ sym c.as_str.ensures.value in
-    let tells = subst (λ files. Tells (λ script. script) (ScriptIs c.as_str.result.now) files (g.H.Shelf.read_faults c.loop-name.shelf) (g.H.Shelf.read_faults c.read_script.new.shelf) (Ok c.in-Ok.script)) before.files c.in-Ok.ensures.tells in
+    let tells = subst (λ files. Tells (λ script. script) (ScriptIs c.session c.as_str.result.now) files (g.H.Shelf.read_faults c.loop-name.shelf) (g.H.Shelf.read_faults c.read_script.new.shelf) (Ok c.in-Ok.script)) before.files c.in-Ok.ensures.tells in
     let pushed = c.in_ok-push_script.ensures in
     record {
       many = (let one = ap length pushed in let more = length-append scripts (c.in-Ok.script ∷ []) in let many = before.many in omega (arith, one, more, many));

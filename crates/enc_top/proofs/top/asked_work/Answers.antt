@@ -36,7 +36,7 @@ pub returns-then-is_later_form-clause-asked : goal.returns-then-is_later_form-cl
 returns-then-is_later_form-clause-asked g c =
     let check = ap (is_word (codes "check")) (sym c.as_str-first.ensures.value) ∙ sym c.if-eq.ensures in
     let replay = ap (is_word (codes "replay")) (sym c.as_str-first.ensures.value) ∙ sym c.if-eq-2.ensures in
-    inl (later_words c.args.words.now c.first-item.result (take (length c.args.words.now - 1) (drop 1 c.args.words.now)) c.in-len1-up.len_at_least c.first-item.is (behind 1 c.args.words.now) check replay (sym c.if-is_later_form.ensures))
+    (later_words c.args.words.now c.first-item.result (take (length c.args.words.now - 1) (drop 1 c.args.words.now)) c.in-len1-up.len_at_least c.first-item.is (behind 1 c.args.words.now) check replay (sym c.if-is_later_form.ensures))
 
 pub returns-clause-asked : goal.returns-clause-asked
 returns-clause-asked g c =
