@@ -18,14 +18,14 @@ use Rattle.rule_spec.specs.Findings.{finding_total}
 use Rattle.rule_spec.specs.Kinds.{built_kinds}
 use Rattle.text_spec.specs.EditLine.{edit_line}
 use Rattle.text_spec.specs.Lines.{line}
-use Rattle.history_spec.specs.ReportText.{commit_text}
+use Rattle.history_spec.specs.ReportText.{base_after, commit_text}
 use Rattle.history_spec.specs.Sessions.{Request as Asked, request_step, event_of}
 use Rattle.history_spec.specs.Steps.{AcceptedCommit, Event, History, answer, cell_after, clash_with, commit, edit_named, faulty, first_of, left_after, newer_answer, shared_names, state_refusal, view}
 use Rattle.history_spec.specs.declared.refusal.StateRefusal.{StateRefusal}
 use Rattle.history_spec.specs.declared.reply.Reply.{Reply}
 use Rattle.history_spec.specs.declared.reply.Reply.TheVariants.{Viewed, Formed, Newer, Refused, Accepted}
 use Rattle.plain_history.specs.Kept.{IsNewer}
-use Rattle.plain_replay.specs.Runs.{accepted_text, commit_texts}
+use Rattle.plain_replay.specs.Runs.{accepted_seen, accepted_text, commit_texts}
 
 -- ---- a clash is told by a newer commit
 clash_by : (number desk : ℕ) (edits : List Edit) (first : Option RecName) → IfSome (option_and_then (λ n. option_map (Newer number n desk) (edit_named n edits)) first) IsNewer
@@ -109,24 +109,36 @@ module _ (c : Cell) (h : History) (on : h.cell ≡ cell_after (length h.commits)
 abbrev pub IsOn : Cell → History → Type 0
 IsOn c h = h.cell ≡ cell_after (length h.commits) h.commits c
 
--- after a reply, the lines of the commits have grown by that of the reply, and the cell is that after all commits
+-- after a reply, the lines of the commits have grown by that of the reply, and the cell is that after all commits; the
+-- cells after the earlier commits are the same, and the base that the reply names is the number of a commit
 pub record IsGrown (c : Cell) (h after : History) (reply : Reply) : Type 0 where
   pub texts : commit_texts c after.commits ≡ commit_texts c h.commits ++ accepted_text after.commits reply
   pub on : IsOn c after
+  pub kept : (n : ℕ) → n ≤ length h.commits → cell_after n after.commits c ≡ cell_after n h.commits c
+  pub count : (limit : ℕ) (d : Cell) → length after.commits ≡ length h.commits + length (accepted_seen limit d reply)
+  pub base : base_after reply 0 ≤ length after.commits
 
 by_answers : (c : Cell) (h : History) → IsOn c h → (desk base : ℕ) (edits : List Edit) (newer : Option Reply) (refusal : Option StateRefusal) → IfSome newer IsNewer
     → (let reply = option_map_or (λ r. r) newer (option_map_or Refused refusal (Accepted (length h.commits + 1) (finding_total built_kinds (apply_edits edits h.cell)))) in IsGrown c h (left_after desk (commit base edits) reply h) reply)
 by_answers c h on desk base edits (Some (Viewed number findings)) refusal is = absurd is
 by_answers c h on desk base edits (Some (Formed fault)) refusal is = absurd is
-by_answers c h on desk base edits (Some (Newer number name other edit)) refusal is = record { texts = sym (append-nil (commit_texts c h.commits)); on = on }
+by_answers c h on desk base edits (Some (Newer number name other edit)) refusal is = record { texts = sym (append-nil (commit_texts c h.commits)); on = on; kept = λ n within. refl; count = λ limit d. omega arith; base = omega arith }
 by_answers c h on desk base edits (Some (Refused reason)) refusal is = absurd is
 by_answers c h on desk base edits (Some (Accepted number findings)) refusal is = absurd is
-by_answers c h on desk base edits None (Some refusal) is = record { texts = sym (append-nil (commit_texts c h.commits)); on = on }
-by_answers c h on desk base edits None None is = record { texts = taken_texts c h on desk edits; on = taken_on c h on desk edits }
+by_answers c h on desk base edits None (Some refusal) is = record { texts = sym (append-nil (commit_texts c h.commits)); on = on; kept = λ n within. refl; count = λ limit d. omega arith; base = omega arith }
+by_answers c h on desk base edits None None is =
+    let all : length (h.commits ++ (accepted c h on desk edits ∷ [])) ≡ length h.commits + 1 = length-append h.commits (accepted c h on desk edits ∷ []) in
+    record {
+      texts = taken_texts c h on desk edits;
+      on = taken_on c h on desk edits;
+      kept = λ n within. cell_before h.commits (accepted c h on desk edits) c n within;
+      count = λ limit d. omega (arith, all);
+      base = omega (arith, all);
+    }
 
 by_event : (c : Cell) (h : History) → IsOn c h → (desk : ℕ) (event : Event) → IsGrown c h (left_after desk event (answer built_kinds h event) h) (answer built_kinds h event)
-by_event c h on desk view = record { texts = sym (append-nil (commit_texts c h.commits)); on = on }
-by_event c h on desk (faulty fault) = record { texts = sym (append-nil (commit_texts c h.commits)); on = on }
+by_event c h on desk view = record { texts = sym (append-nil (commit_texts c h.commits)); on = on; kept = λ n within. refl; count = λ limit d. omega arith; base = omega arith }
+by_event c h on desk (faulty fault) = record { texts = sym (append-nil (commit_texts c h.commits)); on = on; kept = λ n within. refl; count = λ limit d. omega arith; base = omega arith }
 by_event c h on desk (commit base edits) =
     by_answers c h on desk base edits (newer_answer h.commits base edits) (state_refusal built_kinds h.cell edits) (first_newer edits (drop base (enumerate_from 1 h.commits)))
 

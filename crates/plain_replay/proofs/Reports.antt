@@ -18,9 +18,10 @@ use Rattle.text_spec.specs.OrderLine.{order_line}
 use Rattle.text_spec.specs.declared.command.Command.{Command}
 use Rattle.history_spec.specs.ReportText.{final_cell, report, session_text}
 use Rattle.history_spec.specs.Sessions.{Request as Asked, ordered_requests, replies_to, request_at, requests_of, script_of}
-use Rattle.history_spec.specs.Steps.{History, cell_after}
+use Rattle.history_spec.specs.Steps.{AcceptedCommit, History, cell_after}
 use Rattle.history_spec.specs.declared.reply.Reply.{Reply}
 use Rattle.plain_history.specs.Kept.{state_of}
+use Rattle.report_text.specs.SeenFindings.{AreSeen}
 use Rattle.plain_replay.specs.Requests.{request_of}
 use Rattle.plain_replay.specs.declared.request.Request.{Request}
 use Rattle.plain_replay.specs.Runs.{IsRun, asked_at, asked_lists}
@@ -56,7 +57,7 @@ same_requests lists scripts order is =
     ∙ (λ i. filter_map (λ place. same_request scripts order place i) (enumerate_from 0 order))
 
 -- ---- the whole
-module _ (c : Cell) (scripts : List (List Command)) (order : List ℕ) (run : Run) where
+module _ (limit : ℕ) (c : Cell) (scripts : List (List Command)) (order : List ℕ) (run : Run) where
   abbrev told : List ℕ → History → List (ℕ × Reply) → List ℕ
   told commits last replies =
       ((order_line order
@@ -64,19 +65,24 @@ module _ (c : Cell) (scripts : List (List Command)) (order : List ℕ) (run : Ru
       ++ (line (codes "history") [] ++ commits))
       ++ text_with last.cell (all_findings built_kinds last.cell)
 
-  pub whole_report : (lists : List (List Asked)) (text : List ℕ) → lists ≡ map requests_of scripts → IsRun c (filter_map (asked_at lists order) (enumerate_from 0 order)) run
+  pub whole_report : (lists : List (List Asked)) (text : List ℕ) → lists ≡ map requests_of scripts → IsRun limit c (filter_map (asked_at lists order) (enumerate_from 0 order)) run
       → text ≡ told run.commits.items (state_of run.history) run.replies.items → text ≡ report built_kinds c scripts order
   unfolding report
   whole_report lists text requests ran is =
       let asked = same_requests lists scripts order requests in
-      let all : IsRun c (ordered_requests scripts order) run = subst (λ told. IsRun c told run) asked ran in
+      let all : IsRun limit c (ordered_requests scripts order) run = subst (λ told. IsRun limit c told run) asked ran in
       is ∙ (λ i. told (all.commits_are i) (all.state_is i) (all.replies_are i))
 
-  pub left_cell : (lists : List (List Asked)) → lists ≡ map requests_of scripts → IsRun c (filter_map (asked_at lists order) (enumerate_from 0 order)) run
+  -- what may be shown is of the cells after so many of the commits that are kept
+  pub seen_cells : (asked : List (ℕ × Asked)) → IsRun limit c asked run → AreSeen limit (λ n. cell_after n run.history.commits c) run.seen.items
+  seen_cells asked ran =
+      subst (λ (commits : List AcceptedCommit). AreSeen limit (λ n. cell_after n commits c) run.seen.items) (sym (ap (λ (last : History). last.commits) ran.state_is)) ran.seen_are.each
+
+  pub left_cell : (lists : List (List Asked)) → lists ≡ map requests_of scripts → IsRun limit c (filter_map (asked_at lists order) (enumerate_from 0 order)) run
       → run.history.cell ≡ final_cell built_kinds c scripts order
   unfolding final_cell
   left_cell lists requests ran =
-      let all : IsRun c (ordered_requests scripts order) run = subst (λ told. IsRun c told run) (same_requests lists scripts order requests) ran in
+      let all : IsRun limit c (ordered_requests scripts order) run = subst (λ told. IsRun limit c told run) (same_requests lists scripts order requests) ran in
       ap (λ (last : History). last.cell) all.state_is
 
 pub as_many : (requests : List (Vec Request Global)) (scripts : List (List Command)) → asked_lists requests ≡ map requests_of scripts → length requests ≡ length scripts

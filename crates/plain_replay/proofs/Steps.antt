@@ -1,15 +1,18 @@
 -- One more request of a run.
-use Rattle.std.proofs.Common.{◌≡◌, ℕ, List, [], ◌∷◌, ◌++◌, refl, sym, ap, ◌∙◌}
+use Rattle.std.proofs.Common.{◌≡◌, ℕ, List, [], ◌∷◌, ◌++◌, All, length, refl, sym, ap, ◌∙◌, subst, length-append, arith}
 use Rattle.std.proofs.lemmas.List.Sums.{fold-append}
+use Rattle.std.proofs.lemmas.List.Elements.{All-push}
 use Rattle.s57_types.specs.declared.cell.Cell.{Cell}
 use Rattle.rule_spec.specs.Kinds.{built_kinds}
 use Rattle.history_spec.specs.Sessions.{Request as Asked, history_after, replies_from, request_step}
 use Rattle.history_spec.specs.Steps.{History, opening}
 use Rattle.history_spec.specs.declared.reply.Reply.{Reply}
 use Rattle.plain_history.specs.Kept.{IsAnswered, state_of}
-use Rattle.plain_replay.specs.Runs.{IsRun, accepted_text, commit_texts}
+use Rattle.plain_replay.specs.Runs.{AreSeenAfter, IsRun, accepted_seen, accepted_text, commit_texts}
 use Rattle.plain_replay.specs.declared.run.Run.{Run}
+use Rattle.report_text.specs.Transcript.{IsBaseBelow}
 use Rattle.plain_replay.proofs.CommitTexts.{IsOn, grown}
+use Rattle.plain_replay.proofs.SeenCells.{seen_more}
 
 pub replies_more : (h : History) (asked : List (ℕ × Asked)) (told : ℕ × Asked)
     → replies_from built_kinds h (asked ++ (told ∷ [])) ≡ replies_from built_kinds h asked ++ ((told.0, (request_step built_kinds (history_after built_kinds h asked) told).0) ∷ [])
@@ -23,18 +26,33 @@ on_from : (c : Cell) (h : History) → IsOn c h → (asked : List (ℕ × Asked)
 on_from c h on [] = on
 on_from c h on (told ∷ asked) = on_from c (request_step built_kinds h told).1 (grown c h on told).on asked
 
-pub run_more : (c : Cell) (asked : List (ℕ × Asked)) (before after : Run) (desk : ℕ) (request : Asked) (reply : Reply) → IsRun c asked before → IsAnswered (state_of before.history) desk request reply (state_of after.history)
-    → after.commits.items ≡ before.commits.items ++ accepted_text after.history.commits reply → after.replies.items ≡ before.replies.items ++ ((desk, reply) ∷ []) → IsRun c (asked ++ ((desk, request) ∷ [])) after
-run_more c asked before after desk request reply run answered texts replies =
+abbrev IsBaseOf : Run → ℕ × Reply → Type 0
+IsBaseOf run told = IsBaseBelow (length run.seen.items) told.1
+
+pub run_more : (limit : ℕ) (c : Cell) (asked : List (ℕ × Asked)) (before after : Run) (desk : ℕ) (request : Asked) (reply : Reply) → IsRun limit c asked before → IsAnswered (state_of before.history) desk request reply (state_of after.history)
+    → after.commits.items ≡ before.commits.items ++ accepted_text after.history.commits reply → after.replies.items ≡ before.replies.items ++ ((desk, reply) ∷ [])
+    → after.limit ≡ before.limit → after.seen.items ≡ before.seen.items ++ accepted_seen before.limit after.history.cell reply → IsRun limit c (asked ++ ((desk, request) ∷ [])) after
+run_more limit c asked before after desk request reply run answered texts replies same seen =
     let told : ℕ × Asked = (desk, request) in
     let h = history_after built_kinds (opening c) asked in
     let state : state_of after.history ≡ (request_step built_kinds h told).1 = answered.state_is ∙ ap (λ (s : History). (request_step built_kinds s told).1) run.state_is in
     let answer : reply ≡ (request_step built_kinds h told).0 = answered.reply_is ∙ ap (λ (s : History). (request_step built_kinds s told).0) run.state_is in
+    let more = grown c h (on_from c (opening c) refl asked) told in
+    let shown : after.seen.items ≡ before.seen.items ++ accepted_seen limit (request_step built_kinds h told).1.cell (request_step built_kinds h told).0 =
+    seen ∙ (λ i. before.seen.items ++ accepted_seen (run.limit_is i) (state i).cell (answer i)) in
+    let seen_are : AreSeenAfter limit c (request_step built_kinds h told).1.commits after.seen.items =
+    subst (AreSeenAfter limit c (request_step built_kinds h told).1.commits) (sym shown) (seen_more limit c h (request_step built_kinds h told).1 (request_step built_kinds h told).0 before.seen.items more run.seen_are) in
     record {
       state_is = state ∙ sym (state_more (opening c) asked told);
       replies_are = replies ∙ (λ i. run.replies_are i ++ ((desk, answer i) ∷ [])) ∙ sym (replies_more (opening c) asked told);
       commits_are =
           texts ∙ (λ i. run.commits_are i ++ accepted_text (state i).commits (answer i))
-          ∙ sym (grown c h (on_from c (opening c) refl asked) told).texts
+          ∙ sym more.texts
           ∙ ap (λ (s : History). commit_texts c s.commits) (sym (state_more (opening c) asked told));
+      limit_is = same ∙ run.limit_is;
+      seen_are = subst (λ (s : History). AreSeenAfter limit c s.commits after.seen.items) (sym (state_more (opening c) asked told)) seen_are;
+      bases_are = subst (All (IsBaseOf after)) (sym replies)
+          (All-push (IsBaseOf after) before.replies.items (desk, reply)
+          (λ k d within. let earlier = run.bases_are k d within in let longer = ap length seen ∙ length-append before.seen.items (accepted_seen before.limit after.history.cell reply) in omega (arith, earlier, longer))
+          (subst (IsBaseBelow (length after.seen.items)) (sym answer) (let base = more.base in let count = seen_are.count in omega (arith, base, count))));
     }

@@ -1,8 +1,6 @@
 -- What the commands of a script ask of the history. This project's own rules.
-use Rattle.std.specs.Prelude.{◌≡◌, ◌<◌, ◌^◌, true, List, [], ◌∷◌, ◌++◌, length}
-use Rattle.std.specs.List.{list_all}
+use Rattle.std.specs.Prelude.{◌<◌, ◌^◌, List, [], ◌∷◌, ◌++◌, length}
 use Rattle.cell_spec.specs.declared.edit.Edit.{Edit}
-use Rattle.text_spec.specs.ScriptLines.{is_minimal_command}
 use Rattle.text_spec.specs.declared.command.Command.{Command}
 use Rattle.text_spec.specs.declared.command.Command.TheVariants.{View, Commit, Drop, List as Findings, Push}
 use Rattle.history_spec.specs.Sessions.{Request as Asked, see, offer}
@@ -33,7 +31,6 @@ draft_after Drop draft = []
 draft_after (Findings shown) draft = draft
 draft_after (Push edit) draft = draft ++ (edit ∷ [])
 
--- a minimal script of fewer than 2^32 commands
-pub record IsRunnable (script : List Command) : Type 0 where
-  pub minimal : list_all is_minimal_command script ≡ true
-  pub few : length script < 2 ^ 32
+-- a script of fewer than 2^32 commands
+abbrev pub IsRunnable : List Command → Type 0
+IsRunnable script = length script < 2 ^ 32

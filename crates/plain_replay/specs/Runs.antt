@@ -1,5 +1,5 @@
 -- A run of requests in an order: the history, the replies, and the lines of the accepted commits. This project's own.
-use Rattle.std.specs.Prelude.{◌≡◌, ℕ, ◌+◌, ◌-◌, ◌<◌, ◌==◌, List, [], ◌∷◌, ◌++◌, Vec, map, codes, count_by, length, slice_get, slice_index, slice_index_or, take, drop, Option}
+use Rattle.std.specs.Prelude.{◌≡◌, ℕ, ◌+◌, ◌-◌, ◌<◌, ◌==◌, List, [], ◌∷◌, ◌++◌, Vec, All, map, codes, count_by, length, slice_get, slice_index, slice_index_or, take, drop, Option}
 use Rattle.std.specs.Fmt.{decimal}
 use Rattle.std.specs.List.{enumerate_from, flat_map}
 use Rattle.std.specs.Option.{option_map}
@@ -14,6 +14,9 @@ use Rattle.history_spec.specs.Steps.{AcceptedCommit, cell_after, opening}
 use Rattle.history_spec.specs.declared.reply.Reply.{Reply}
 use Rattle.history_spec.specs.declared.reply.Reply.TheVariants.{Viewed, Formed, Newer, Refused, Accepted}
 use Rattle.plain_history.specs.Kept.{state_of}
+use Rattle.report_text.specs.SeenFindings.{AreSeen, seen_of}
+use Rattle.report_text.specs.Transcript.{IsBaseBelow}
+use Rattle.report_text.specs.declared.seen.Seen.{Seen}
 use Rattle.plain_replay.specs.Requests.{request_of}
 use Rattle.plain_replay.specs.declared.request.Request.{Request}
 use Rattle.plain_replay.specs.declared.run.Run.{Run}
@@ -32,11 +35,28 @@ accepted_text commits (Accepted number findings) =
     flat_map (λ (accepted : AcceptedCommit). line (codes "commit") (decimal number ∷ codes "desk" ∷ decimal accepted.desk ∷ codes "findings" ∷ decimal findings ∷ []) ++ flat_map edit_line accepted.edits)
     (drop (length commits - 1) commits)
 
--- these requests were answered, one after the other, from the opening of a cell on
-pub record IsRun (c : Cell) (asked : List (ℕ × Asked)) (run : Run) : Type 0 where
+-- what may be shown of a cell that a commit has just left
+abbrev pub accepted_seen : ℕ → Cell → Reply → List Seen
+accepted_seen limit c (Viewed number findings) = []
+accepted_seen limit c (Formed fault) = []
+accepted_seen limit c (Newer number name desk edit) = []
+accepted_seen limit c (Refused refusal) = []
+accepted_seen limit c (Accepted number findings) = seen_of limit c ∷ []
+
+-- what may be shown of the cell after no commit, one commit and so on up to all of these
+pub record AreSeenAfter (limit : ℕ) (c : Cell) (commits : List AcceptedCommit) (seen : List Seen) : Type 0 where
+  pub count : length seen ≡ length commits + 1
+  pub each : AreSeen limit (λ n. cell_after n commits c) seen
+
+-- these requests were answered, one after the other, from the opening of a cell on; at most so many findings are shown of
+-- a cell, and each base that an answer names is the number of a commit that was accepted by then
+pub record IsRun (limit : ℕ) (c : Cell) (asked : List (ℕ × Asked)) (run : Run) : Type 0 where
   pub state_is : state_of run.history ≡ history_after built_kinds (opening c) asked
   pub replies_are : run.replies.items ≡ replies_from built_kinds (opening c) asked
   pub commits_are : run.commits.items ≡ commit_texts c (history_after built_kinds (opening c) asked).commits
+  pub limit_is : run.limit ≡ limit
+  pub seen_are : AreSeenAfter limit c (history_after built_kinds (opening c) asked).commits run.seen.items
+  pub bases_are : All (λ (told : ℕ × Reply). IsBaseBelow (length run.seen.items) told.1) run.replies.items
 
 -- the requests of each session
 abbrev pub asked_lists : List (Vec Request Global) → List (List Asked)

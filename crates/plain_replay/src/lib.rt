@@ -4,5 +4,6 @@
 mod report;
 mod request;
 mod run;
+mod shown;
 
 pub use report::{Replayed, replay};

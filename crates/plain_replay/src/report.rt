@@ -8,6 +8,8 @@ ghost use Rattle.edge_findings.specs.AllFindings.{IsAllOf};
 ghost use Rattle.history_spec.specs.ReportText.{final_cell, report, session_text};
 ghost use Rattle.s57_types.specs.declared.cell.Cell.{Cell as SpecCell};
 ghost use Rattle.text_spec.specs.Lines.{line};
+ghost use Rattle.report_text.specs.SeenFindings.{AreSeen, ShowsAtMost};
+ghost use Rattle.report_text.specs.Transcript.{IsBaseBelow};
 ghost use Rattle.history_spec.specs.Sessions.{replies_to as replies_to_lem, requests_of as requests_of_lem, script_of};
 ghost use Rattle.history_spec.specs.Steps.{finding_limit};
 ghost use Rattle.plain_history.specs.Kept.{desk_limit};
@@ -16,10 +18,11 @@ ghost use Rattle.plain_replay.specs.Runs.{asked_lists};
 
 use crate::request::{Request, requests_of};
 use crate::run::{Run, run_in_order};
+use crate::shown::most_shown;
 use edge_findings::{Findings, push_cell};
 use history_spec::Reply;
 use plain_history::History;
-use report_text::{push_order, push_session};
+use report_text::{Seen, push_order, push_session};
 use s57_types::Cell;
 use script_text::Script;
 use std::alloc::{AllocError, Global};
@@ -27,7 +30,7 @@ use text_lines::push_text;
 
 /// The requests of each script.
 fn all_requests(alloc: Global, scripts: &[Script]) -> Result<Vec<Vec<Request>>, AllocError>
-    requires minimal { All IsRunnable scripts.now }
+    requires runnable { All IsRunnable scripts.now }
     ensures asked { IfOk result (λ lists. asked_lists lists.items ≡ map requests_of_lem scripts.now) }
     ensures fewer { IfOk result (λ lists. All (λ list. All IsFewer list.items) lists.items) }
 {
@@ -61,16 +64,19 @@ fn push_sessions(
     out: &mut Vec<u8>,
     scripts: &[Script],
     replies: &[(u32, Reply)],
+    seen: &[Seen],
 ) -> Result<(), AllocError>
     requires few { length scripts.now ≤ desk_limit }
-    requires minimal { All IsRunnable scripts.now }
-    ensures { (at : ℕ → SpecCell) → OnOk result (out.new.items ≡ out.old.items
+    requires runnable { All IsRunnable scripts.now }
+    requires opened { 0 < length seen.now }
+    requires bases { All (λ told. IsBaseBelow (length seen.now) told.1) replies.now }
+    ensures { (limit : ℕ) (at : ℕ → SpecCell) → AreSeen limit at seen.now → All (All (ShowsAtMost limit)) scripts.now → OnOk result (out.new.items ≡ out.old.items
         ++ flat_map (λ session. session_text built_kinds at session (script_of scripts.now session) (replies_to_lem session replies.now)) (range_with_len 1 (length scripts.now))) }
 {
     for (k, script) in scripts.iter().enumerate() {
         let session = k as u32 + 1;
         let found = replies_to(alloc, session, replies)?;
-        push_session(out, session, script.commands(), &found)?;
+        push_session(out, session, script.commands(), &found, seen)?;
     }
     Ok(())
 }
@@ -105,7 +111,7 @@ pub fn replay(
     requires cell { IsWritable cell }
     requires findings { IsAllOf cell finding_limit findings }
     requires few { length scripts.now ≤ desk_limit }
-    requires minimal { All IsRunnable scripts.now }
+    requires runnable { All IsRunnable scripts.now }
     requires sessions { All (λ session. (1 ≤ session) × (session ≤ length scripts.now)) order.now }
     ensures report { IfOk result (λ replayed. replayed.report.items ≡ report built_kinds cell scripts.now order.now) }
     ensures cell { IfOk result (λ replayed. replayed.cell ≡ final_cell built_kinds cell scripts.now order.now) }
@@ -113,10 +119,11 @@ pub fn replay(
 {
     let history = History::open(alloc, cell, findings);
     let requests = all_requests(alloc, scripts)?;
-    let run = run_in_order(alloc, history, &requests, order)?;
+    let limit = most_shown(scripts);
+    let run = run_in_order(alloc, history, &requests, order, limit)?;
     let mut out = Vec::new(alloc);
     push_order(&mut out, order)?;
-    push_sessions(alloc, &mut out, scripts, &run.replies)?;
+    push_sessions(alloc, &mut out, scripts, &run.replies, &run.seen)?;
     push_history(&mut out, &run.commits)?;
     push_cell(&mut out, run.history.cell(), run.history.findings())?;
     Ok(Replayed {

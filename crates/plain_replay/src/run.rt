@@ -7,20 +7,23 @@ ghost use Rattle.history_spec.specs.Sessions.{Request as Asked};
 ghost use Rattle.history_spec.specs.Steps.{opening};
 ghost use Rattle.plain_history.specs.Kept.{IsAnswered, desk_limit, state_of};
 ghost use Rattle.plain_replay.specs.Requests.{IsFewer, request_of};
-ghost use Rattle.plain_replay.specs.Runs.{AreCounts, IsRun, accepted_text, asked_after, asked_at, asked_lists};
+ghost use Rattle.plain_replay.specs.Runs.{AreCounts, IsRun, accepted_seen, accepted_text, asked_after, asked_at, asked_lists};
 
 use crate::request::Request;
 use history_spec::Reply;
 use plain_history::History;
-use report_text::{known_lines, push_commit};
+use report_text::{Seen, known_lines, push_commit};
 use std::alloc::{AllocError, Global};
 
-/// What a run has come to: the history, the replies with their sessions, and the lines of the accepted commits.
+/// What a run has come to: the history, the replies with their sessions, the lines of the accepted commits, and what may
+/// be shown of the cell after no commit, one commit and so on, of each at most so many findings.
 #[derive(Debug, Drop)]
 pub struct Run {
     pub history: History,
     pub replies: Vec<(u32, Reply)>,
     pub commits: Vec<u8>,
+    pub limit: u32,
+    pub seen: Vec<Seen>,
 }
 
 /// Answers a request of a session.
@@ -66,14 +69,32 @@ fn push_accepted(
     )
 }
 
+/// Keeps what may be shown of the cell after a commit that was just accepted.
+fn push_seen(
+    alloc: Global,
+    seen: &mut Vec<Seen>,
+    limit: u32,
+    history: &History,
+    reply: &Reply,
+) -> Result<(), AllocError>
+    ensures { OnOk result (seen.new.items ≡ seen.old.items ++ accepted_seen limit history.now.cell reply.now) }
+{
+    let Reply::Accepted { .. } = reply else {
+        return Ok(());
+    };
+    seen.push(Seen::of(alloc, history.findings(), limit)?)?;
+    Ok(())
+}
+
 /// Answers a request of a session and keeps what the report tells of it.
 fn take_in(alloc: Global, run: &mut Run, session: u32, request: &Request) -> Result<(), AllocError>
     requires session { session ≤ desk_limit }
     requires request { IsFewer request.now }
-    ensures { (c : SpecCell) (asked : List (ℕ × Asked)) → IsRun c asked run.old → OnOk result (IsRun c (asked ++ (session, request_of request.now) ∷ []) run.new) }
+    ensures { (limit : ℕ) (c : SpecCell) (asked : List (ℕ × Asked)) → IsRun limit c asked run.old → OnOk result (IsRun limit c (asked ++ (session, request_of request.now) ∷ []) run.new) }
 {
     let reply = answer(alloc, &mut run.history, session, request)?;
     push_accepted(alloc, &mut run.commits, &run.history, &reply)?;
+    push_seen(alloc, &mut run.seen, run.limit, &run.history, &reply)?;
     run.replies.push((session, reply))?;
     Ok(())
 }
@@ -101,8 +122,8 @@ fn answer_next(
     requires within { session ≤ length requests.now }
     requires few { length requests.now ≤ desk_limit }
     requires fewer { All (λ list. All IsFewer list.items) requests.now }
-    ensures { (c : SpecCell) (asked : List (ℕ × Asked)) → IsRun c asked run.old
-        → OnOk result (IsRun c (asked ++ option_to_list (asked_after (asked_lists requests.now) session before)) run.new) }
+    ensures { (limit : ℕ) (c : SpecCell) (asked : List (ℕ × Asked)) → IsRun limit c asked run.old
+        → OnOk result (IsRun limit c (asked ++ option_to_list (asked_after (asked_lists requests.now) session before)) run.new) }
 {
     let Some(request) = requests[session as usize - 1].get(before) else {
         return Ok(());
@@ -110,7 +131,23 @@ fn answer_next(
     take_in(alloc, run, session, request)
 }
 
-/// Answers the requests of sessions in an order, from the opening of a cell on.
+/// The run before its first request.
+fn start(alloc: Global, history: History, limit: u32) -> Result<Run, AllocError>
+    ensures { (c : SpecCell) → state_of history ≡ opening c → IfOk result (IsRun limit c []) }
+{
+    let mut seen = Vec::new(alloc);
+    seen.push(Seen::of(alloc, history.findings(), limit)?)?;
+    Ok(Run {
+        history,
+        replies: Vec::new(alloc),
+        commits: Vec::new(alloc),
+        limit,
+        seen,
+    })
+}
+
+/// Answers the requests of sessions in an order, from the opening of a cell on, where at most so many findings of a cell
+/// are shown.
 ///
 /// An `Err` is want of memory.
 pub fn run_in_order(
@@ -118,19 +155,16 @@ pub fn run_in_order(
     history: History,
     requests: &[Vec<Request>],
     order: &[u32],
+    limit: u32,
 ) -> Result<Run, AllocError>
     requires few { length requests.now ≤ desk_limit }
     requires sessions { All (λ session. (1 ≤ session) × (session ≤ length requests.now)) order.now }
     requires fewer { All (λ list. All IsFewer list.items) requests.now }
     ensures { (c : SpecCell) → state_of history ≡ opening c
-        → IfOk result (IsRun c (filter_map (asked_at (asked_lists requests.now) order.now) (enumerate_from 0 order.now))) }
+        → IfOk result (IsRun limit c (filter_map (asked_at (asked_lists requests.now) order.now) (enumerate_from 0 order.now))) }
 {
     let mut used = vec![in alloc; 0usize; requests.len()]?;
-    let mut run = Run {
-        history,
-        replies: Vec::new(alloc),
-        commits: Vec::new(alloc),
-    };
+    let mut run = start(alloc, history, limit)?;
     for session in order {
         let before = used[*session as usize - 1];
         answer_next(alloc, &mut run, requests, *session, before)?;

@@ -1,4 +1,5 @@
 mod EditLines
 mod Lines
+mod ShownFindings
 mod Steps
 mod Transcripts

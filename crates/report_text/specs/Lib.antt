@@ -1,2 +1,3 @@
 pub mod Newer
+pub mod SeenFindings
 pub mod Transcript

@@ -1,17 +1,11 @@
--- The lines of a session that asks for no findings of its cell. This project's own text.
-use Rattle.std.specs.Prelude.{ℕ, ◌+◌, Bool, true, false, List, [], ◌∷◌, ◌++◌}
+-- The lines of a session, command by command. This project's own text.
+use Rattle.std.specs.Prelude.{ℕ, ◌+◌, ◌<◌, List}
+use Rattle.s57_types.specs.declared.cell.Cell.{Cell}
+use Rattle.rule_spec.specs.Kinds.{built_kinds}
 use Rattle.text_spec.specs.declared.command.Command.{Command}
 use Rattle.text_spec.specs.declared.command.Command.TheVariants.{View, Commit, Drop, List as Findings, Push}
 use Rattle.history_spec.specs.declared.reply.Reply.{Reply}
-use Rattle.history_spec.specs.ReportText.{reply_line, draft_line}
-
--- any command but that which shows findings; early scripts have no other
-abbrev pub shows_no_findings : Command → Bool
-shows_no_findings View = true
-shows_no_findings Commit = true
-shows_no_findings Drop = true
-shows_no_findings (Findings shown) = false
-shows_no_findings (Push edit) = true
+use Rattle.history_spec.specs.ReportText.{base_after, draft_line, list_lines, transcript_from}
 
 -- how many edits are in the draft after a command
 abbrev pub drafted_after : Command → ℕ → ℕ
@@ -21,13 +15,18 @@ drafted_after Drop drafted = 0
 drafted_after (Findings shown) drafted = drafted
 drafted_after (Push edit) drafted = drafted + 1
 
--- the lines of commands, from a number of edits in the draft on; a view and a commit have the next answer
-unfoldable pub transcript : ℕ → List Command → List Reply → List ℕ
-transcript drafted [] replies = []
-transcript drafted (View ∷ commands) [] = []
-transcript drafted (View ∷ commands) (reply ∷ replies) = reply_line reply ++ transcript drafted commands replies
-transcript drafted (Commit ∷ commands) [] = []
-transcript drafted (Commit ∷ commands) (reply ∷ replies) = reply_line reply ++ transcript 0 commands replies
-transcript drafted (Drop ∷ commands) replies = draft_line 0 ++ transcript 0 commands replies
-transcript drafted (Findings shown ∷ commands) replies = transcript drafted commands replies
-transcript drafted (Push edit ∷ commands) replies = draft_line (drafted + 1) ++ transcript (drafted + 1) commands replies
+-- the lines of a command that has no answer: what it shows at a base, or how many edits are in the draft after it
+abbrev pub local_lines : (ℕ → Cell) → ℕ → ℕ → Command → List ℕ
+local_lines at base drafted View = draft_line drafted
+local_lines at base drafted Commit = draft_line drafted
+local_lines at base drafted Drop = draft_line drafted
+local_lines at base drafted (Findings shown) = list_lines built_kinds base shown (at base)
+local_lines at base drafted (Push edit) = draft_line drafted
+
+-- the lines of commands, with findings of the kinds that are built
+unfoldable pub transcript : (ℕ → Cell) → ℕ → ℕ → List Command → List Reply → List ℕ
+transcript at base drafted commands replies = transcript_from built_kinds at base drafted commands replies
+
+-- where an answer moves the base, it moves it below a number
+abbrev pub IsBaseBelow : ℕ → Reply → Type 0
+IsBaseBelow limit reply = base_after reply 0 < limit

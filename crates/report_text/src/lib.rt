@@ -5,12 +5,14 @@ mod commit;
 mod draft;
 mod order;
 mod reply;
+mod seen;
 mod session;
 
 pub use commit::{known_lines, push_commit};
 pub use draft::push_draft;
 pub use order::push_order;
 pub use reply::push_reply;
+pub use seen::Seen;
 pub use session::push_session;
 
 #[cfg(test)]

@@ -107,7 +107,7 @@ fn push_refusal(out: &mut Vec<u8>, refusal: StateRefusal) -> Result<(), AllocErr
 }
 
 /// Appends a line of two words, a commit's number, and how many findings the cell has.
-fn push_state(
+pub(crate) fn push_state(
     out: &mut Vec<u8>,
     first: &str,
     second: &str,

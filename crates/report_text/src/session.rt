@@ -1,15 +1,17 @@
 //! The part of a session.
 
-ghost use Rattle.std.specs.Prelude.{◌≡◌, ◌++◌, ◌<◌, ◌+◌, ◌^◌, ◌∷◌, [], All, List, OnOk, ℕ, codes, decimal, length, map, true};
+ghost use Rattle.std.specs.Prelude.{◌≡◌, ◌++◌, ◌<◌, ◌+◌, ◌^◌, ◌∷◌, [], All, OnOk, ℕ, codes, decimal, length, map};
+ghost use Rattle.rule_spec.specs.Kinds.{built_kinds};
 ghost use Rattle.s57_types.specs.declared.cell.Cell.{Cell as SpecCell};
 ghost use Rattle.text_spec.specs.Lines.{line};
 ghost use Rattle.text_spec.specs.ScriptLines.{is_shared as is_shared_lem};
-ghost use Rattle.text_spec.specs.declared.command.Command.{Command as SpecCommand};
-ghost use Rattle.history_spec.specs.ReportText.{session_text};
-ghost use Rattle.report_text.specs.Transcript.{drafted_after as drafted_after_lem, shows_no_findings, transcript};
+ghost use Rattle.history_spec.specs.ReportText.{base_after as base_after_lem, session_text};
+ghost use Rattle.report_text.specs.SeenFindings.{AreSeen, ShowsAtMost};
+ghost use Rattle.report_text.specs.Transcript.{IsBaseBelow, drafted_after as drafted_after_lem, local_lines, transcript};
 
 use crate::draft::push_draft;
 use crate::reply::push_reply;
+use crate::seen::{Seen, push_list};
 use history_spec::Reply;
 use std::alloc::AllocError;
 use text_lines::{push_number, push_text};
@@ -34,6 +36,16 @@ fn drafted_after(command: &Command, drafted: u32) -> u32
     }
 }
 
+/// The number of the commit at which the session's copy of the cell stands after an answer.
+fn base_after(reply: &Reply, base: u32) -> u32
+    ensures { result ≡ base_after_lem reply.now base }
+{
+    match reply {
+        Reply::Viewed { number, .. } | Reply::Accepted { number, .. } => *number,
+        Reply::Formed(_) | Reply::Newer { .. } | Reply::Refused(_) => base,
+    }
+}
+
 /// Appends the first line of a session's part.
 fn push_head(out: &mut Vec<u8>, session: u32) -> Result<(), AllocError>
     ensures { OnOk result (out.new.items ≡ out.old.items ++ line (codes "session") (decimal session ∷ [])) }
@@ -43,16 +55,38 @@ fn push_head(out: &mut Vec<u8>, session: u32) -> Result<(), AllocError>
     push_text(out, "\n")
 }
 
+/// Appends the lines of a command that has no answer.
+fn push_local(
+    out: &mut Vec<u8>,
+    command: &Command,
+    base: u32,
+    drafted: u32,
+    seen: &[Seen],
+) -> Result<(), AllocError>
+    requires { base < length seen.now }
+    ensures { (limit : ℕ) (at : ℕ → SpecCell) → AreSeen limit at seen.now → ShowsAtMost limit command.now
+        → OnOk result (out.new.items ≡ out.old.items ++ local_lines at base drafted command.now) }
+{
+    match command {
+        Command::List(shown) => push_list(out, base, *shown, &seen[base as usize]),
+        _ => push_draft(out, drafted),
+    }
+}
+
 /// Appends the lines of commands. They end where a command has no answer.
 fn push_transcript(
     out: &mut Vec<u8>,
     commands: &[Command],
     replies: &[&Reply],
+    seen: &[Seen],
 ) -> Result<(), AllocError>
     requires few { length commands.now < 2 ^ 32 }
-    requires none_shown { All (λ (command : SpecCommand). shows_no_findings command ≡ true) commands.now }
-    ensures { OnOk result (out.new.items ≡ out.old.items ++ transcript 0 commands.now (map (λ reply. reply.now) replies.now)) }
+    requires opened { 0 < length seen.now }
+    requires bases { All (IsBaseBelow (length seen.now)) (map (λ reply. reply.now) replies.now) }
+    ensures { (limit : ℕ) (at : ℕ → SpecCell) → AreSeen limit at seen.now → All (ShowsAtMost limit) commands.now
+        → OnOk result (out.new.items ≡ out.old.items ++ transcript at 0 0 commands.now (map (λ reply. reply.now) replies.now)) }
 {
+    let mut base = 0;
     let mut drafted = 0;
     let mut used = 0;
     for command in commands {
@@ -62,30 +96,34 @@ fn push_transcript(
                 return Ok(());
             };
             push_reply(out, reply)?;
+            base = base_after(reply, base);
             used += 1;
         } else {
-            push_draft(out, drafted)?;
+            push_local(out, command, base, drafted, seen)?;
         }
     }
     Ok(())
 }
 
 /// Appends a session's part of the report: the line of each of its commands, up to the first view or commit that has no
-/// answer. No command shows findings, so that the cells that the desk sees don't matter.
+/// answer. A command that shows findings shows those of the cell at which the session's copy stands: after the commit
+/// that the last answer to a view or the last accepted commit names. `seen` tells of the cell after no commit, one commit
+/// and so on.
 ///
 /// An `Err` is want of memory.
-#[tactic(auto, using(crate::proofs::Transcripts::without_findings))]
 pub fn push_session(
     out: &mut Vec<u8>,
     session: u32,
     commands: &[Command],
     replies: &[&Reply],
+    seen: &[Seen],
 ) -> Result<(), AllocError>
     requires few { length commands.now < 2 ^ 32 }
-    requires none_shown { All (λ (command : SpecCommand). shows_no_findings command ≡ true) commands.now }
-    ensures { (asked : List ℕ) (at : ℕ → SpecCell)
-        → OnOk result (out.new.items ≡ out.old.items ++ session_text asked at session commands.now (map (λ reply. reply.now) replies.now)) }
+    requires opened { 0 < length seen.now }
+    requires bases { All (IsBaseBelow (length seen.now)) (map (λ reply. reply.now) replies.now) }
+    ensures { (limit : ℕ) (at : ℕ → SpecCell) → AreSeen limit at seen.now → All (ShowsAtMost limit) commands.now
+        → OnOk result (out.new.items ≡ out.old.items ++ session_text built_kinds at session commands.now (map (λ reply. reply.now) replies.now)) }
 {
     push_head(out, session)?;
-    push_transcript(out, commands, replies)
+    push_transcript(out, commands, replies, seen)
 }

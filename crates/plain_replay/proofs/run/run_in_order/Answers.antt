@@ -39,11 +39,11 @@ loop-session-preserved c =
     ∙ ap (λ n. filter_map (asked_at lists order) (take k (enumerate_from 0 order)) ++ option_to_list (asked_after lists session n)) (read_there c.loop-session.used.items (session - 1) c.index-before.result.now (let above = in_range.0 in omega (arith, above, below)) c.index-before.ensures) in (
       c.count_up.ensures.length ∙ before.0,
       counts_more order c.count_up.new.used.items k session 0 within refl (c.count_up.ensures.counts (take k order) before.1),
-      (λ cell opened. subst (λ told. IsRun cell told c.answer_next.new.run) (sym asked) (c.in_ok-answer_next.ensures cell _ (before.2 cell opened))),
+      (λ cell opened. subst (λ told. IsRun c.args.limit cell told c.answer_next.new.run) (sym asked) (c.in_ok-answer_next.ensures c.args.limit cell _ (before.2 cell opened))),
     )
 
 pub returns : goal.returns
 returns c = λ cell opened.
-    subst (λ told. IsRun cell (filter_map (asked_at (asked_lists c.args.requests.now) c.args.order.now) told) c.loop-session.run)
+    subst (λ told. IsRun c.args.limit cell (filter_map (asked_at (asked_lists c.args.requests.now) c.args.order.now) told) c.loop-session.run)
     (take_all c.loop-session.session-index (enumerate_from 0 c.args.order.now) (let all = c.loop-session-test.false in omega (arith, all, length-enumerate_from 0 c.args.order.now)))
-    (c.loop-session.invariant.2 cell opened)
+    (c.loop-session.invariant.2 cell (c.in_ok-run.ensures cell opened))

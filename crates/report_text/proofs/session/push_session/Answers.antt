@@ -4,6 +4,6 @@ use Rattle.report_text.proofs.Transcripts.{session_lines}
 use Rattle.report_text.proofs.session.push_session.Goals as goal
 
 pub returns : goal.returns
-returns c = λ asked at. on_ok_weaker c.push_transcript.result
-    (session_lines asked at c.args.session c.args.commands.now (map (λ reply. reply.now) c.args.replies.now) _ _ _ c.requires.none_shown c.in_ok-push_head.ensures)
-    c.push_transcript.ensures
+returns c = λ limit at seen shown. on_ok_weaker c.push_transcript.result
+    (session_lines at c.args.session c.args.commands.now (map (λ reply. reply.now) c.args.replies.now) _ _ _ c.in_ok-push_head.ensures)
+    (c.push_transcript.ensures limit at seen shown)

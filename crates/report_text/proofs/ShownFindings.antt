@@ -1,0 +1,61 @@
+-- The lines of the findings that a command shows.
+use Rattle.std.proofs.Common.{◌≡◌, ℕ, zero, suc, ◌≤◌, List, [], ◌∷◌, ◌++◌, length, take, map, refl, sym, ap, ◌∙◌, append_assoc, take_all, arith}
+use Rattle.std.specs.List.{flat_map}
+use Rattle.std.specs.Prelude.{codes}
+use Rattle.std.specs.Fmt.{decimal}
+use Rattle.std.proofs.lemmas.Bool.{cases_lt}
+use Rattle.std.proofs.lemmas.List.{take-map}
+use Rattle.std.proofs.lemmas.List.Folds.{flat_map-map}
+use Rattle.s57_types.specs.declared.cell.Cell.{Cell}
+use Rattle.cell_spec.specs.declared.finding.Finding.{Finding}
+use Rattle.cell_spec.specs.declared.key.Subject.{Subject}
+use Rattle.rule_spec.specs.Findings.{all_findings, finding_total}
+use Rattle.rule_spec.specs.Kinds.{built_kinds}
+use Rattle.text_spec.specs.CellText.{finding_line}
+use Rattle.text_spec.specs.Lines.{line}
+use Rattle.edge_findings.specs.Rows.{findings_of_row, findings_of_rows, line_of, with_subject}
+use Rattle.edge_findings.specs.declared.list.SubjectFinding.{SubjectFinding}
+use Rattle.edge_findings.proofs.RowTexts.{row_counts}
+use Rattle.history_spec.specs.ReportText.{list_lines}
+use Rattle.report_text.specs.SeenFindings.{seen_of}
+use Rattle.report_text.specs.declared.seen.Seen.{Seen}
+
+taken_twice : {X : Type 0} (n limit : ℕ) (xs : List X) → n ≤ limit → take n (take limit xs) ≡ take n xs
+taken_twice zero limit xs within = refl
+taken_twice (suc n) zero xs within = absurd (omega (arith, within))
+taken_twice (suc n) (suc limit) [] within = refl
+taken_twice (suc n) (suc limit) (x ∷ xs) within = ap (λ rest. x ∷ rest) (taken_twice n limit xs (omega (arith, within)))
+
+row_lines_of : (s : Subject) (fs : List Finding) → map (finding_line s) fs ≡ map line_of (map (with_subject s) fs)
+row_lines_of s [] = refl
+row_lines_of s (f ∷ fs) = ap (λ rest. finding_line s f ∷ rest) (row_lines_of s fs)
+
+mapped : {X Y : Type 0} (f : X → Y) (xs ys : List X) → map f (xs ++ ys) ≡ map f xs ++ map f ys
+mapped f [] ys = refl
+mapped f (x ∷ xs) ys = ap (λ rest. f x ∷ rest) (mapped f xs ys)
+
+-- the lines of rows are those of their findings
+lines_of_rows : (rows : List (Subject × List Finding)) → flat_map (λ (row : Subject × List Finding). map (finding_line row.0) row.1) rows ≡ map line_of (findings_of_rows rows)
+lines_of_rows [] = refl
+lines_of_rows (row ∷ rows) =
+    (λ i. row_lines_of row.0 row.1 i ++ lines_of_rows rows i) ∙ sym (mapped line_of (findings_of_row row) (findings_of_rows rows))
+
+shown_text : (limit shown : ℕ) (rows : List (Subject × List Finding)) → shown ≤ limit
+    → flat_map line_of (take shown (take limit (findings_of_rows rows))) ≡ flat_map (λ l. l) (take shown (flat_map (λ (row : Subject × List Finding). map (finding_line row.0) row.1) rows))
+shown_text limit shown rows within =
+    ap (flat_map line_of) (taken_twice shown limit (findings_of_rows rows) within)
+    ∙ sym (flat_map-map (λ l. l) line_of (take shown (findings_of_rows rows)))
+    ∙ ap (flat_map (λ l. l)) (sym (take-map line_of shown (findings_of_rows rows)) ∙ ap (take shown) (sym (lines_of_rows rows)))
+
+abbrev headed : ℕ → ℕ → List ℕ
+headed base total = line (codes "list") (codes "seen" ∷ decimal base ∷ codes "findings" ∷ decimal total ∷ [])
+
+pub lines_shown : (limit base shown : ℕ) (c : Cell) (seen : Seen) (start first whole : List ℕ) → seen ≡ seen_of limit c → shown ≤ limit
+    → first ≡ start ++ headed base seen.total → whole ≡ first ++ flat_map line_of (take shown seen.first) → whole ≡ start ++ list_lines built_kinds base shown c
+lines_shown limit base shown c seen start first whole is within is_first is_whole =
+    let rows = all_findings built_kinds c in
+    is_whole
+    ∙ (λ i. is_first i ++ flat_map line_of (take shown (Seen.first (is i))))
+    ∙ (λ i. (start ++ headed base (Seen.total (is i))) ++ shown_text limit shown rows within i)
+    ∙ ap (λ total. (start ++ headed base total) ++ flat_map (λ l. l) (take shown (flat_map (λ (row : Subject × List Finding). map (finding_line row.0) row.1) rows))) (row_counts rows)
+    ∙ append_assoc start (headed base (finding_total built_kinds c)) (flat_map (λ l. l) (take shown (flat_map (λ (row : Subject × List Finding). map (finding_line row.0) row.1) rows)))
