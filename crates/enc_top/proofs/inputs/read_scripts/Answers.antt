@@ -1,4 +1,4 @@
-use Rattle.std.proofs.Common.{◌≡◌, ◌<◌, length, map, string_bytes, sym, ap, ◌∙◌, subst, arith}
+use Rattle.std.proofs.Common.{◌≡◌, ◌+◌, ◌<◌, length, map, string_bytes, sym, ap, ◌∙◌, subst, arith}
 use Rattle.std.proofs.Common.{[], ◌∷◌, All, Err, Ok, Global, IfSome, length-append}
 use Rattle.std.specs.Prelude.{Vec, slice_index_or}
 use Rattle.script_text.specs.declared.script.Script.{Script}
@@ -12,36 +12,36 @@ use Rattle.enc_top.proofs.inputs.read_scripts.Goals as goal
 pub returns-in-Err-clause-tells : goal.returns-in-Err-clause-tells
 returns-in-Err-clause-tells g c =
     let names = map string_bytes c.args.names.now in
-    let before = c.loop-name.invariant in
-    let within = c.loop-name-test.true in
-    let there = ap (λ k. slice_index_or names k []) before.many ∙ name_there c.args.names.now c.loop-name.name-index c.name-item.result within c.name-item.is ∙ sym c.as_str.ensures.value in
-    let inside : length c.loop-name.scripts.items < length names = (let many = before.many in let all = length-map c.args.names.now string_bytes in omega (arith, within, many, all)) in
-    tells_later (λ script. script) (λ (scripts : Vec Script Global). scripts.items) (ScriptIs c.session c.as_str.result.now) (ScriptsAre names) (λ fs. AreScripts names fs c.loop-name.scripts.items)
-    (g.H.Shelf.files c.args.shelf.now) (g.H.Shelf.read_faults c.args.shelf.now) (g.H.Shelf.read_faults c.loop-name.shelf) (g.H.Shelf.read_faults c.read_script.new.shelf) c.in-Err.status
-    before.read_faults before.good (λ fs good bad. first_bad names fs c.loop-name.scripts.items c.as_str.result.now c.in-Err.status inside there good bad)
-    (subst (λ files. Tells (λ script. script) (ScriptIs c.session c.as_str.result.now) files (g.H.Shelf.read_faults c.loop-name.shelf) (g.H.Shelf.read_faults c.read_script.new.shelf) (Err c.in-Err.status)) before.files c.in-Err.ensures.tells)
+    let before = c.loop-k.invariant in
+    let within = c.loop-k-test.true in
+    let there = ap (λ k. slice_index_or names k []) before.many ∙ name_there c.args.names.now c.loop-k.k c.index-names-k.result within c.index-names-k.is ∙ sym c.as_str.ensures.value in
+    let inside : length c.loop-k.scripts.items < length names = (let many = before.many in let all = length-map c.args.names.now string_bytes in omega (arith, within, many, all)) in
+    tells_later (λ script. script) (λ (scripts : Vec Script Global). scripts.items) (ScriptIs (c.loop-k.k + 1) c.as_str.result.now) (ScriptsAre names) (λ fs. AreScripts names fs c.loop-k.scripts.items)
+    (g.H.Shelf.files c.args.shelf.now) (g.H.Shelf.read_faults c.args.shelf.now) (g.H.Shelf.read_faults c.loop-k.shelf) (g.H.Shelf.read_faults c.read_session.new.shelf) c.in-Err.status
+    before.read_faults before.good (λ fs good bad. first_bad names fs c.loop-k.scripts.items c.as_str.result.now c.in-Err.status inside there good (subst (λ n. ScriptIs (n + 1) c.as_str.result.now fs (Err c.in-Err.status)) (sym before.many) bad))
+    (subst (λ files. Tells (λ script. script) (ScriptIs (c.loop-k.k + 1) c.as_str.result.now) files (g.H.Shelf.read_faults c.loop-k.shelf) (g.H.Shelf.read_faults c.read_session.new.shelf) (Err c.in-Err.status)) before.files c.in-Err.ensures.tells)
 
 pub returns-in-Err-clause-status : goal.returns-in-Err-clause-status
 returns-in-Err-clause-status g c =
     let names = map string_bytes c.args.names.now in
-    let within = c.loop-name-test.true in
-    let there = name_there c.args.names.now c.loop-name.name-index c.name-item.result within c.name-item.is ∙ sym c.as_str.ensures.value in
-    let inside : c.loop-name.name-index < length names = (let all = length-map c.args.names.now string_bytes in omega (arith, within, all)) in
-    status_of_more (λ n. n ≡ c.as_str.result.now) (IsAmong names) c.in-Err.status (λ n is. (c.loop-name.name-index, inside, is ∙ sym there)) c.in-Err.ensures.status
+    let within = c.loop-k-test.true in
+    let there = name_there c.args.names.now c.loop-k.k c.index-names-k.result within c.index-names-k.is ∙ sym c.as_str.ensures.value in
+    let inside : c.loop-k.k < length names = (let all = length-map c.args.names.now string_bytes in omega (arith, within, all)) in
+    status_of_more (λ n. n ≡ c.as_str.result.now) (IsAmong names) c.in-Err.status (λ n is. (c.loop-k.k, inside, is ∙ sym there)) c.in-Err.ensures.status
 
-pub loop-name-preserved : goal.loop-name-preserved
-loop-name-preserved g c =
+pub loop-k-preserved : goal.loop-k-preserved
+loop-k-preserved g c =
     let names = map string_bytes c.args.names.now in
-    let before = c.loop-name.invariant in
-    let within = c.loop-name-test.true in
-    let scripts = c.loop-name.scripts.items in
-    let there = ap (λ k. slice_index_or names k []) before.many ∙ name_there c.args.names.now c.loop-name.name-index c.name-item.result within c.name-item.is ∙ sym c.as_str.ensures.value in
-    let tells = subst (λ files. Tells (λ script. script) (ScriptIs c.session c.as_str.result.now) files (g.H.Shelf.read_faults c.loop-name.shelf) (g.H.Shelf.read_faults c.read_script.new.shelf) (Ok c.in-Ok.script)) before.files c.in-Ok.ensures.tells in
+    let before = c.loop-k.invariant in
+    let within = c.loop-k-test.true in
+    let scripts = c.loop-k.scripts.items in
+    let there = ap (λ k. slice_index_or names k []) before.many ∙ name_there c.args.names.now c.loop-k.k c.index-names-k.result within c.index-names-k.is ∙ sym c.as_str.ensures.value in
+    let tells = subst (λ files. Tells (λ script. script) (ScriptIs (c.loop-k.k + 1) c.as_str.result.now) files (g.H.Shelf.read_faults c.loop-k.shelf) (g.H.Shelf.read_faults c.read_session.new.shelf) (Ok c.in-Ok.script)) before.files c.in-Ok.ensures.tells in
     let pushed = c.in_ok-push_script.ensures in
     record {
       many = (let one = ap length pushed in let more = length-append scripts (c.in-Ok.script ∷ []) in let many = before.many in omega (arith, one, more, many));
       good = subst (λ all. IfSome (g.H.Shelf.files c.args.shelf.now) (λ fs. AreScripts names fs all)) (sym pushed)
-          (both_told (g.H.Shelf.files c.args.shelf.now) before.good tells (λ fs good next. scripts_more names fs scripts c.as_str.result.now c.in-Ok.script there good next));
+          (both_told (g.H.Shelf.files c.args.shelf.now) before.good tells (λ fs good next. scripts_more names fs scripts c.as_str.result.now c.in-Ok.script there good (subst (λ n. ScriptIs (n + 1) c.as_str.result.now fs (Ok c.in-Ok.script)) (sym before.many) next)));
       runnable = subst (All IsRunnable) (sym pushed) (All-push IsRunnable scripts c.in-Ok.script before.runnable c.in-Ok.ensures.runnable);
       files = c.in-Ok.ensures.files ∙ before.files;
       read_faults = (let now = c.in-Ok.ensures.read_faults in let so_far = before.read_faults in omega (arith, now, so_far));

@@ -3,9 +3,9 @@ use Rattle.plain_replay.specs.Requests.{IsRunnable}
 use Rattle.enc_top.specs.Inputs.{AreScripts}
 use Rattle.enc_top.proofs.inputs.read_scripts.Given as goal
 
-abbrev pub invariant-loop-name : goal.invariant-loop-name
-invariant-loop-name g l = record {
-  many : length l.scripts.items ≡ l.name-index;
+abbrev pub invariant-loop-k : goal.invariant-loop-k
+invariant-loop-k g l = record {
+  many : length l.scripts.items ≡ l.k;
   good : IfSome (g.H.Shelf.files l.initial.shelf) (λ fs. AreScripts (map string_bytes l.names) fs l.scripts.items);
   runnable : All IsRunnable l.scripts.items;
   files : g.H.Shelf.files l.shelf ≡ g.H.Shelf.files l.initial.shelf;
