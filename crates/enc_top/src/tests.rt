@@ -339,17 +339,17 @@ fn an_order_has_its_first_bad_place(rt: HostRuntime) -> Result<(), Fail> {
 }
 
 #[test]
-fn other_scripts_are_not_minimal(rt: HostRuntime) -> Result<(), Fail> {
+fn a_bad_script_is_told_with_its_line(rt: HostRuntime) -> Result<(), Fail> {
     let cases = [
-        b"list 1\n".as_slice(),
-        b"add vi 1 1 p=0,0\n".as_slice(),
-        b"add vc 7 1 a=75:1\n".as_slice(),
-        b"look\n".as_slice(),
-        b"view".as_slice(),
+        (b"look\n".as_slice(), 1, 2),
+        (b"view".as_slice(), 1, 1),
+        (b"view\nlist 21\n".as_slice(), 2, 3),
+        (b"view\nlist 21".as_slice(), 2, 1),
+        (b"# first\n\nadd vc 7 1 p=0\n".as_slice(), 3, 3),
     ];
-    for script in cases {
+    for (script, line, code) in cases {
         let (status, text) = replayed(&rt, rt.alloc(), b"order\n", &[b"", script])?;
-        assert_eq!(rt; status.number(), 13);
+        assert!(rt; matches!(status, Status::BadScript(2, at, found) if at == line && found == code));
         assert!(rt; text.is_empty());
     }
     Ok(())

@@ -1,5 +1,7 @@
 mod calls;
+mod drawn;
 mod export;
 mod faults;
 mod liberties;
+mod sessions;
 mod square;

@@ -46,6 +46,26 @@ pub fn checked<R: Threads + Sync>(rt: &R, alloc: Global, cell: &[u8]) -> Result<
     printed(alloc, &out, &status)
 }
 
+/// What a run of scripts in an order prints.
+pub fn reported<R: Threads + Sync>(
+    rt: &R,
+    alloc: Global,
+    cell: &[u8],
+    order: &[u8],
+    scripts: [&[u8]; 2],
+) -> Result<Vec<u8>, Fail> {
+    let [first, second] = scripts;
+    let mut shelf = MemShelf::make(alloc);
+    shelf.place("CELL", cell)?;
+    shelf.place("ORDER", order)?;
+    shelf.place("S1", first)?;
+    shelf.place("S2", second)?;
+    let mut out = MemSink::make(alloc);
+    let words = words(alloc, "replay CELL OUT ORDER S1 S2")?;
+    let status = run_plain(rt, alloc, &words, &mut shelf, &mut out);
+    printed(alloc, &out, &status)
+}
+
 /// The file that a run of one script in an order leaves.
 pub fn exported<R: Threads + Sync>(
     rt: &R,
