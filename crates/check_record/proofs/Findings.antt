@@ -1,0 +1,82 @@
+-- The findings about a node or an edge, kind after kind.
+use Rattle.std.proofs.Common.{◌≡◌, ℕ, Bool, true, false, ◌||◌, not, is_some, List, [], ◌∷◌, ◌++◌, map, Option, None, Some, cond, refl, sym, ap, ◌∙◌, append_assoc}
+use Rattle.std.specs.Prelude.{◌==◌}
+use Rattle.std.specs.Option.{option_map_or}
+use Rattle.std.proofs.lemmas.List.{append-nil}
+use Rattle.s57_types.specs.declared.name.Kind.{Kind}
+use Rattle.s57_types.specs.declared.name.Kind.TheVariants.{Vi, Vc, Ve, Fe}
+use Rattle.s57_types.specs.declared.record.Rec.TheVariants.{V, F}
+use Rattle.s57_types.specs.declared.record.Vector.{Vector}
+use Rattle.s57_types.specs.declared.cell.Cell.{Cell}
+use Rattle.cell_spec.specs.declared.finding.Finding.{Finding}
+use Rattle.cell_spec.specs.Names.{kind_rank}
+use Rattle.rule_spec.specs.declared.line.EdgeLine.{EdgeLine}
+use Rattle.rule_spec.specs.EdgeEnds.{dangling_end, end_count}
+use Rattle.rule_spec.specs.EdgePoints.{line_of}
+use Rattle.rule_spec.specs.Findings.{finding, findings_of_record}
+use Rattle.rule_spec.specs.Records.{is_edge_name, is_node_name}
+use Rattle.rule_spec.specs.Rule.{Found, found_at}
+use Rattle.rule_spec.specs.Vectors.{bad_shape, node_pointer, self_meet, self_meet_of, stacked, stacked_segment}
+use Rattle.check_record.specs.RecordKinds.{record_kinds}
+
+-- six rules' findings one after the other, where four are on edges and the last is on nodes
+all_kinds : Bool → Bool → Found → Found → Found → Found → Found → Found → List Finding
+all_kinds edge node one two three four five six =
+    map (finding 1) one ++ (map (finding 2) (cond edge two []) ++ (map (finding 3) (cond edge three []) ++ (map (finding 4) (cond edge four []) ++ (map (finding 5) (cond edge five []) ++ (map (finding 6) (cond node six []) ++ [])))))
+
+are_all_kinds : (c : Cell) (v : Vector) → findings_of_record record_kinds c (V v) ≡ all_kinds (is_edge_name v.name) (is_node_name v.name) (bad_shape c v) (end_count c v) (dangling_end c v) (stacked c v) (self_meet c v) (node_pointer c v)
+unfolding all_kinds
+are_all_kinds c v = refl
+
+node_is_no_edge : (k : Kind) → ((kind_rank k == 0) || (kind_rank k == 1)) ≡ true → (kind_rank k == 2) ≡ false
+node_is_no_edge Vi h = refl
+node_is_no_edge Vc h = refl
+node_is_no_edge Ve h = absurd cc
+node_is_no_edge Fe h = absurd cc
+
+edge_is_no_node : (k : Kind) → (kind_rank k == 2) ≡ true → ((kind_rank k == 0) || (kind_rank k == 1)) ≡ false
+edge_is_no_node Vi h = absurd cc
+edge_is_no_node Vc h = absurd cc
+edge_is_no_node Ve h = refl
+edge_is_no_node Fe h = absurd cc
+
+-- the findings about a node
+pub node_kinds : (c : Cell) (v : Vector) → is_node_name v.name ≡ true → map (finding 1) (bad_shape c v) ++ map (finding 6) (node_pointer c v) ≡ findings_of_record record_kinds c (V v)
+unfolding all_kinds
+node_kinds c v h =
+    let all = λ (edge node : Bool). all_kinds edge node (bad_shape c v) (end_count c v) (dangling_end c v) (stacked c v) (self_meet c v) (node_pointer c v) in
+    ap (λ rest. map (finding 1) (bad_shape c v) ++ rest) (sym (append-nil (map (finding 6) (node_pointer c v))))
+    ∙ ap (all false) (sym h) ∙ ap (λ edge. all edge (is_node_name v.name)) (sym (node_is_no_edge v.name.kind h))
+    ∙ sym (are_all_kinds c v)
+
+-- the findings about an edge
+pub edge_kinds : (c : Cell) (v : Vector) (places : Found) (line : Option EdgeLine) → is_edge_name v.name ≡ true → places ≡ dangling_end c v → line ≡ line_of c v
+    → ((map (finding 1) (bad_shape c v) ++ map (finding 2) (end_count c v)) ++ map (finding 3) places)
+    ++ (map (finding 4) (option_map_or (λ (line : EdgeLine). found_at (stacked_segment line.points)) line []) ++ map (finding 5) (option_map_or (λ (line : EdgeLine). self_meet_of line.points) line []))
+    ≡ findings_of_record record_kinds c (V v)
+unfolding all_kinds
+edge_kinds c v places line h dangling is_line =
+    let all = λ (edge node : Bool). all_kinds edge node (bad_shape c v) (end_count c v) (dangling_end c v) (stacked c v) (self_meet c v) (node_pointer c v) in
+    (λ i. ((map (finding 1) (bad_shape c v) ++ map (finding 2) (end_count c v)) ++ map (finding 3) (dangling i))
+    ++ (map (finding 4) (option_map_or (λ (line : EdgeLine). found_at (stacked_segment line.points)) (is_line i) []) ++ map (finding 5) (option_map_or (λ (line : EdgeLine). self_meet_of line.points) (is_line i) [])))
+    ∙ regroup (map (finding 1) (bad_shape c v)) (map (finding 2) (end_count c v)) (map (finding 3) (dangling_end c v)) (map (finding 4) (stacked c v)) (map (finding 5) (self_meet c v))
+    ∙ ap (all true) (sym (edge_is_no_node v.name.kind h)) ∙ ap (λ edge. all edge (is_node_name v.name)) (sym h)
+    ∙ sym (are_all_kinds c v)
+  where
+    regroup : (a b c d e : List Finding) → ((a ++ b) ++ c) ++ (d ++ e) ≡ a ++ (b ++ (c ++ (d ++ (e ++ []))))
+    regroup a b c d e = ap (λ rest. ((a ++ b) ++ c) ++ (d ++ rest)) (sym (append-nil e)) ∙ simp append_assoc
+
+-- two rules' findings appended one after the other
+pub two_appended : (new first second a b : List Finding) → new ≡ [] → first ≡ new ++ a → second ≡ first ++ b → second ≡ a ++ b
+two_appended new first second a b e f g = g ∙ ap (λ xs. xs ++ b) (f ∙ ap (λ xs. xs ++ a) e)
+
+-- the same of four, where the first two were appended before
+pub four_appended : (shape third fourth a b c d : List Finding) → shape ≡ a ++ b → third ≡ shape ++ c → fourth ≡ third ++ d → fourth ≡ ((a ++ b) ++ c) ++ d
+four_appended shape third fourth a b c d e f g = g ∙ ap (λ xs. xs ++ d) (f ∙ ap (λ xs. xs ++ c) e)
+
+-- the findings about a vector record that is neither a node nor an edge
+pub shape_kinds : (c : Cell) (v : Vector) → is_node_name v.name ≡ false → is_edge_name v.name ≡ false → map (finding 1) (bad_shape c v) ≡ findings_of_record record_kinds c (V v)
+unfolding all_kinds
+shape_kinds c v node edge =
+    let all = λ (edge node : Bool). all_kinds edge node (bad_shape c v) (end_count c v) (dangling_end c v) (stacked c v) (self_meet c v) (node_pointer c v) in
+    sym (append-nil (map (finding 1) (bad_shape c v))) ∙ ap (all false) (sym node) ∙ ap (λ edge. all edge (is_node_name v.name)) (sym edge) ∙ sym (are_all_kinds c v)

@@ -1,0 +1,151 @@
+-- The read set of a record, by what the cell has under its name.
+use Rattle.std.proofs.Common.{◌≡◌, ℕ, ◌+◌, ◌≤◌, Bool, true, false, ◌||◌, not, is_some, List, [], ◌∷◌, ◌++◌, length, count_by, map, flat_map, Option, None, Some, cond, refl, sym, ap, ◌∙◌, append_assoc, arith}
+use Rattle.std.specs.Prelude.{◌==◌, option_and_then}
+use Rattle.std.specs.List.{list_any}
+use Rattle.std.specs.Option.{option_map_or}
+use Rattle.std.specs.Ordering.{is_eq}
+use Rattle.std.proofs.lemmas.List.Concat.{flat_map-cons}
+use Rattle.std.proofs.lemmas.List.Folds.{list_any-append}
+use Rattle.s57_types.specs.declared.name.Kind.{Kind}
+use Rattle.s57_types.specs.declared.name.Kind.TheVariants.{Vi, Vc, Ve, Fe}
+use Rattle.s57_types.specs.declared.name.RecName.{RecName}
+use Rattle.s57_types.specs.declared.record.Feature.{Feature}
+use Rattle.s57_types.specs.declared.record.Partner.{Partner}
+use Rattle.s57_types.specs.declared.record.Rec.{Rec as Record}
+use Rattle.s57_types.specs.declared.record.Rec.TheVariants.{V, F}
+use Rattle.s57_types.specs.declared.record.Spot.{Spot}
+use Rattle.s57_types.specs.declared.record.Vector.{Vector}
+use Rattle.s57_types.specs.declared.cell.Cell.{Cell}
+use Rattle.cell_spec.specs.declared.key.Key.{Key}
+use Rattle.cell_spec.specs.declared.key.Key.TheVariants.{Name, Foid}
+use Rattle.cell_spec.specs.declared.key.Subject.TheVariants.{Rec}
+use Rattle.cell_spec.specs.Ascending.{ascending}
+use Rattle.cell_spec.specs.Lookup.{lookup_record}
+use Rattle.cell_spec.specs.Names.{is_of_kind, key_order, kind_rank}
+use Rattle.rule_spec.specs.Findings.{findings_of_record, findings_of_subject}
+use Rattle.rule_spec.specs.Reads.{end_keys, end_keys_at, feature_keys, keys_read, read_set, record_keys}
+use Rattle.rule_spec.specs.Records.{feature_of, is_edge_name, vector_of}
+use Rattle.chain_topo.proofs.Ascending.{holds-ascending, same_when_sorted, sorted-ascending}
+use Rattle.read_sets.proofs.KeyOrder.{exact_keys, total_keys}
+use Rattle.check_record.specs.EndKeys.{ends_of_key}
+use Rattle.check_record.specs.Nodes.{is_node_key}
+use Rattle.check_record.specs.RecordKinds.{record_kinds}
+use Rattle.check_record.proofs.AscendingLists.{any-ascending, fewer_pass, longer_ascending}
+use Rattle.check_record.proofs.FoundRecords.{found_name}
+
+-- a read set has the record's own key
+pub some_keys : (c : Cell) (n : RecName) → 1 ≤ length (read_set c (Rec n))
+unfolding read_set
+some_keys c n = longer_ascending key_order (Name n ∷ []) (end_keys_at c n ++ option_map_or (feature_keys c) (option_and_then feature_of (lookup_record c n)) [])
+
+edge_no_node : (k : Kind) → (kind_rank k == kind_rank Ve) ≡ true → not (kind_rank k == kind_rank Vc) ≡ true
+edge_no_node Vi h = absurd cc
+edge_no_node Vc h = absurd cc
+edge_no_node Ve h = refl
+edge_no_node Fe h = absurd cc
+
+or_true : (a b : Bool) → a ≡ true → (a || b) ≡ true
+or_true a b h = ap (λ z. z || b) h
+
+-- an edge's own key asks for no connected node
+pub edge_keys : (c : Cell) (n : RecName) (v : Vector) → lookup_record c n ≡ Some (V v) → is_edge_name v.name ≡ true → count_by is_node_key (read_set c (Rec n)) + 1 ≤ length (read_set c (Rec n))
+unfolding read_set
+edge_keys c n v h e =
+    let own : not (is_of_kind Vc n) ≡ true = ap (λ (m : RecName). not (is_of_kind Vc m)) (found_name c n (V v) h) ∙ edge_no_node v.name.kind e in
+    fewer_pass is_node_key (ascending key_order (keys_read c (Rec n)))
+    (any-ascending key_order exact_keys (λ k. not (is_node_key k)) (keys_read c (Rec n)) ∙ or_true (not (is_of_kind Vc n)) _ own)
+
+place_keys : Feature → List Key
+place_keys f = map (λ (s : Spot). Name s.to) f.places
+
+partner_keys : Feature → List Key
+partner_keys f = map (λ (p : Partner). Foid p.to) f.partners
+
+boundary_keys : Cell → Feature → List Key
+boundary_keys c f = cond (f.prim == 3) (flat_map (λ (s : Spot). end_keys_at c s.to) f.places) []
+
+no_ends : (c : Cell) (n : RecName) (f : Feature) → lookup_record c n ≡ Some (F f) → end_keys_at c n ≡ []
+no_ends c n f h = ap (λ found. option_map_or end_keys (option_and_then (vector_of is_edge_name) found) []) h
+
+-- the keys of a feature
+feature_reads : (c : Cell) (n : RecName) (f : Feature) → lookup_record c n ≡ Some (F f) → keys_read c (Rec n) ≡ Name n ∷ ((place_keys f ++ boundary_keys c f) ++ partner_keys f)
+unfolding place_keys partner_keys boundary_keys
+feature_reads c n f h = λ i. Name n ∷ (no_ends c n f h i ++ option_map_or (feature_keys c) (option_and_then feature_of (h i)) [])
+
+-- the records that a feature names are among its read set
+pub feature_places : (c : Cell) (n : RecName) (f : Feature) → lookup_record c n ≡ Some (F f)
+    → length (ascending key_order (Name n ∷ map (λ (s : Spot). Name s.to) f.places)) ≤ length (read_set c (Rec n))
+unfolding read_set place_keys
+feature_places c n f h =
+    let same : keys_read c (Rec n) ≡ (Name n ∷ place_keys f) ++ (boundary_keys c f ++ partner_keys f) = feature_reads c n f h ∙ ap (λ xs. Name n ∷ xs) (append_assoc (place_keys f) (boundary_keys c f) (partner_keys f)) in
+    omega (arith, longer_ascending key_order (Name n ∷ place_keys f) (boundary_keys c f ++ partner_keys f), ap (λ xs. length (ascending key_order xs)) same)
+
+any-flat_map : {X : Type 0} (t : Key → Bool) (f : X → List Key) (xs : List X) → list_any t (flat_map f xs) ≡ list_any (λ x. list_any t (f x)) xs
+any-flat_map t f [] = refl
+any-flat_map t f (x ∷ xs) =
+    ap (list_any t) (flat_map-cons f x xs) ∙ list_any-append t (f x) (flat_map f xs) ∙ ap (λ b. list_any t (f x) || b) (any-flat_map t f xs)
+
+any-map : {X : Type 0} (t : Key → Bool) (f : X → Key) (xs : List X) → list_any t (map f xs) ≡ list_any (λ x. t (f x)) xs
+any-map t f [] = refl
+any-map t f (x ∷ xs) = ap (λ b. t (f x) || b) (any-map t f xs)
+
+module _ (c : Cell) (n : RecName) (f : Feature) (found : lookup_record c n ≡ Some (F f)) (t : Key → Bool) where
+  named : List Key
+  named = ascending key_order (Name n ∷ place_keys f)
+
+  any_named : list_any t named ≡ (t (Name n) || list_any t (place_keys f))
+  unfolding named
+  any_named = any-ascending key_order exact_keys t (Name n ∷ place_keys f)
+
+  any_boundary_by : (area : Bool) → list_any t (cond area (flat_map (ends_of_key c) named) []) ≡ list_any t (cond area (flat_map (λ (s : Spot). end_keys_at c s.to) f.places) [])
+  unfolding named place_keys
+  any_boundary_by false = refl
+  any_boundary_by true =
+      any-flat_map t (ends_of_key c) named
+      ∙ any-ascending key_order exact_keys (λ k. list_any t (ends_of_key c k)) (Name n ∷ place_keys f)
+      ∙ ap (λ b. b || list_any (λ k. list_any t (ends_of_key c k)) (place_keys f)) (ap (list_any t) (no_ends c n f found))
+      ∙ any-map (λ k. list_any t (ends_of_key c k)) (λ (s : Spot). Name s.to) f.places
+      ∙ sym (any-flat_map t (λ (s : Spot). end_keys_at c s.to) f.places)
+
+  or_regroup : (a b c d : Bool) → (((a || b) || c) || d) ≡ (a || ((b || c) || d))
+  or_regroup true b c d = refl
+  or_regroup false b c d = refl
+
+  -- the keys that are gathered pass a test where the keys that are read do
+  any_read : list_any t ((named ++ cond (f.prim == 3) (flat_map (ends_of_key c) named) []) ++ partner_keys f) ≡ list_any t (keys_read c (Rec n))
+  unfolding boundary_keys
+  any_read =
+      list_any-append t (named ++ cond (f.prim == 3) (flat_map (ends_of_key c) named) []) (partner_keys f)
+      ∙ ap (λ b. b || list_any t (partner_keys f)) (list_any-append t named (cond (f.prim == 3) (flat_map (ends_of_key c) named) []))
+      ∙ (λ i. (any_named i || any_boundary_by (f.prim == 3) i) || list_any t (partner_keys f))
+      ∙ or_regroup (t (Name n)) (list_any t (place_keys f)) (list_any t (boundary_keys c f)) (list_any t (partner_keys f))
+      ∙ ap (λ b. t (Name n) || (b || list_any t (partner_keys f))) (sym (list_any-append t (place_keys f) (boundary_keys c f)))
+      ∙ ap (λ b. t (Name n) || b) (sym (list_any-append t (place_keys f ++ boundary_keys c f) (partner_keys f)))
+      ∙ ap (list_any t) (sym (feature_reads c n f found))
+
+-- the read set of a feature from its own name, the records that it names, the ends of these, and its partners
+pub feature_set : (c : Cell) (n : RecName) (f : Feature) → lookup_record c n ≡ Some (F f) → (named : List Key) → named ≡ ascending key_order (Name n ∷ map (λ (s : Spot). Name s.to) f.places)
+    → ascending key_order ((named ++ cond (f.prim == 3) (flat_map (ends_of_key c) named) []) ++ map (λ (p : Partner). Foid p.to) f.partners) ≡ read_set c (Rec n)
+unfolding read_set named place_keys partner_keys
+feature_set c n f found held is =
+    let all = λ (named : List Key). (named ++ cond (f.prim == 3) (flat_map (ends_of_key c) named) []) ++ map (λ (p : Partner). Foid p.to) f.partners in
+    let own = ascending key_order (Name n ∷ map (λ (s : Spot). Name s.to) f.places) in
+    ap (λ named. ascending key_order (all named)) is
+    ∙ same_when_sorted key_order total_keys exact_keys (ascending key_order (all own)) (ascending key_order (keys_read c (Rec n)))
+    (sorted-ascending key_order total_keys (all own)) (sorted-ascending key_order total_keys (keys_read c (Rec n)))
+    (λ q. holds-ascending key_order exact_keys q (all own) ∙ any_read c n f found (λ y. is_eq (key_order q y)) ∙ sym (holds-ascending key_order exact_keys q (keys_read c (Rec n))))
+
+-- the read set of a name that no record has
+pub absent_set : (c : Cell) (n : RecName) → lookup_record c n ≡ None → read_set c (Rec n) ≡ ascending key_order (Name n ∷ [])
+unfolding read_set
+absent_set c n h =
+    λ i. ascending key_order (Name n ∷ (option_map_or end_keys (option_and_then (vector_of is_edge_name) (h i)) [] ++ option_map_or (feature_keys c) (option_and_then feature_of (h i)) []))
+
+-- the findings about a name by what the cell has under it
+pub findings_found : (c : Cell) (n : RecName) (r : Record) → lookup_record c n ≡ Some r → findings_of_subject record_kinds c (Rec n) ≡ findings_of_record record_kinds c r
+unfolding findings_of_subject
+findings_found c n r h = λ i. cond (is_some (h i)) (option_map_or (findings_of_record record_kinds c) (h i) []) []
+
+pub findings_absent : (c : Cell) (n : RecName) → lookup_record c n ≡ None → findings_of_subject record_kinds c (Rec n) ≡ []
+unfolding findings_of_subject
+findings_absent c n h = λ i. cond (is_some (h i)) (option_map_or (findings_of_record record_kinds c) (h i) []) []

@@ -1,0 +1,17 @@
+use Rattle.std.proofs.Common.{◌∙◌, refl, sym, arith}
+use Rattle.check_record.proofs.ReadSets.{findings_found, some_keys}
+use Rattle.s57_types.specs.declared.record.Rec.TheVariants.{F}
+use Rattle.check_record.proofs.verdict.feature_row.Goals as goal
+
+pub returns-in_err-reads-clause-steps : goal.returns-in_err-reads-clause-steps
+returns-in_err-reads-clause-steps g c = omega (arith, c.feature_reads.ensures.steps, some_keys (g.B.Look.cell c.args.look.now) c.args.name)
+
+pub returns-clause-steps : goal.returns-clause-steps
+returns-clause-steps g c = omega (arith, c.feature_reads.ensures.steps, some_keys (g.B.Look.cell c.args.look.now) c.args.name)
+
+pub returns-clause-row : goal.returns-clause-row
+returns-clause-row g c = record {
+  subject = refl;
+  findings = c.make.ensures ∙ sym (findings_found (g.B.Look.cell c.args.look.now) c.args.name (F c.args.feature.now) c.requires);
+  reads = c.in_ok-reads.ensures.reads;
+}

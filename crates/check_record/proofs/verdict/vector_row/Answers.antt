@@ -1,0 +1,14 @@
+use Rattle.std.proofs.Common.{◌∙◌, refl, sym, arith}
+use Rattle.check_record.proofs.ReadSets.{findings_found, some_keys}
+use Rattle.s57_types.specs.declared.record.Rec.TheVariants.{V}
+use Rattle.check_record.proofs.verdict.vector_row.Goals as goal
+
+pub returns-in_err-reads-clause-steps : goal.returns-in_err-reads-clause-steps
+returns-in_err-reads-clause-steps g c = omega (arith, some_keys (g.B.Look.cell c.args.look.now) c.args.name)
+
+pub returns-clause-row : goal.returns-clause-row
+returns-clause-row g c = record {
+  subject = refl;
+  findings = c.of_vec.ensures ∙ c.in_ok-findings.ensures.findings ∙ sym (findings_found (g.B.Look.cell c.args.look.now) c.args.name (V c.args.vector.now) c.requires);
+  reads = c.in_ok-reads.ensures (g.B.Look.cell c.args.look.now) c.requires;
+}

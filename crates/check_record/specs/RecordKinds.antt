@@ -1,0 +1,6 @@
+-- The kinds of finding that a check of a record judges. This project's own numbers.
+use Rattle.std.specs.Prelude.{ℕ, List, [], ◌∷◌}
+
+-- BadShape, EndCount, DanglingEnd, Stacked, SelfMeet and NodePointer, about a node or an edge; none about a feature
+abbrev pub record_kinds : List ℕ
+record_kinds = 1 ∷ 2 ∷ 3 ∷ 4 ∷ 5 ∷ 6 ∷ []

@@ -1,0 +1,14 @@
+//! The rules on a single record of a chart cell: its findings, and the read set that they depend on.
+#![tactic(auto)]
+
+mod boxes;
+mod ends;
+mod line;
+mod numbering;
+mod reads;
+mod self_meet;
+mod shape;
+mod vector;
+mod verdict;
+
+pub use verdict::verdict_rec;

@@ -1,0 +1,130 @@
+//! The read set of a record.
+
+ghost use Rattle.std.specs.Prelude.{◌≡◌, ◌+◌, ◌≤◌, ◌==◌, ◌++◌, [], ◌∷◌, IfOk, OnOk, Some, flat_map, if◌then◌else◌, length, map};
+ghost use Rattle.s57_types.specs.declared.cell.Cell.{Cell as SpecCell};
+ghost use Rattle.s57_types.specs.declared.record.Partner.{Partner as SpecPartner};
+ghost use Rattle.s57_types.specs.declared.record.Rec.TheVariants.{F, V};
+ghost use Rattle.s57_types.specs.declared.record.Spot.{Spot as SpecSpot};
+ghost use Rattle.cell_spec.specs.declared.key.Key.TheVariants.{Foid as KeyFoid, Name as KeyName};
+ghost use Rattle.cell_spec.specs.declared.key.Subject.TheVariants.{Rec as SubjectRec};
+ghost use Rattle.cell_spec.specs.Ascending.{ascending};
+ghost use Rattle.cell_spec.specs.Lookup.{lookup_record};
+ghost use Rattle.cell_spec.specs.Names.{key_order};
+ghost use Rattle.rule_spec.specs.Reads.{read_set};
+ghost use Rattle.check_record.specs.EndKeys.{ends_of_key};
+
+use cell_spec::{Key, Keys};
+use chain_topo::{Look, Steps};
+use read_sets::{ascending_keys, push_end_keys, push_vector_keys};
+use s57_types::{Feature, Kind, Partner, Rec, RecName, Vector};
+use std::alloc::{AllocError, Global};
+use std::sync::ledger::Ledger;
+
+/// The read set of a node or an edge: its name, and for an edge the names of the records that its ends name.
+pub(crate) fn vector_reads(
+    alloc: Global,
+    name: RecName,
+    vector: &Vector,
+) -> Result<Keys, AllocError>
+    ensures { (c : SpecCell) → lookup_record c name ≡ Some (V vector.now) → IfOk result (λ keys. keys ≡ read_set c (SubjectRec name)) }
+{
+    let mut keys = Vec::new(alloc);
+    push_vector_keys(&mut keys, name, vector)?;
+    Ok(ascending_keys(keys))
+}
+
+/// The names of a feature and of the records that its spatial pointers name, each once.
+fn named_keys(alloc: Global, name: RecName, feature: &Feature) -> Result<Keys, AllocError>
+    ensures { IfOk result (λ keys. keys ≡ ascending key_order (KeyName name ∷ map (λ (s : SpecSpot). KeyName s.to) feature.now.places)) }
+{
+    let mut keys = Vec::new(alloc);
+    keys.push(Key::Name(name))?;
+    for spot in feature.places.as_slice() {
+        keys.push(Key::Name(spot.to))?;
+    }
+    Ok(ascending_keys(keys))
+}
+
+/// Appends the names that the ends of the edge name that a key asks for.
+fn push_ends_of<B: Look, L: Ledger>(
+    keys: &mut Vec<Key>,
+    look: &B,
+    key: Key,
+    steps: &mut Steps<L>,
+) -> Result<(), AllocError>
+    ensures keys { OnOk result (keys.new.items ≡ keys.old.items ++ ends_of_key (B.cell look.now) key) }
+    ensures steps { steps.new ≤ steps.old + 1 }
+{
+    let Key::Name(name) = key else {
+        return Ok(());
+    };
+    match look.get(name, steps) {
+        Some(Rec::V(edge)) if edge.name.kind == Kind::Ve => push_end_keys(keys, edge),
+        _ => Ok(()),
+    }
+}
+
+/// Appends, for an area, the names that the ends of its edges name. Each key is looked up once.
+fn push_boundary_keys<B: Look, L: Ledger>(
+    keys: &mut Vec<Key>,
+    look: &B,
+    prim: u8,
+    named: &[Key],
+    steps: &mut Steps<L>,
+) -> Result<(), AllocError>
+    ensures keys { OnOk result (keys.new.items ≡ keys.old.items ++ (if prim == 3 then flat_map (ends_of_key (B.cell look.now)) named.now else [])) }
+    ensures steps { steps.new ≤ steps.old + length named.now }
+{
+    if prim != 3 {
+        return Ok(());
+    }
+    for key in named {
+        push_ends_of(keys, look, *key, steps)?;
+    }
+    Ok(())
+}
+
+/// Appends the identifiers of the features that a feature points to (FFPT, S-57 Part 3, 7.6.6).
+fn push_partner_keys(keys: &mut Vec<Key>, partners: &[Partner]) -> Result<(), AllocError>
+    ensures { OnOk result (keys.new.items ≡ keys.old.items ++ map (λ (p : SpecPartner). KeyFoid p.to) partners.now) }
+{
+    for partner in partners {
+        keys.push(Key::Foid(partner.to))?;
+    }
+    Ok(())
+}
+
+/// The keys of a feature, where `named` are those of its name and of the records that its spatial pointers name.
+fn gathered_keys<B: Look, L: Ledger>(
+    alloc: Global,
+    look: &B,
+    feature: &Feature,
+    named: &[Key],
+    steps: &mut Steps<L>,
+) -> Result<Vec<Key>, AllocError>
+    ensures keys { IfOk result (λ keys. keys.items ≡ (named.now ++ (if feature.now.prim == 3 then flat_map (ends_of_key (B.cell look.now)) named.now else [])) ++ map (λ (p : SpecPartner). KeyFoid p.to) feature.now.partners) }
+    ensures steps { steps.new ≤ steps.old + length named.now }
+{
+    let mut keys = Vec::new(alloc);
+    keys.extend_from_slice(named)?;
+    push_boundary_keys(&mut keys, look, feature.prim, named, steps)?;
+    push_partner_keys(&mut keys, feature.partners.as_slice())?;
+    Ok(keys)
+}
+
+/// The read set of a feature.
+pub(crate) fn feature_reads<B: Look, L: Ledger>(
+    alloc: Global,
+    look: &B,
+    name: RecName,
+    feature: &Feature,
+    steps: &mut Steps<L>,
+) -> Result<Keys, AllocError>
+    requires { lookup_record (B.cell look.now) name ≡ Some (F feature.now) }
+    ensures reads { IfOk result (λ keys. keys ≡ read_set (B.cell look.now) (SubjectRec name)) }
+    ensures steps { steps.new ≤ steps.old + length (read_set (B.cell look.now) (SubjectRec name)) }
+{
+    let named = named_keys(alloc, name, feature)?;
+    let keys = gathered_keys(alloc, look, feature, named.as_slice(), steps)?;
+    Ok(ascending_keys(keys))
+}

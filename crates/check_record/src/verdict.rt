@@ -1,0 +1,94 @@
+//! The check of a record.
+
+ghost use Rattle.std.specs.Prelude.{◌≡◌, ◌+◌, ◌*◌, ◌≤◌, IfOk, None, Some, length};
+ghost use Rattle.s57_types.specs.declared.cell.Cell.{Cell as SpecCell};
+ghost use Rattle.s57_types.specs.declared.record.Rec.TheVariants.{F, V};
+ghost use Rattle.cell_spec.specs.declared.key.Subject.TheVariants.{Rec as SubjectRec};
+ghost use Rattle.cell_spec.specs.Lookup.{lookup_record};
+ghost use Rattle.rule_spec.specs.Findings.{findings_of_subject};
+ghost use Rattle.rule_spec.specs.Reads.{read_set};
+ghost use Rattle.check_record.specs.RecordKinds.{record_kinds};
+ghost use Rattle.check_record.specs.RecordRow.{IsRecordRow};
+
+use crate::reads::{feature_reads, vector_reads};
+use crate::vector::vector_findings;
+use cell_spec::{Findings, Key, Row, Subject};
+use chain_topo::{Look, Steps};
+use read_sets::ascending_keys;
+use s57_types::{Feature, Items, Rec, RecName, Vector};
+use std::alloc::{AllocError, Global};
+use std::sync::ledger::Ledger;
+
+fn vector_row<B: Look, L: Ledger>(
+    alloc: Global,
+    look: &B,
+    name: RecName,
+    vector: &Vector,
+    steps: &mut Steps<L>,
+) -> Result<Row, AllocError>
+    requires { lookup_record (B.cell look.now) name ≡ Some (V vector.now) }
+    ensures row { IfOk result (IsRecordRow (B.cell look.now) name) }
+    ensures steps { steps.new + 1 ≤ steps.old + 4 * length (read_set (B.cell look.now) (SubjectRec name)) }
+{
+    let reads = vector_reads(alloc, name, vector)?;
+    let findings = vector_findings(alloc, look, name, vector, reads.as_slice(), steps)?;
+    Ok(Row {
+        subject: Subject::Rec(name),
+        findings: Items::of_vec(findings),
+        reads,
+    })
+}
+
+fn feature_row<B: Look, L: Ledger>(
+    alloc: Global,
+    look: &B,
+    name: RecName,
+    feature: &Feature,
+    steps: &mut Steps<L>,
+) -> Result<Row, AllocError>
+    requires { lookup_record (B.cell look.now) name ≡ Some (F feature.now) }
+    ensures row { IfOk result (IsRecordRow (B.cell look.now) name) }
+    ensures steps { steps.new + 1 ≤ steps.old + 4 * length (read_set (B.cell look.now) (SubjectRec name)) }
+{
+    let reads = feature_reads(alloc, look, name, feature, steps)?;
+    Ok(Row {
+        subject: Subject::Rec(name),
+        findings: Findings::make(alloc),
+        reads,
+    })
+}
+
+/// The row of a name that no record has: its read set is the name.
+fn absent_row(alloc: Global, name: RecName) -> Result<Row, AllocError>
+    ensures { (c : SpecCell) → lookup_record c name ≡ None → IfOk result (IsRecordRow c name) }
+{
+    let keys = vec![in alloc; Key::Name(name)]?;
+    Ok(Row {
+        subject: Subject::Rec(name),
+        findings: Findings::make(alloc),
+        reads: ascending_keys(keys),
+    })
+}
+
+/// The findings about a record, ascending by kind and numbers, and its read set. The kinds are BadShape, EndCount,
+/// DanglingEnd, Stacked, SelfMeet and NodePointer, about a node or an edge; a feature has none of them. A name that no
+/// record has gives no finding, and its read set is the name.
+///
+/// It makes at most four look-ups for each key of the read set. An `Err` is want of memory.
+pub fn verdict_rec<B: Look, L: Ledger>(
+    alloc: Global,
+    look: &B,
+    name: RecName,
+    steps: &mut Steps<L>,
+) -> Result<Row, AllocError>
+    ensures subject { IfOk result (λ row. row.subject ≡ SubjectRec name) }
+    ensures findings { IfOk result (λ row. row.findings ≡ findings_of_subject record_kinds (B.cell look.now) (SubjectRec name)) }
+    ensures reads { IfOk result (λ row. row.reads ≡ read_set (B.cell look.now) (SubjectRec name)) }
+    ensures steps { steps.new ≤ steps.old + 4 * length (read_set (B.cell look.now) (SubjectRec name)) }
+{
+    match look.get(name, steps) {
+        Some(Rec::V(vector)) => vector_row(alloc, look, name, vector, steps),
+        Some(Rec::F(feature)) => feature_row(alloc, look, name, feature, steps),
+        None => absent_row(alloc, name),
+    }
+}
