@@ -1,0 +1,4 @@
+pub mod Boxes
+pub mod Keys
+pub mod Parts
+pub mod Places

@@ -1,0 +1,29 @@
+use Rattle.std.proofs.Common.{◌≤◌, length, arith, sym, ◌∙◌}
+use Rattle.cell_spec.specs.declared.key.Subject.TheVariants.{Pair}
+use Rattle.rule_spec.specs.Reads.{read_set}
+use Rattle.check_pairs.proofs.Keys.{two_keys}
+use Rattle.check_pairs.proofs.Parts.{below_from_subject, findings_of}
+use Rattle.check_pairs.proofs.verdict.verdict_pair.Goals as goal
+
+pub returns-in_err-reads-clause-steps : goal.returns-in_err-reads-clause-steps
+returns-in_err-reads-clause-steps g c =
+    let cell = g.B.Look.cell c.args.look.now in
+    let two : 2 ≤ length (read_set cell (Pair c.args.a c.args.b)) = two_keys cell c.args.a c.args.b (below_from_subject cell c.args.a c.args.b c.requires) in
+    omega arith
+
+pub returns-in_err-findings-clause-steps : goal.returns-in_err-findings-clause-steps
+returns-in_err-findings-clause-steps g c =
+    let cell = g.B.Look.cell c.args.look.now in
+    let two : 2 ≤ length (read_set cell (Pair c.args.a c.args.b)) = two_keys cell c.args.a c.args.b (below_from_subject cell c.args.a c.args.b c.requires) in
+    omega arith
+
+pub returns-clause-findings : goal.returns-clause-findings
+returns-clause-findings g c =
+    let cell = g.B.Look.cell c.args.look.now in
+    c.of_vec.ensures ∙ c.in_ok-findings.ensures.found ∙ sym (findings_of cell c.args.a c.args.b c.requires)
+
+pub returns-clause-steps : goal.returns-clause-steps
+returns-clause-steps g c =
+    let cell = g.B.Look.cell c.args.look.now in
+    let two : 2 ≤ length (read_set cell (Pair c.args.a c.args.b)) = two_keys cell c.args.a c.args.b (below_from_subject cell c.args.a c.args.b c.requires) in
+    omega arith

@@ -1,0 +1,4 @@
+pub mod Bounds
+pub mod Contacts
+pub mod PairKinds
+pub mod SharedPlaces

@@ -1,0 +1,184 @@
+//! The first illegal contact of two lines.
+
+ghost use Rattle.std.specs.Prelude.{◌≡◌, ◌++◌, IfOk, OnOk, Some, find, map};
+ghost use Rattle.std.specs.List.{enumerate_from};
+ghost use Rattle.std.specs.Option.{option_copied};
+ghost use Rattle.rule_spec.specs.EdgePoints.{segments_of as spec_segments};
+ghost use Rattle.rule_spec.specs.Vectors.{each_with_each, meeting_of_segments as spec_meeting};
+ghost use Rattle.rule_spec.specs.Contacts.{is_on as spec_is_on, meet_at_one_of as spec_meet_at, is_illegal as spec_illegal, have_illegal_contact as spec_have_illegal};
+ghost use Rattle.check_pairs.specs.Bounds.{line_box};
+ghost use Rattle.check_pairs.specs.SharedPlaces.{is_end_of as spec_is_end_of, place_if, shared_places as spec_shared_places, first_contact as spec_first_contact};
+
+use crate::bounds::{are_disjoint, box_of_line, box_of_segment};
+use geo_exact::{meeting, on_segment};
+use geometry_spec::{Box4, MeetCase, Point};
+use plain_lookups::{Numbered, Segment, numbered, segments_of};
+use rule_spec::EdgeLine;
+use s57_types::RecName;
+use std::alloc::{AllocError, Global};
+
+/// Whether a point lies on a segment.
+pub(crate) fn is_on(s: Segment, w: Point) -> bool
+    ensures { result ≡ spec_is_on s w }
+{
+    on_segment(w, s.0, s.1)
+}
+
+fn meet_at_one_of(places: &[Point], s: Segment, t: Segment) -> bool
+    ensures { result ≡ spec_meet_at places.now s t }
+{
+    for w in places {
+        if is_on(s, *w) && is_on(t, *w) {
+            return true;
+        }
+    }
+    false
+}
+
+/// What two segments have in common.
+pub(crate) fn meeting_of_segments(s: Segment, t: Segment) -> MeetCase
+    ensures { result ≡ spec_meeting s t }
+{
+    meeting(s.0, s.1, t.0, t.1)
+}
+
+fn is_illegal(places: &[Point], s: Segment, t: Segment, case: MeetCase) -> bool
+    ensures { result ≡ spec_illegal places.now s t case }
+{
+    match case {
+        MeetCase::Apart => false,
+        MeetCase::At => !meet_at_one_of(places, s, t),
+        MeetCase::Along => true,
+    }
+}
+
+fn have_illegal_contact(places: &[Point], a: Numbered, b: Numbered) -> bool
+    ensures { result ≡ spec_have_illegal places.now (a, b) }
+{
+    is_illegal(places, a.1, b.1, meeting_of_segments(a.1, b.1))
+}
+
+/// The first segment of a line with which one segment has an illegal contact. Two segments whose boxes are disjoint
+/// are apart, so that their contact is looked at no further.
+fn first_contact_among(
+    places: &[Point],
+    a: Numbered,
+    line: &[Numbered],
+) -> Option<(Numbered, Numbered)>
+    ensures { result ≡ find (spec_have_illegal places.now) (map (λ b. (a, b)) line.now) }
+{
+    for b in line {
+        if have_illegal_contact(places, a, *b) {
+            return Some((a, *b));
+        }
+    }
+    None
+}
+
+/// The same, where the line lies in a box. A segment whose box is disjoint from that has no contact with the line.
+fn first_contact_within(
+    places: &[Point],
+    a: Numbered,
+    line: &[Numbered],
+    around: Box4,
+) -> Option<(Numbered, Numbered)>
+    requires { line_box line.now ≡ Some around }
+    ensures { result ≡ find (spec_have_illegal places.now) (map (λ b. (a, b)) line.now) }
+{
+    if are_disjoint(box_of_segment(a), around) {
+        return None;
+    }
+    first_contact_among(places, a, line)
+}
+
+fn first_contact_by_rows(
+    places: &[Point],
+    first: &[Numbered],
+    second: &[Numbered],
+    around: Box4,
+) -> Option<(Numbered, Numbered)>
+    requires { line_box second.now ≡ Some around }
+    ensures { result ≡ find (spec_have_illegal places.now) (each_with_each first.now second.now) }
+{
+    for a in first {
+        if let Some(pair) = first_contact_within(places, *a, second, around) {
+            return Some(pair);
+        }
+    }
+    None
+}
+
+/// The first illegal contact of two lists of segments. Lines whose boxes are disjoint have none.
+fn first_contact_of_segments(
+    places: &[Point],
+    first: &[Numbered],
+    second: &[Numbered],
+) -> Option<(Numbered, Numbered)>
+    ensures { result ≡ find (spec_have_illegal places.now) (each_with_each first.now second.now) }
+{
+    let Some(first_box) = box_of_line(first) else {
+        return None;
+    };
+    let Some(second_box) = box_of_line(second) else {
+        return None;
+    };
+    if are_disjoint(first_box, second_box) {
+        return None;
+    }
+    first_contact_by_rows(places, first, second, second_box)
+}
+
+fn numbered_segments(alloc: Global, line: &EdgeLine) -> Result<Vec<Numbered>, AllocError>
+    ensures { IfOk result (λ list. list.items ≡ enumerate_from 1 (spec_segments line.now.points)) }
+{
+    let segments = segments_of(alloc, line.points.as_slice())?;
+    let list = numbered(alloc, &segments)?;
+    Ok(list)
+}
+
+fn is_end_of(line: &EdgeLine, name: RecName) -> bool
+    ensures { result ≡ spec_is_end_of line.now name }
+{
+    name == line.begins || name == line.ends
+}
+
+fn push_place(
+    places: &mut Vec<Point>,
+    is_shared: bool,
+    place: Option<&Point>,
+) -> Result<(), AllocError>
+    ensures { OnOk result (places.new.items ≡ places.old.items ++ place_if is_shared (option_copied place.entry)) }
+{
+    if let Some(place) = place {
+        if is_shared {
+            places.push(*place)?;
+        }
+    }
+    Ok(())
+}
+
+/// The places of the nodes that two lines share.
+fn shared_places(alloc: Global, a: &EdgeLine, b: &EdgeLine) -> Result<Vec<Point>, AllocError>
+    ensures { IfOk result (λ places. places.items ≡ spec_shared_places a.now b.now) }
+{
+    let points = a.points.as_slice();
+    let mut places = Vec::new(alloc);
+    push_place(&mut places, is_end_of(b, a.begins), points.first())?;
+    push_place(&mut places, is_end_of(b, a.ends), points.last())?;
+    Ok(places)
+}
+
+/// The first illegal contact of two lines: the least two segments by the number on the first line, then on the second.
+/// They may meet at the places of nodes that both name.
+pub(crate) fn first_contact(
+    alloc: Global,
+    a: &EdgeLine,
+    b: &EdgeLine,
+) -> Result<Option<(Numbered, Numbered)>, AllocError>
+    ensures { IfOk result (λ pair. pair ≡ spec_first_contact (spec_shared_places a.now b.now) a.now b.now) }
+{
+    let places = shared_places(alloc, a, b)?;
+    let first = numbered_segments(alloc, a)?;
+    let second = numbered_segments(alloc, b)?;
+    Ok(first_contact_of_segments(&places, &first, &second))
+}

@@ -1,0 +1,74 @@
+//! The verdict on two connected nodes or edges.
+
+ghost use Rattle.std.specs.Prelude.{◌≡◌, ◌≤◌, ◌+◌, ◌*◌, IsTrue, IfOk, Some, length};
+ghost use Rattle.s57_types.specs.declared.record.Rec.TheVariants.{V as SpecV};
+ghost use Rattle.cell_spec.specs.declared.key.Subject.TheVariants.{Pair as SpecPair};
+ghost use Rattle.cell_spec.specs.Lookup.{lookup_record};
+ghost use Rattle.rule_spec.specs.Findings.{is_subject, findings_about, findings_of_subject};
+ghost use Rattle.rule_spec.specs.Reads.{read_set};
+ghost use Rattle.check_pairs.specs.PairKinds.{pair_kinds};
+
+use crate::finding::{edge_pair, node_and_edge, node_pair};
+use crate::part::{chain_part, is_edge, pair_keys};
+use cell_spec::{Finding, Row, Subject};
+use chain_topo::{Look, Steps};
+use s57_types::{Items, RecName, Vector};
+use std::alloc::{AllocError, Global};
+use std::sync::ledger::Ledger;
+
+fn pair_findings<B: Look, L: Ledger>(
+    alloc: Global,
+    look: &B,
+    a: RecName,
+    first: &Vector,
+    b: RecName,
+    second: &Vector,
+    steps: &mut Steps<L>,
+) -> Result<Vec<Finding>, AllocError>
+    requires first { lookup_record (B.cell look.now) a ≡ Some (SpecV first.now) }
+    requires second { lookup_record (B.cell look.now) b ≡ Some (SpecV second.now) }
+    ensures found { IfOk result (λ findings. findings.items ≡ findings_about pair_kinds (B.cell look.now) (SpecPair a b)) }
+    ensures steps { steps.new ≤ steps.old + 6 }
+    ensures counted { steps.old ≤ steps.new }
+{
+    match (is_edge(first), is_edge(second)) {
+        (true, true) => edge_pair(alloc, look, a, b, steps),
+        (false, true) => node_and_edge(alloc, look, a, first, b, second, steps),
+        (false, false) => node_pair(alloc, first, second),
+        (true, false) => Ok(Vec::new(alloc)),
+    }
+}
+
+/// The row of two connected nodes or edges of a cell, the lesser name first: its findings and its read set, which is
+/// that of both records.
+///
+/// Two edges with points Cross, Touch or Coincide by the first illegal contact of their segments, in the order of the
+/// numbers on the first edge, then on the second; they may meet at the place of a connected node that both name as a
+/// beginning or end node (S-57 Part 2, 2.2.1.2). Two nodes with one position each are at SamePlace. A node with one
+/// position is NodeOnEdge by the first segment of an edge whose ends don't name it.
+///
+/// It makes at most four look-ups for each key of the read set. An `Err` is want of memory.
+pub fn verdict_pair<B: Look, L: Ledger>(
+    alloc: Global,
+    look: &B,
+    a: RecName,
+    b: RecName,
+    steps: &mut Steps<L>,
+) -> Result<Row, AllocError>
+    requires { IsTrue (is_subject (B.cell look.now) (SpecPair a b)) }
+    ensures subject { IfOk result (λ row. row.subject ≡ SpecPair a b) }
+    ensures findings { IfOk result (λ row. row.findings ≡ findings_of_subject pair_kinds (B.cell look.now) (SpecPair a b)) }
+    ensures reads { IfOk result (λ row. row.reads ≡ read_set (B.cell look.now) (SpecPair a b)) }
+    ensures steps { steps.new ≤ steps.old + 4 * length (read_set (B.cell look.now) (SpecPair a b)) }
+    ensures counted { steps.old ≤ steps.new }
+{
+    let first = chain_part(look, a, steps);
+    let second = chain_part(look, b, steps);
+    let reads = pair_keys(alloc, a, first, b, second)?;
+    let findings = pair_findings(alloc, look, a, first, b, second, steps)?;
+    Ok(Row {
+        subject: Subject::Pair(a, b),
+        findings: Items::of_vec(findings),
+        reads,
+    })
+}
