@@ -1,0 +1,5 @@
+pub mod Rows
+pub mod Kinds
+pub mod AllFindings
+pub mod Judged
+pub mod Gathered
