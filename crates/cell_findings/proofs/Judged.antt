@@ -1,5 +1,5 @@
 -- The judged subjects of a writable cell are those of its subjects that may have a finding of the judged kinds.
-use Rattle.std.proofs.Common.{◌≡◌, ℕ, Bool, true, false, ◌&&◌, ◌||◌, List, [], ◌∷◌, ◌++◌, map, filter, Option, Some, None, cond, find, is_some, refl, sym, ap, ◌∙◌, subst}
+use Rattle.std.proofs.Common.{◌≡◌, ℕ, All, Bool, true, false, ◌&&◌, ◌||◌, List, [], ◌∷◌, ◌++◌, map, filter, Option, Some, None, cond, find, get_or, is_some, refl, sym, ap, ◌∙◌, subst}
 use Rattle.std.specs.Prelude.{◌==◌, option_and_then}
 use Rattle.std.specs.List.{list_any, flat_map, AllByRecursion}
 use Rattle.std.specs.Option.{option_map_or}
@@ -22,12 +22,13 @@ use Rattle.cell_spec.specs.Ascending.{ascending}
 use Rattle.cell_spec.specs.Lookup.{all_records, identities_of, is_named, lookup_record, name_of}
 use Rattle.cell_spec.specs.Names.{is_of_kind, kind_rank, name_order, same_name, subject_order}
 use Rattle.cell_spec.specs.Writable.{IsWritable}
-use Rattle.rule_spec.specs.Findings.{findings_of_record, findings_of_subject, is_below, is_subject, possible_subjects, record_names, subjects}
+use Rattle.rule_spec.specs.Findings.{findings_about, findings_of_record, findings_of_subject, is_below, is_subject, possible_subjects, record_names, subjects}
 use Rattle.rule_spec.specs.Records.{is_chain_part, is_edge_name, vector_of}
 use Rattle.cell_findings.specs.Judged.{is_part_name, judged_subjects, pairs_among, subject_findings, vector_names}
 use Rattle.cell_findings.specs.Kinds.{judged_kinds}
 use Rattle.cell_findings.specs.Rows.{with_subject}
-use Rattle.cell_findings.proofs.Ascending.{any_and, any-map, any_same, holds, holds-ascending, holds-filter, never, same_when_sorted, sorted-append, sorted-ascending, tied}
+use Rattle.cell_findings.proofs.Ascending.{any_and, any-map, any_same, holds, holds-ascending, holds-filter, holds-item, never, same_when_sorted, sorted-append, sorted-ascending, tied}
+use Rattle.cell_findings.proofs.Gathering.{all_behind}
 use Rattle.cell_findings.proofs.Pairs.{has, held_pairs, pairs_sorted, records_first, records_sorted}
 use Rattle.cell_findings.proofs.SubjectOrder.{exact_names, exact_subjects, names_tie, pairs_tie, total_names, total_subjects}
 use Rattle.cell_findings.proofs.WritableLists.{AreFeatures, AreWellNamed, all_well_named, features_are, no_feature_named}
@@ -199,13 +200,13 @@ kept_all true s p e f = λ i. e refl i && f refl i
 kept_all false s p e f = refl
 
 module _ (c : Cell) (w : IsWritable c) where
-  abbrev vectors : List Record
+  abbrev pub vectors : List Record
   vectors = c.vi ++ c.vc ++ c.ve
 
-  abbrev names : List RecName
+  abbrev pub names : List RecName
   names = vector_names c
 
-  abbrev parts : List RecName
+  abbrev pub parts : List RecName
   parts = filter is_part_name (vector_names c)
 
   has_name : (n : RecName) → has n names ≡ list_any (is_named n) vectors
@@ -238,7 +239,7 @@ module _ (c : Cell) (w : IsWritable c) where
   judged_sorted = sorted-append subject_order (map Rec names) (pairs_among parts) (records_sorted names names_sorted) (pairs_sorted parts parts_sorted) (records_first names parts)
 
   -- ---- what is among the judged subjects
-  abbrev is_judged : Subject → Bool
+  abbrev pub is_judged : Subject → Bool
   is_judged s = holds subject_order s (judged_subjects c)
 
   halves : (s : Subject) → is_judged s ≡ (holds subject_order s (map Rec names) || holds subject_order s (pairs_among parts))
@@ -271,7 +272,7 @@ module _ (c : Cell) (w : IsWritable c) where
   unfolding findings_of_subject
   no_finding (Rec n) e = no_record n (sym (judged_record n) ∙ e)
   no_finding (Side n) e = ap (map (with_subject (Side n))) (if_same (is_subject c (Side n)) [])
-  no_finding (Pair a b) e = ap (λ t. map (with_subject (Pair a b)) (cond t _ [])) (sym (judged_pair a b) ∙ e)
+  no_finding (Pair a b) e = ap (λ t. map (with_subject (Pair a b)) (cond t (findings_about judged_kinds c (Pair a b)) [])) (sym (judged_pair a b) ∙ e)
   no_finding (Ident l) e = ap (map (with_subject (Ident l))) (if_same (is_subject c (Ident l)) [])
 
   -- ---- each is a subject of the cell
@@ -288,6 +289,12 @@ module _ (c : Cell) (w : IsWritable c) where
   judged_is_subject (Side n) e = absurd (cc (e, judged_side n))
   judged_is_subject (Pair a b) e = sym (judged_pair a b) ∙ e
   judged_is_subject (Ident l) e = absurd (cc (e, judged_identity l))
+
+  -- each two of the judged names are two connected nodes or edges
+  pub pairs_are_subjects : All (λ s. is_subject c s ≡ true) (pairs_among parts)
+  pairs_are_subjects =
+      all_behind (λ s. is_subject c s ≡ true) (map Rec names) (pairs_among parts)
+      (λ k d within. judged_is_subject (get_or (judged_subjects c) k d) (holds-item subject_order total_subjects (judged_subjects c) k d within))
 
   abbrev possible : List Subject
   possible = possible_subjects (record_names c) (flat_map identities_of (all_records c))

@@ -5,3 +5,6 @@ pub mod WritableLists
 pub mod Pairs
 pub mod Judged
 pub mod AllFindings
+pub mod Gathering
+pub mod KindsAgree
+pub mod KnownKinds

@@ -11,8 +11,8 @@ use Rattle.cell_spec.specs.declared.key.Subject.TheVariants.{Rec, Pair}
 use Rattle.cell_spec.specs.Names.{name_order, subject_order}
 use Rattle.rule_spec.specs.Findings.{is_below}
 use Rattle.cell_findings.specs.Judged.{pairs_among}
-use Rattle.cell_findings.proofs.Ascending.{all_append, any_and, any-map, any_same, holds, sorted-append, tied}
-use Rattle.cell_findings.proofs.SubjectOrder.{exact_names, name_itself, pairs_by_first, pairs_by_second, pairs_tie, total_names}
+use Rattle.cell_findings.proofs.Ascending.{all_append, any_and, any-map, any_same, holds, sorted-append, tied, ties_itself}
+use Rattle.cell_findings.proofs.SubjectOrder.{exact_names, pairs_by_first, pairs_by_second, pairs_tie, total_names}
 
 -- a name is among some names
 abbrev pub has : RecName → List RecName → Bool
@@ -121,5 +121,5 @@ held_pairs a b (x ∷ xs) h =
     ∙ (λ i. held_first a b x xs i || held_pairs a b xs h.1 i)
     ∙ held_by (is_eq (name_order a x)) (is_eq (name_order b x)) (has a xs) (has b xs) (is_below a b)
     (λ e f. ap (λ n. is_lt (name_order n b)) (is_x a e) ∙ ap is_lt (has_above x b xs h.0 f))
-    (λ e f. (λ i. is_lt (name_order (is_x a e i) (is_x b f i))) ∙ ap is_lt (name_itself x))
+    (λ e f. (λ i. is_lt (name_order (is_x a e i) (is_x b f i))) ∙ ap is_lt (ties_itself name_order total_names x))
     (λ e f. ap (λ n. is_lt (name_order a n)) (is_x b e) ∙ ap is_lt (total_names.antisymm a x ∙ ap ordering_reverse (has_above x a xs h.0 f)))

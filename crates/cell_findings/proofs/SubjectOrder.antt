@@ -95,12 +95,6 @@ names_tie n m =
 itself : (x : ℕ) → nat_cmp x x ≡ Equal
 itself x = grind (arith, nat_tests)
 
--- a name is not below itself
-pub name_itself : (n : RecName) → name_order n n ≡ Equal
-name_itself n =
-    ap (λ o. ordering_then o (ordering_then (nat_cmp n.id n.id) Equal)) (itself (kind_rank n.kind))
-    ∙ ap (λ o. ordering_then o Equal) (itself n.id)
-
 -- pairs with one first name go by the second
 pub pairs_by_second : (a b d : RecName) → subject_order (Pair a b) (Pair a d) ≡ name_order b d
 pairs_by_second a b d =

@@ -1,8 +1,8 @@
 -- The records of a writable cell: vector records and features, as their names say, each list of a kind of its own.
-use Rattle.std.proofs.Common.{◌≡◌, ℕ, Bool, true, false, ◌&&◌, ◌||◌, List, [], ◌∷◌, ◌++◌, Some, None, All, refl, sym, ap, ◌∙◌, omega, arith}
+use Rattle.std.proofs.Common.{◌≡◌, ℕ, Bool, true, false, ◌&&◌, ◌||◌, List, [], ◌∷◌, ◌++◌, Some, None, All, refl, sym, ap, ◌∙◌, arith}
 use Rattle.std.specs.Prelude.{◌==◌, not, nat_lt, if◌then◌else◌}
 use Rattle.std.specs.List.{list_any, AllByRecursion}
-use Rattle.std.proofs.lemmas.List.Elements.{All-tail, recursion_from_All}
+use Rattle.std.proofs.lemmas.List.Elements.{recursion_from_All}
 use Rattle.s57_types.specs.Fitness.{unfitness, has_good_names, has_good_texts, is_feature_kind}
 use Rattle.s57_types.specs.RecordFields.{written_length, length_limit}
 use Rattle.s57_types.specs.declared.name.Kind.{Kind}
@@ -16,14 +16,11 @@ use Rattle.cell_spec.specs.Lookup.{all_records, is_named, name_of}
 use Rattle.cell_spec.specs.Names.{is_of_kind, kind_rank}
 use Rattle.cell_spec.specs.Writable.{AreFit, AreOfKind, IsWritable}
 use Rattle.chain_topo.specs.Readable.{IsReadable}
+use Rattle.cell_findings.proofs.Gathering.{all_behind}
 
 -- it can be looked into
 pub readable : (c : Cell) → IsWritable c → IsReadable c
 readable c w = record { distinct = w.names_distinct; count = omega (arith, w.not_too_many); fit = w.records_fit }
-
-behind : {X : Type 0} (P : X → Type 0) (xs ys : List X) → All P (xs ++ ys) → All P ys
-behind P [] ys all = all
-behind P (x ∷ xs) ys all = behind P xs ys (All-tail P x (xs ++ ys) all)
 
 -- ---- a record that can be written is a vector record or a feature, as its name says
 abbrev pub is_well_named : Rec → Bool
@@ -100,7 +97,7 @@ module _ (c : Cell) (w : IsWritable c) where
   pub features_are : AreFeatures c.fe
   features_are =
       features_of_kind c.fe features_have_kind
-      (well_named c.head.nall c.fe (recursion_from_All fits c.fe (behind fits (c.vi ++ c.vc ++ c.ve) c.fe w.records_fit)))
+      (well_named c.head.nall c.fe (recursion_from_All fits c.fe (all_behind fits (c.vi ++ c.vc ++ c.ve) c.fe w.records_fit)))
 
   pub no_feature_named : (n : RecName) (m : Kind) → (kind_rank Fe == kind_rank m) ≡ false → (is_of_kind m n && list_any (is_named n) c.fe) ≡ false
   no_feature_named n m apart = not_named n m apart c.fe features_have_kind
