@@ -1,16 +1,17 @@
 -- Findings gathered step by step: what a step leaves, and what its refusal says of all.
 use Rattle.std.proofs.Common.{◌≡◌, ℕ, ◌+◌, ◌<◌, ◌≤◌, All, List, [], ◌∷◌, ◌++◌, drop, get_or, length, map, append_assoc, length-append, refl, sym, ap, ◌∙◌, subst, arith}
 use Rattle.std.specs.List.{flat_map}
-use Rattle.std.proofs.lemmas.List.{at_drop_more}
+use Rattle.std.proofs.lemmas.List.{append-nil, at_drop_more}
 use Rattle.std.proofs.lemmas.List.Concat.{flat_map-append}
 use Rattle.std.proofs.lemmas.List.Elements.{All-cons, All-head, All-nil, All-tail}
-use Rattle.s57_types.specs.declared.name.RecName.{RecName}
 use Rattle.cell_spec.specs.declared.key.Subject.{Subject}
 use Rattle.cell_spec.specs.declared.key.Subject.TheVariants.{Pair}
 use Rattle.cell_findings.specs.declared.list.SubjectFinding.{SubjectFinding}
 use Rattle.cell_findings.specs.declared.refusal.FindingRefusal.{FindingRefusal}
 use Rattle.cell_findings.specs.declared.refusal.FindingRefusal.TheVariants.{TooMany, NoMemory}
 use Rattle.cell_findings.specs.Gathered.{IsGathered, IsOver}
+use Rattle.cell_findings.specs.declared.part.Part.{Part}
+use Rattle.cell_findings.specs.Extents.{names_of}
 use Rattle.cell_findings.specs.Judged.{pairs_among}
 
 -- a step goes on to the rest
@@ -20,6 +21,12 @@ gathered_more limit before row rest all found left is = ap (λ fs. fs ++ rest) i
 pub gathered_within : (limit : ℕ) (all found : List SubjectFinding) → IsGathered limit all found → length found ≤ limit
 gathered_within limit all found is = subst (λ fs. length fs ≤ limit) (sym is.same) is.within
 
+-- a subject without findings adds none
+pub gathered_none : (limit : ℕ) (before row : List SubjectFinding) → row ≡ [] → length before ≤ limit → IsGathered limit (before ++ row) before
+gathered_none limit before row none within =
+    let same = sym (append-nil before) ∙ ap (λ fs. before ++ fs) (sym none) in
+    record { same = same; within = subst (λ fs. length fs ≤ limit) same within }
+
 -- what is too much for a part is too much for all
 pub over_more : (limit : ℕ) (before row rest all : List SubjectFinding) (refusal : FindingRefusal) → before ++ (row ++ rest) ≡ all → IsOver limit (before ++ row) refusal → IsOver limit all refusal
 over_more limit before row rest all TooMany left over =
@@ -28,16 +35,17 @@ over_more limit before row rest all TooMany left over =
     omega (arith, parts, sum, over)
 over_more limit before row rest all NoMemory left over = tt
 
--- ---- pairs of names, by their first one after the other
-pub pairs_more : (names : List RecName) (k : ℕ) (d : RecName) → k < length names → pairs_among (drop k names) ≡ map (Pair (get_or names k d)) (drop (k + 1) names) ++ pairs_among (drop (k + 1) names)
-pairs_more names k d within = at_drop_more pairs_among names k d within
+-- ---- pairs of parts, by their first one after the other
+pub pairs_more : (parts : List Part) (k : ℕ) (d : Part) → k < length parts
+    → pairs_among (names_of (drop k parts)) ≡ map (Pair (get_or parts k d).name) (names_of (drop (k + 1) parts)) ++ pairs_among (names_of (drop (k + 1) parts))
+pairs_more parts k d within = at_drop_more (λ ps. pairs_among (names_of ps)) parts k d within
 
-pub firsts_more : (findings : Subject → List SubjectFinding) (names : List RecName) (k : ℕ) (d : RecName) (before all : List SubjectFinding) → k < length names
-    → before ++ flat_map findings (pairs_among (drop k names)) ≡ all
-    → before ++ (flat_map findings (map (Pair (get_or names k d)) (drop (k + 1) names)) ++ flat_map findings (pairs_among (drop (k + 1) names))) ≡ all
-firsts_more findings names k d before all within left =
-    ap (λ fs. before ++ fs) (sym (flat_map-append findings (map (Pair (get_or names k d)) (drop (k + 1) names)) (pairs_among (drop (k + 1) names))))
-    ∙ ap (λ ss. before ++ flat_map findings ss) (sym (pairs_more names k d within))
+pub firsts_more : (findings : Subject → List SubjectFinding) (parts : List Part) (k : ℕ) (d : Part) (before all : List SubjectFinding) → k < length parts
+    → before ++ flat_map findings (pairs_among (names_of (drop k parts))) ≡ all
+    → before ++ (flat_map findings (map (Pair (get_or parts k d).name) (names_of (drop (k + 1) parts))) ++ flat_map findings (pairs_among (names_of (drop (k + 1) parts)))) ≡ all
+firsts_more findings parts k d before all within left =
+    ap (λ fs. before ++ fs) (sym (flat_map-append findings (map (Pair (get_or parts k d).name) (names_of (drop (k + 1) parts))) (pairs_among (names_of (drop (k + 1) parts)))))
+    ∙ ap (λ ss. before ++ flat_map findings ss) (sym (pairs_more parts k d within))
     ∙ left
 
 pub all_before : {X : Type 0} (P : X → Type 0) (xs ys : List X) → All P (xs ++ ys) → All P xs

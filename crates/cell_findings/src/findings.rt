@@ -10,6 +10,7 @@ ghost use Rattle.std.specs.List.{flat_map};
 use crate::gather::{push_pairs, push_records};
 use crate::list::{Findings, SubjectFinding};
 use crate::names::{part_names, vector_names};
+use crate::part::parts_of;
 use crate::refusal::FindingRefusal;
 use chain_topo::{ListLook, Steps};
 use s57_types::Cell;
@@ -32,8 +33,9 @@ fn gather<L: Ledger>(
 {
     let look = ListLook::make(alloc, cell)?;
     let names = vector_names(alloc, cell)?;
-    let parts = part_names(alloc, names.as_slice())?;
+    let chain_names = part_names(alloc, names.as_slice())?;
     let mut steps = Steps::<L>::start(blank);
+    let parts = parts_of(alloc, &look, &chain_names, &mut steps)?;
     let mut gathered = Vec::new(alloc);
     push_records(
         alloc,
