@@ -1,0 +1,29 @@
+-- The findings about a record are of the kinds about records, and those about a pair of the kinds about pairs.
+use Rattle.std.proofs.Common.{◌≡◌, [], Option, None, Some, cond, refl, ap}
+use Rattle.std.specs.Option.{option_map_or}
+use Rattle.s57_types.specs.declared.name.RecName.{RecName}
+use Rattle.s57_types.specs.declared.record.Rec.{Rec as Record}
+use Rattle.s57_types.specs.declared.record.Rec.TheVariants.{V, F}
+use Rattle.s57_types.specs.declared.cell.Cell.{Cell}
+use Rattle.cell_spec.specs.declared.key.Subject.TheVariants.{Rec, Pair}
+use Rattle.cell_spec.specs.Lookup.{lookup_record}
+use Rattle.rule_spec.specs.Findings.{findings_about, findings_of_record, findings_of_subject, is_subject}
+use Rattle.check_pairs.specs.PairKinds.{pair_kinds}
+use Rattle.check_record.specs.RecordKinds.{record_kinds}
+use Rattle.cell_findings.specs.Kinds.{judged_kinds}
+
+of_record : (c : Cell) (r : Record) → findings_of_record record_kinds c r ≡ findings_of_record judged_kinds c r
+of_record c (V v) = refl
+of_record c (F f) = refl
+
+of_found : (c : Cell) (found : Option Record) → option_map_or (findings_of_record record_kinds c) found [] ≡ option_map_or (findings_of_record judged_kinds c) found []
+of_found c None = refl
+of_found c (Some r) = of_record c r
+
+pub record_judged : (c : Cell) (n : RecName) → findings_of_subject record_kinds c (Rec n) ≡ findings_of_subject judged_kinds c (Rec n)
+unfolding findings_of_subject
+record_judged c n = ap (λ fs. cond (is_subject c (Rec n)) fs []) (of_found c (lookup_record c n))
+
+pub pair_judged : (c : Cell) (a b : RecName) → findings_of_subject pair_kinds c (Pair a b) ≡ findings_of_subject judged_kinds c (Pair a b)
+unfolding findings_of_subject
+pair_judged c a b = refl

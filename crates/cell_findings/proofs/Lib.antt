@@ -1,0 +1,12 @@
+pub mod RowTexts
+pub mod Ascending
+pub mod SubjectOrder
+pub mod WritableLists
+pub mod Pairs
+pub mod Judged
+pub mod AllFindings
+pub mod Gathering
+pub mod KindsAgree
+pub mod KnownKinds
+pub mod SmallCells
+pub mod Extents

@@ -1,0 +1,6 @@
+pub mod Rows
+pub mod Kinds
+pub mod AllFindings
+pub mod Judged
+pub mod Gathered
+pub mod Extents

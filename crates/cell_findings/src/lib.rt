@@ -1,0 +1,19 @@
+//! The findings of a chart cell about its nodes and edges, alone and in pairs, and their text.
+#![tactic(auto)]
+
+mod boxes;
+mod findings;
+mod gather;
+mod list;
+mod names;
+mod part;
+mod refusal;
+mod text;
+
+pub use findings::find_all;
+pub use list::{Findings, SubjectFinding};
+pub use refusal::FindingRefusal;
+pub use text::push_cell;
+
+#[cfg(test)]
+mod tests;

@@ -1,0 +1,129 @@
+//! The part of a report that tells of a cell.
+
+ghost use Rattle.std.specs.Prelude.{◌≡◌, ◌++◌, ◌∷◌, [], All, List, decimal, map, OnOk};
+ghost use Rattle.std.specs.List.{flat_map};
+ghost use Rattle.cell_spec.specs.declared.finding.Finding.{Finding as SpecFinding};
+ghost use Rattle.cell_spec.specs.declared.key.Subject.{Subject as SpecSubject};
+ghost use Rattle.text_spec.specs.Lines.{spaced_words};
+ghost use Rattle.text_spec.specs.CellText.{subject_word, subject_words, count_line, total_line, text_with};
+ghost use Rattle.cell_findings.specs.Rows.{findings_of_rows, line_of, HasKnownKind};
+
+use crate::list::{Findings, SubjectFinding};
+use cell_spec::Subject;
+use itoa::Buffer;
+use rule_spec::{kind_name, number_count};
+use s57_types::{Cell, Lnam};
+use std::alloc::AllocError;
+use text_lines::{push_name, push_number, push_text, push_word};
+
+/// Appends the words of a feature object identifier.
+fn push_identity(out: &mut Vec<u8>, lnam: Lnam) -> Result<(), AllocError>
+    ensures { OnOk result (out.new.items ≡ out.old.items ++ spaced_words (decimal lnam.agen ∷ decimal lnam.fidn ∷ decimal lnam.fids ∷ [])) }
+{
+    push_number(out, u32::from(lnam.agen))?;
+    push_number(out, lnam.fidn)?;
+    push_number(out, u32::from(lnam.fids))
+}
+
+/// Appends a subject.
+fn push_subject(out: &mut Vec<u8>, subject: Subject) -> Result<(), AllocError>
+    ensures { OnOk result (out.new.items ≡ out.old.items ++ subject_word subject ++ spaced_words (subject_words subject)) }
+{
+    match subject {
+        Subject::Rec(name) => {
+            push_text(out, "rec")?;
+            push_name(out, name)
+        }
+        Subject::Side(name) => {
+            push_text(out, "side")?;
+            push_name(out, name)
+        }
+        Subject::Pair(first, second) => {
+            push_text(out, "pair")?;
+            push_name(out, first)?;
+            push_name(out, second)
+        }
+        Subject::Ident(lnam) => {
+            push_text(out, "ident")?;
+            push_identity(out, lnam)
+        }
+    }
+}
+
+/// Appends numbers, each behind a space.
+fn push_numbers(out: &mut Vec<u8>, numbers: &[u32]) -> Result<(), AllocError>
+    ensures { OnOk result (out.new.items ≡ out.old.items ++ spaced_words (map decimal numbers.now)) }
+{
+    for number in numbers {
+        push_number(out, *number)?;
+    }
+    Ok(())
+}
+
+/// Appends the line of a finding.
+fn push_finding(out: &mut Vec<u8>, found: &SubjectFinding) -> Result<(), AllocError>
+    requires { HasKnownKind found.now }
+    ensures { OnOk result (out.new.items ≡ out.old.items ++ line_of found.now) }
+{
+    let finding = found.finding;
+    push_subject(out, found.subject)?;
+    push_word(out, kind_name(finding.kind))?;
+    push_numbers(out, &finding.nums[..number_count(finding.kind)])?;
+    push_text(out, "\n")
+}
+
+/// Appends the lines of findings.
+fn push_findings(out: &mut Vec<u8>, findings: &[SubjectFinding]) -> Result<(), AllocError>
+    requires { All HasKnownKind findings.now }
+    ensures { OnOk result (out.new.items ≡ out.old.items ++ flat_map line_of findings.now) }
+{
+    for found in findings {
+        push_finding(out, found)?;
+    }
+    Ok(())
+}
+
+/// Appends a list's word and its number of records.
+fn push_count(out: &mut Vec<u8>, word: &str, count: usize) -> Result<(), AllocError>
+    ensures { OnOk result (out.new.items ≡ out.old.items ++ spaced_words (word.now ∷ decimal count ∷ [])) }
+{
+    let mut buffer = Buffer::new();
+    push_word(out, word)?;
+    push_word(out, buffer.format(count))
+}
+
+/// Appends the line of the numbers of records.
+fn push_counts(out: &mut Vec<u8>, cell: &Cell) -> Result<(), AllocError>
+    ensures { OnOk result (out.new.items ≡ out.old.items ++ count_line cell.now) }
+{
+    push_text(out, "cell")?;
+    push_count(out, "vi", cell.vi.len())?;
+    push_count(out, "vc", cell.vc.len())?;
+    push_count(out, "ve", cell.ve.len())?;
+    push_count(out, "fe", cell.fe.len())?;
+    push_text(out, "\n")
+}
+
+/// Appends the line of the number of findings.
+fn push_total(out: &mut Vec<u8>, total: usize) -> Result<(), AllocError>
+    ensures { OnOk result (out.new.items ≡ out.old.items ++ total_line total) }
+{
+    push_text(out, "findings")?;
+    let mut buffer = Buffer::new();
+    push_word(out, buffer.format(total))?;
+    push_text(out, "\n")
+}
+
+/// Appends the part of a report that tells of a cell: how many records of each kind it has, and its findings, a line
+/// each.
+///
+/// An `Err` is want of memory.
+pub fn push_cell(out: &mut Vec<u8>, cell: &Cell, findings: &Findings) -> Result<(), AllocError>
+    ensures { (rows : List (SpecSubject × List SpecFinding)) → findings.now ≡ findings_of_rows rows → OnOk result (out.new.items ≡ out.old.items ++ text_with cell.now rows) }
+{
+    push_counts(out, cell)?;
+    push_total(out, findings.len())?;
+    push_findings(out, findings.as_slice())?;
+    push_text(out, "end\n")?;
+    Ok(())
+}
