@@ -5,3 +5,6 @@ pub mod EdgeLines
 pub mod VectorRules
 pub mod FeatureRules
 pub mod Records
+pub mod Pairs
+pub mod Sides
+pub mod Subjects

@@ -17,9 +17,8 @@ use Rattle.cell_spec.specs.Names.{key_order}
 use Rattle.rule_spec.specs.Findings.{findings_of_record, findings_of_subject}
 use Rattle.rule_spec.specs.Reads.{end_keys, end_keys_at, feature_keys, record_keys, keys_read, read_set}
 use Rattle.rule_spec.specs.Records.{is_edge_name, vector_of, feature_of, feature_named}
-use Rattle.frame_laws.specs.FindingsFollowReads.{AnswerAlike, AreSameAbout, VectorFindingsFollowReads}
+use Rattle.frame_laws.specs.FindingsFollowReads.{AnswerAlike, AreSameAbout}
 use Rattle.frame_laws.proofs.Lists.{each_front, each_back}
-use Rattle.frame_laws.proofs.Keys.{each_key_read}
 use Rattle.frame_laws.proofs.EdgeLines.{Alike, same_feature, same_end_keys}
 use Rattle.frame_laws.proofs.VectorRules.{same_vector_findings}
 use Rattle.frame_laws.proofs.FeatureRules.{same_feature_keys, same_feature_findings}
@@ -69,7 +68,3 @@ module _ (c d : Cell) where
         findings = found_by asked (lookup_record c n) h.ends h.others ∙ ap (found_about asked d) h.own;
         reads = ap (ascending key_order) (same_record_keys n h);
       }
-
-pub vector_findings_follow_reads : VectorFindingsFollowReads
-unfolding read_set
-vector_findings_follow_reads n asked c d none all = same_about_record c d asked n (each_key_read (AnswerAlike c d) (record_keys c n) all)

@@ -1,15 +1,12 @@
 -- What a subject's findings depend on. This project's own rules.
-use Rattle.std.specs.Prelude.{◌≡◌, ℕ, List, All, None}
-use Rattle.s57_types.specs.declared.name.RecName.{RecName}
+use Rattle.std.specs.Prelude.{◌≡◌, ℕ, List, All}
 use Rattle.s57_types.specs.declared.cell.Cell.{Cell}
 use Rattle.cell_spec.specs.declared.key.Key.{Key}
 use Rattle.cell_spec.specs.declared.key.Key.TheVariants.{Name, Refs, Foid}
 use Rattle.cell_spec.specs.declared.key.Subject.{Subject}
-use Rattle.cell_spec.specs.declared.key.Subject.TheVariants.{Rec}
 use Rattle.cell_spec.specs.Lookup.{lookup_record, lookup_pointers, lookup_identity}
 use Rattle.rule_spec.specs.Findings.{findings_of_subject}
 use Rattle.rule_spec.specs.Reads.{read_set}
-use Rattle.rule_spec.specs.Records.{feature_named}
 
 -- two cells answer alike to a key: they have the same record of a name, the same pointers to it, the same bearers of an identifier
 abbrev pub AnswerAlike : Cell → Cell → Key → Type 0
@@ -22,10 +19,6 @@ pub record AreSameAbout (asked : List ℕ) (c d : Cell) (s : Subject) : Type 0 w
   pub findings : findings_of_subject asked c s ≡ findings_of_subject asked d s
   pub reads : read_set c s ≡ read_set d s
 
--- cells that answer alike to the keys that a subject's read set has in the first are the same about it
-abbrev pub FollowReads : Subject → Type 0
-FollowReads s = (asked : List ℕ) (c d : Cell) → All (AnswerAlike c d) (read_set c s) → AreSameAbout asked c d s
-
--- the same of a name that no feature of the first cell has
-abbrev pub VectorFindingsFollowReads : Type 0
-VectorFindingsFollowReads = (n : RecName) (asked : List ℕ) (c d : Cell) → feature_named c n ≡ None → All (AnswerAlike c d) (read_set c (Rec n)) → AreSameAbout asked c d (Rec n)
+-- cells that answer alike to each key that a subject's read set has in the first are the same about that subject
+abbrev pub FindingsFollowReads : Type 0
+FindingsFollowReads = (s : Subject) (asked : List ℕ) (c d : Cell) → All (AnswerAlike c d) (read_set c s) → AreSameAbout asked c d s

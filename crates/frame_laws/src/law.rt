@@ -1,8 +1,9 @@
-//! Each law is the contract of a function that does nothing.
+//! The law is the contract of a function that does nothing.
 
-ghost use Rattle.frame_laws.specs.FindingsFollowReads.{VectorFindingsFollowReads};
+ghost use Rattle.frame_laws.specs.FindingsFollowReads.{FindingsFollowReads};
 
-/// The findings about a name of no feature, and its read set, are the same in cells that answer alike to that read set.
-pub fn vector_findings_follow_reads()
-    ensures { VectorFindingsFollowReads }
+/// Two cells that answer alike to each key of a subject's read set in the first give the subject the same findings, of
+/// whatever kinds are asked for, and the same read set.
+pub fn findings_follow_reads()
+    ensures { FindingsFollowReads }
 {}

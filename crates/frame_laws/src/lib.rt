@@ -3,4 +3,4 @@
 
 mod law;
 
-pub use law::vector_findings_follow_reads;
+pub use law::findings_follow_reads;
