@@ -1,5 +1,5 @@
 -- The line of an edge is the same in two cells that answer alike to its name and to those at its ends.
-use Rattle.std.proofs.Common.{◌≡◌, ℕ, ◌==◌, Bool, List, [], ◌∷◌, ◌++◌, Option, None, Some, filter, is_some, IfSome, option_map, option_and_then, refl, ap, ◌∙◌}
+use Rattle.std.proofs.Common.{◌≡◌, ℕ, ◌==◌, Bool, [], ◌∷◌, ◌++◌, Option, None, Some, filter, IfSome, option_map, option_and_then, refl, ap, ◌∙◌}
 use Rattle.std.specs.List.{AllByRecursion}
 use Rattle.std.specs.Option.{option_map_or}
 use Rattle.s57_types.specs.declared.name.Kind.TheVariants.{Vc}
@@ -13,7 +13,7 @@ use Rattle.geometry_spec.specs.Points.{Point}
 use Rattle.rule_spec.specs.declared.line.EdgeLine.{EdgeLine}
 use Rattle.rule_spec.specs.EdgePoints.{node_at, node_position, line_between, line_of, edge_line_of}
 use Rattle.rule_spec.specs.Reads.{end_keys, end_keys_at}
-use Rattle.rule_spec.specs.Records.{is_edge_name, vector_of, feature_of, node_named, edge_named, feature_named, is_chain_part, the_only}
+use Rattle.rule_spec.specs.Records.{is_edge_name, vector_of, feature_of, node_named, edge_named, feature_named, the_only}
 use Rattle.frame_laws.specs.FindingsFollowReads.{AnswerAlike}
 use Rattle.frame_laws.proofs.Lists.{each_mapped, each_filtered, of_the_only}
 

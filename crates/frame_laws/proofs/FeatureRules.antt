@@ -1,5 +1,5 @@
 -- The rules on features give the same in two cells that answer alike to what they look up.
-use Rattle.std.proofs.Common.{◌≡◌, ℕ, ◌==◌, ◌&&◌, Bool, true, false, List, [], ◌∷◌, ◌++◌, Option, None, Some, cond, map, not, length, filter_map, flat_map, is_some, option_map, refl, sym, ap, ◌∙◌}
+use Rattle.std.proofs.Common.{◌≡◌, ℕ, ◌==◌, ◌&&◌, Bool, true, false, List, [], ◌++◌, Option, cond, map, not, length, flat_map, is_some, option_map, refl, sym, ap, ◌∙◌}
 use Rattle.std.specs.List.{AllByRecursion, enumerate_from, list_all}
 use Rattle.s57_types.specs.declared.record.Feature.{Feature}
 use Rattle.s57_types.specs.declared.record.Partner.{Partner}
@@ -21,7 +21,7 @@ use Rattle.rule_spec.specs.Rules.{feature_rules}
 use Rattle.frame_laws.specs.FindingsFollowReads.{AnswerAlike}
 use Rattle.frame_laws.proofs.Lists.{each_weaker, each_from_both, each_front, each_back, each_mapped, each_flat, each_numbered, same_filter_map, same_flat_map, same_list_all, same_places}
 use Rattle.frame_laws.proofs.EdgeLines.{Alike, same_end_keys, same_line}
-use Rattle.frame_laws.proofs.VectorRules.{same_findings}
+use Rattle.frame_laws.proofs.NumberedFindings.{same_findings}
 
 -- whether a boundary is usable, by what its rules found and whether each pointer names an edge with points
 abbrev usable_when : Bool → Found → Found → Found → Bool → Bool
@@ -119,10 +119,25 @@ module _ (c d : Cell) (f : Feature) where
 
   pub same_feature_findings : (asked : List ℕ) → AllByRecursion (AnswerAlike c d) (feature_keys c f) → findings_of_record asked c (F f) ≡ findings_of_record asked d (F f)
   same_feature_findings asked all =
-      same_findings asked (λ (rule : Cell → Feature → Found). rule c f) (λ (rule : Cell → Feature → Found). rule d f) 12 feature_rules
-      (refl, (same_dangling_ref (alike_places all), (refl,
-      (same_by_boundary (λ usable rows. cond usable (open_ring_of rows) []) (λ rows. refl) all,
-      (same_by_boundary (λ usable rows. cond (usable && is_clean (open_ring_of rows)) (mixed_ring_of rows) []) (λ rows. refl) all,
-      (same_by_boundary (λ usable rows. cond (usable && has_whole_loops rows) (outer_count_of rows) []) (λ rows. refl) all,
-      (same_by_boundary (λ usable rows. cond (usable && has_whole_loops rows) (wrong_turn_of rows) []) (λ rows. refl) all,
-      (same_dangling_feature (alike_partners all), (refl, tt)))))))))
+      same_findings asked (λ (rule : Cell → Feature → Found). rule c f) (λ (rule : Cell → Feature → Found). rule d f) 12 feature_rules (
+        refl,
+        (
+          same_dangling_ref (alike_places all),
+          (
+            refl,
+            (
+              same_by_boundary (λ usable rows. cond usable (open_ring_of rows) []) (λ rows. refl) all,
+              (
+                same_by_boundary (λ usable rows. cond (usable && is_clean (open_ring_of rows)) (mixed_ring_of rows) []) (λ rows. refl) all,
+                (
+                  same_by_boundary (λ usable rows. cond (usable && has_whole_loops rows) (outer_count_of rows) []) (λ rows. refl) all,
+                  (
+                    same_by_boundary (λ usable rows. cond (usable && has_whole_loops rows) (wrong_turn_of rows) []) (λ rows. refl) all,
+                    (same_dangling_feature (alike_partners all), (refl, tt)),
+                  ),
+                ),
+              ),
+            ),
+          ),
+        ),
+      )

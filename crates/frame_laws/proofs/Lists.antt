@@ -1,5 +1,5 @@
 -- Lists whose items two functions give the same of, and what is known of each item of a list.
-use Rattle.std.proofs.Common.{◌≡◌, ℕ, ◌+◌, Bool, true, false, List, [], ◌∷◌, ◌++◌, Option, None, Some, cond, map, filter, filter_map, flat_map, IfSome, ◌&&◌, refl, ap}
+use Rattle.std.proofs.Common.{◌≡◌, ℕ, ◌+◌, Bool, true, false, List, [], ◌∷◌, ◌++◌, Option, cond, map, filter, filter_map, flat_map, IfSome, ◌&&◌, refl, ap}
 use Rattle.std.specs.List.{AllByRecursion, enumerate_from, list_all, cons_option}
 use Rattle.rule_spec.specs.Records.{the_only}
 use Rattle.rule_spec.specs.Rule.{places_from}

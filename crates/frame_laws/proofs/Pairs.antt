@@ -1,5 +1,5 @@
 -- The rules on two nodes or edges give the same in two cells that answer alike to what they look up.
-use Rattle.std.proofs.Common.{◌≡◌, ℕ, ◌&&◌, ◌||◌, Bool, true, List, [], ◌∷◌, ◌++◌, Option, None, Some, cond, find, filter, filter_map, is_some, IfSome, refl, ap, ◌∙◌}
+use Rattle.std.proofs.Common.{◌≡◌, ℕ, ◌&&◌, ◌||◌, Bool, true, List, [], ◌∷◌, ◌++◌, Option, None, Some, cond, find, is_some, IfSome, refl, ap, ◌∙◌}
 use Rattle.std.specs.List.{AllByRecursion, enumerate_from}
 use Rattle.std.specs.Option.{option_map_or}
 use Rattle.s57_types.specs.declared.name.RecName.{RecName}
@@ -8,7 +8,6 @@ use Rattle.s57_types.specs.declared.cell.Cell.{Cell}
 use Rattle.cell_spec.specs.declared.key.Subject.TheVariants.{Pair}
 use Rattle.cell_spec.specs.Ascending.{ascending}
 use Rattle.cell_spec.specs.Names.{key_order, same_name}
-use Rattle.geometry_spec.specs.Points.{Point}
 use Rattle.rule_spec.specs.declared.line.EdgeLine.{EdgeLine}
 use Rattle.rule_spec.specs.Contacts.{shared_nodes, have_illegal_contact, first_illegal_contact, found_contact, contact_of_lines, are_same_place, same_place, names_node, segment_under, node_on_edge}
 use Rattle.rule_spec.specs.EdgePoints.{segments_of, node_position, edge_line_of}
@@ -22,7 +21,7 @@ use Rattle.frame_laws.specs.FindingsFollowReads.{AnswerAlike, AreSameAbout}
 use Rattle.frame_laws.proofs.Lists.{each_weaker, each_front, each_back, each_filtered, same_filter_map}
 use Rattle.frame_laws.proofs.EdgeLines.{Alike, HasAlikeNodes, same_node, same_edge, same_position, same_line, alike_nodes}
 use Rattle.frame_laws.proofs.Records.{HasAlikeRecord, alike_record, same_record_keys}
-use Rattle.frame_laws.proofs.VectorRules.{same_findings}
+use Rattle.frame_laws.proofs.NumberedFindings.{same_findings}
 
 module _ (c d : Cell) where
   same_contact : (a b : EdgeLine) → HasAlikeNodes c d a → first_illegal_contact c a b ≡ first_illegal_contact d a b

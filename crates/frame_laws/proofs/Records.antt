@@ -1,5 +1,5 @@
 -- The findings about a record and its keys are the same in two cells that answer alike to those keys.
-use Rattle.std.proofs.Common.{◌≡◌, ℕ, List, [], ◌∷◌, ◌++◌, Option, None, Some, All, cond, is_some, option_and_then, refl, ap, ◌∙◌}
+use Rattle.std.proofs.Common.{◌≡◌, ℕ, List, [], ◌∷◌, ◌++◌, Option, None, Some, cond, is_some, option_and_then, refl, ap, ◌∙◌}
 use Rattle.std.specs.List.{AllByRecursion}
 use Rattle.std.specs.Option.{option_map_or}
 use Rattle.s57_types.specs.declared.name.RecName.{RecName}
@@ -15,7 +15,7 @@ use Rattle.cell_spec.specs.Ascending.{ascending}
 use Rattle.cell_spec.specs.Lookup.{lookup_record}
 use Rattle.cell_spec.specs.Names.{key_order}
 use Rattle.rule_spec.specs.Findings.{findings_of_record, findings_of_subject}
-use Rattle.rule_spec.specs.Reads.{end_keys, end_keys_at, feature_keys, record_keys, keys_read, read_set}
+use Rattle.rule_spec.specs.Reads.{end_keys, end_keys_at, feature_keys, record_keys, read_set}
 use Rattle.rule_spec.specs.Records.{is_edge_name, vector_of, feature_of, feature_named}
 use Rattle.frame_laws.specs.FindingsFollowReads.{AnswerAlike, AreSameAbout}
 use Rattle.frame_laws.proofs.Lists.{each_front, each_back}

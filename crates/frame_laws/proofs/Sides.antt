@@ -9,7 +9,7 @@ use Rattle.cell_spec.specs.declared.key.Key.TheVariants.{Name, Refs, Foid}
 use Rattle.cell_spec.specs.declared.key.Ref.{Ref}
 use Rattle.cell_spec.specs.declared.key.Subject.TheVariants.{Side, Ident}
 use Rattle.cell_spec.specs.Ascending.{ascending}
-use Rattle.cell_spec.specs.Lookup.{lookup_pointers, lookup_identity}
+use Rattle.cell_spec.specs.Lookup.{lookup_pointers}
 use Rattle.cell_spec.specs.Names.{key_order}
 use Rattle.rule_spec.specs.declared.side.EdgeUse.{EdgeUse}
 use Rattle.rule_spec.specs.Findings.{numbered_findings, findings_of_subject}
@@ -20,7 +20,7 @@ use Rattle.rule_spec.specs.Sides.{use_of_row, use_by, uses_of, side_counts, numb
 use Rattle.frame_laws.specs.FindingsFollowReads.{AnswerAlike, AreSameAbout}
 use Rattle.frame_laws.proofs.Lists.{each_weaker, each_mapped, same_filter_map}
 use Rattle.frame_laws.proofs.EdgeLines.{Alike, same_edge, same_feature}
-use Rattle.frame_laws.proofs.VectorRules.{same_findings}
+use Rattle.frame_laws.proofs.NumberedFindings.{same_findings}
 
 -- what the rules on sides give by the uses of an edge
 abbrev orphan_by : List EdgeUse → Found

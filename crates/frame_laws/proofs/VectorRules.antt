@@ -1,15 +1,14 @@
 -- The rules on vector records give the same in two cells that answer alike to what they look up.
-use Rattle.std.proofs.Common.{◌≡◌, ℕ, ◌+◌, Bool, true, false, List, [], ◌∷◌, ◌++◌, Option, None, Some, cond, map, not, is_some, refl, ap}
+use Rattle.std.proofs.Common.{◌≡◌, ℕ, Bool, true, false, List, [], None, Some, cond, not, is_some, refl, ap}
 use Rattle.std.specs.List.{AllByRecursion}
 use Rattle.std.specs.Option.{option_map_or}
 use Rattle.s57_types.specs.declared.record.End.{End}
 use Rattle.s57_types.specs.declared.record.Vector.{Vector}
 use Rattle.s57_types.specs.declared.record.Rec.TheVariants.{V}
 use Rattle.s57_types.specs.declared.cell.Cell.{Cell}
-use Rattle.cell_spec.specs.declared.finding.Finding.{Finding}
 use Rattle.rule_spec.specs.declared.line.EdgeLine.{EdgeLine}
 use Rattle.rule_spec.specs.EdgeEnds.{dangling_end}
-use Rattle.rule_spec.specs.Findings.{finding, is_asked, numbered_findings, findings_of_record}
+use Rattle.rule_spec.specs.Findings.{findings_of_record}
 use Rattle.rule_spec.specs.Reads.{end_keys}
 use Rattle.rule_spec.specs.Records.{is_edge_name, node_named}
 use Rattle.rule_spec.specs.Rule.{Found, found_at}
@@ -18,12 +17,7 @@ use Rattle.rule_spec.specs.Vectors.{stacked, stacked_segment, self_meet, self_me
 use Rattle.frame_laws.specs.FindingsFollowReads.{AnswerAlike}
 use Rattle.frame_laws.proofs.Lists.{each_weaker, same_places}
 use Rattle.frame_laws.proofs.EdgeLines.{Alike, HasAlikeEnds, same_node, same_line_of, alike_ends}
-
--- rules that find the same make the same findings
-pub same_findings : {R : Type 0} (asked : List ℕ) (f g : R → Found) (first : ℕ) (rules : List R) → AllByRecursion (λ rule. f rule ≡ g rule) rules
-    → numbered_findings asked f first rules ≡ numbered_findings asked g first rules
-same_findings asked f g first [] all = refl
-same_findings asked f g first (rule ∷ rules) all = λ i. cond (is_asked asked first) (map (finding first) (all.0 i)) [] ++ same_findings asked f g (first + 1) rules all.1 i
+use Rattle.frame_laws.proofs.NumberedFindings.{same_findings}
 
 module _ (c d : Cell) where
   same_dangling_end : (e : Vector) → HasAlikeEnds c d e → dangling_end c e ≡ dangling_end d e
@@ -47,6 +41,13 @@ module _ (c d : Cell) where
   pub same_vector_findings : (asked : List ℕ) (v : Vector) → AllByRecursion (AnswerAlike c d) (option_map_or end_keys (cond (is_edge_name v.name) (Some v) None) [])
       → findings_of_record asked c (V v) ≡ findings_of_record asked d (V v)
   same_vector_findings asked v ends =
-      same_findings asked (λ (rule : Cell → Vector → Found). rule c v) (λ (rule : Cell → Vector → Found). rule d v) 1 vector_rules
-      (refl, (refl, (on_edges_by dangling_end v (is_edge_name v.name) ends (same_dangling_end v),
-      (on_edges_by stacked v (is_edge_name v.name) ends (same_stacked v), (on_edges_by self_meet v (is_edge_name v.name) ends (same_self_meet v), (refl, tt))))))
+      same_findings asked (λ (rule : Cell → Vector → Found). rule c v) (λ (rule : Cell → Vector → Found). rule d v) 1 vector_rules (
+        refl,
+        (
+          refl,
+          (
+            on_edges_by dangling_end v (is_edge_name v.name) ends (same_dangling_end v),
+            (on_edges_by stacked v (is_edge_name v.name) ends (same_stacked v), (on_edges_by self_meet v (is_edge_name v.name) ends (same_self_meet v), (refl, tt))),
+          ),
+        ),
+      )
