@@ -1,0 +1,11 @@
+pub mod Lists
+pub mod KeyOrder
+pub mod Keys
+pub mod EdgeLines
+pub mod NumberedFindings
+pub mod VectorRules
+pub mod FeatureRules
+pub mod Records
+pub mod Pairs
+pub mod Sides
+pub mod Subjects
