@@ -1,11 +1,19 @@
 -- Edits of small cells, with what they touch and what is judged anew after them.
-use Rattle.std.specs.Prelude.{◌≡◌, true, false, [], ◌∷◌, map}
+use Rattle.std.specs.Prelude.{◌≡◌, true, false, List, [], ◌∷◌, map, filter}
+use Rattle.s57_types.specs.declared.cell.Cell.{Cell}
+use Rattle.cell_spec.specs.declared.edit.Edit.{Edit}
 use Rattle.cell_spec.specs.declared.edit.Edit.TheVariants.{Add, Set, Del}
+use Rattle.cell_spec.specs.declared.finding.Finding.{Finding}
+use Rattle.cell_spec.specs.declared.finding.Row.{Row}
+use Rattle.cell_spec.specs.declared.key.Key.{Key}
 use Rattle.cell_spec.specs.declared.key.Key.TheVariants.{Name, Refs, Foid}
+use Rattle.cell_spec.specs.declared.key.Subject.{Subject}
 use Rattle.cell_spec.specs.declared.key.Subject.TheVariants.{Rec, Side, Pair, Ident}
 use Rattle.cell_spec.specs.Edits.{apply_edits, is_applicable, touched_keys}
 use Rattle.cell_spec.specs.Lookup.{name_of}
-use Rattle.rule_spec.specs.Affected.{change_by, affected_list, lookup_budget}
+use Rattle.rule_spec.specs.Affected.{change_by, is_affected, affected_list, RowsAreExact, lookup_budget}
+use Rattle.rule_spec.specs.Findings.{subjects, finding}
+use Rattle.rule_spec.specs.Kinds.{all_kinds}
 use Rattle.rule_spec.specs.Reads.{read_set}
 use Rattle.sample_cells.specs.Parts.{vc, ve, fe, lnam, at, node, edge}
 use Rattle.sample_cells.specs.Samples.{grid, closed_edge, used_by_line, self_named, node_on_line}
@@ -39,3 +47,42 @@ AffectedAreAsListed =
     (affected_list (change_by (used_by_line ∷ []) closed_edge) ≡ Rec (fe 1) ∷ Side (ve 1) ∷ Ident (lnam 1) ∷ []) ×
     (lookup_budget (used_by_line ∷ []) closed_edge (Rec (fe 1) ∷ Side (ve 1) ∷ Ident (lnam 1) ∷ []) ≡ 48) ×
     (affected_list (change_by (Set (node 3 (at 5 5)) ∷ []) node_on_line) ≡ Rec (vc 3) ∷ Pair (vc 1) (vc 3) ∷ Pair (vc 2) (vc 3) ∷ Pair (vc 3) (ve 1) ∷ [])
+
+-- the subjects of the edited cell that are affected, ascending
+abbrev pub affected_subjects : List Edit → Cell → List Subject
+affected_subjects edits c = let ch = change_by edits c in filter (is_affected ch) (subjects ch.after)
+
+-- two nodes of a line moved: neither its other node nor its side is affected, and a pair stands where the first record of it brings it
+abbrev pub moved_nodes : List Edit
+moved_nodes = Set (node 1 (at 0 1)) ∷ Set (node 2 (at 0 9)) ∷ []
+
+abbrev pub AffectedAreTheSet : Type 0
+AffectedAreTheSet =
+    (
+    affected_list (change_by moved_nodes node_on_line)
+    ≡ Rec (vc 1) ∷ Rec (ve 1) ∷ Rec (vc 2) ∷ Pair (vc 1) (vc 2) ∷ Pair (vc 1) (vc 3) ∷ Pair (vc 1) (ve 1) ∷ Pair (vc 2) (ve 1) ∷ Pair (vc 3) (ve 1) ∷ Pair (vc 2) (vc 3) ∷ []
+    ) ×
+    (
+    affected_subjects moved_nodes node_on_line
+    ≡ Rec (vc 1) ∷ Rec (vc 2) ∷ Rec (ve 1) ∷ Pair (vc 1) (vc 2) ∷ Pair (vc 1) (vc 3) ∷ Pair (vc 1) (ve 1) ∷ Pair (vc 2) (vc 3) ∷ Pair (vc 2) (ve 1) ∷ Pair (vc 3) (ve 1) ∷ []
+    ) ×
+    (affected_subjects (used_by_line ∷ []) closed_edge ≡ Rec (fe 1) ∷ Side (ve 1) ∷ Ident (lnam 1) ∷ []) ×
+    (affected_subjects (Set (node 3 (at 5 500000)) ∷ []) node_on_line ≡ Rec (vc 3) ∷ Pair (vc 1) (vc 3) ∷ Pair (vc 2) (vc 3) ∷ Pair (vc 3) (ve 1) ∷ []) ×
+    (affected_subjects (Add (node 4 (at 5 500000)) ∷ []) node_on_line ≡ Rec (vc 4) ∷ []) ×
+    (affected_subjects (Del (vc 3) ∷ []) node_on_line ≡ [])
+
+abbrev pub row : Subject → List Finding → List Key → Row
+row s findings reads = record { subject = s; findings = findings; reads = reads }
+
+-- the rows of a node that is moved along an edge, in another order than that in which they are judged
+abbrev pub moved_rows : List Row
+moved_rows =
+    row (Pair (vc 3) (ve 1)) (finding 11 (1 ∷ []) ∷ []) (Name (vc 1) ∷ Name (vc 2) ∷ Name (vc 3) ∷ Name (ve 1) ∷ []) ∷
+    row (Pair (vc 2) (vc 3)) [] (Name (vc 2) ∷ Name (vc 3) ∷ []) ∷ row (Pair (vc 1) (vc 3)) [] (Name (vc 1) ∷ Name (vc 3) ∷ []) ∷ row (Rec (vc 3)) [] (Name (vc 3) ∷ []) ∷ []
+
+-- those rows, the orphan that a deletion leaves, and no row where the cell doesn't take the edit
+abbrev pub RowsAreAsListed : Type 0
+RowsAreAsListed =
+    RowsAreExact all_kinds (Set (node 3 (at 0 7)) ∷ []) node_on_line moved_rows ×
+    RowsAreExact all_kinds (Del (fe 1) ∷ []) (apply_edits (used_by_line ∷ []) closed_edge) (row (Side (ve 1)) (finding 21 [] ∷ []) (Name (ve 1) ∷ Refs (ve 1) ∷ []) ∷ []) ×
+    RowsAreExact all_kinds (Del (vc 9) ∷ []) closed_edge []

@@ -7,7 +7,7 @@ use Rattle.cell_spec.specs.declared.key.Subject.{Subject}
 use Rattle.cell_spec.specs.declared.key.Subject.TheVariants.{Rec, Side, Pair, Ident}
 use Rattle.rule_spec.specs.Findings.{all_findings, finding, finding_total}
 use Rattle.rule_spec.specs.Kinds.{all_kinds}
-use Rattle.sample_cells.specs.Parts.{vi, vc, ve, fe, lnam, at, node, outer, inner, feature, depth_area, square}
+use Rattle.sample_cells.specs.Parts.{head, vi, vc, ve, fe, lnam, at, node, edge, end_of, vector, outer, inner, feature, depth_area, square}
 use Rattle.sample_cells.specs.Samples.{empty_cell, grid, grid_after, dangling, closed_edge, used_by_line, stacked_edge, diagonals, node_on_line, touching_edges, overlapping_edges, self_named, knotted_edges, misshapen, nodes_at_one_place, two_squares, ring_area, eight, faulty_features, truncated_square}
 use Rattle.cell_spec.specs.Edits.{apply_edits}
 
@@ -25,12 +25,25 @@ one s kind nums = (s, finding kind nums ∷ [])
 abbrev pub orphan_edge : ℕ → Judged
 orphan_edge n = one (Side (ve n)) 21 []
 
+-- an edge whose ends name a connected node, nothing, an isolated node, another edge and itself
+abbrev pub wrong_ends : Cell
+wrong_ends = record {
+  head = head;
+  vi = vector (vi 1) [] (at 5 5 ∷ []) ∷ [];
+  vc = node 1 (at 0 0) ∷ node 2 (at 0 100) ∷ [];
+  ve = edge 1 1 2 [] ∷ vector (ve 2) (end_of 1 (vc 1) ∷ end_of 2 (vc 9) ∷ end_of 255 (vi 1) ∷ end_of 255 (ve 1) ∷ end_of 255 (ve 2) ∷ []) [] ∷ [];
+  fe = [];
+}
+
 -- nodes and edges
 abbrev pub vector_samples : List Sample
 vector_samples =
     (empty_cell, []) ∷
     (dangling, (Rec (ve 2), finding 2 (1 ∷ 0 ∷ 1 ∷ []) ∷ finding 3 (1 ∷ []) ∷ []) ∷ orphan_edge 1 ∷ orphan_edge 2 ∷ []) ∷
-    (closed_edge, orphan_edge 1 ∷ []) ∷
+    (closed_edge, orphan_edge 1 ∷ []) ∷ (
+      wrong_ends,
+      (Rec (ve 2), finding 2 (1 ∷ 1 ∷ 5 ∷ []) ∷ finding 3 (2 ∷ []) ∷ finding 3 (3 ∷ []) ∷ finding 3 (4 ∷ []) ∷ finding 3 (5 ∷ []) ∷ []) ∷ orphan_edge 1 ∷ orphan_edge 2 ∷ [],
+    ) ∷
     (stacked_edge, one (Rec (ve 1)) 4 (1 ∷ []) ∷ orphan_edge 1 ∷ []) ∷
     (self_named, (Rec (ve 1), finding 3 (1 ∷ []) ∷ finding 3 (2 ∷ []) ∷ []) ∷ orphan_edge 1 ∷ []) ∷
     (knotted_edges, one (Rec (ve 1)) 5 (1 ∷ 3 ∷ []) ∷ one (Rec (ve 2)) 5 (1 ∷ 2 ∷ []) ∷ orphan_edge 1 ∷ orphan_edge 2 ∷ []) ∷

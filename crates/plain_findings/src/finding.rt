@@ -9,15 +9,15 @@ ghost use Rattle.rule_spec.specs.Vectors.{stacked as spec_stacked, self_meet as 
 ghost use Rattle.rule_spec.specs.Rules.{vector_rules, feature_rules, pair_rules, side_rules, identity_rules, on_edges, on_nodes};
 
 use cell_spec::{Finding, Findings, Subject, Subjects};
+use plain_boundary::{mixed_ring, open_ring, outer_count, wrong_turn};
 use plain_lookups::{
     Found, Nums, ascending_subjects, bearers, edge_named, is_chain_part, is_edge_name,
     is_node_name, name_of, record_named,
 };
 use plain_rules::{
     bad_codes, bad_shape, contact_of_kind, dangling_end, dangling_feature, dangling_ref, end_count,
-    false_truncation, mixed_ring, node_on_edge, node_pointer, open_ring, orphan, outer_count,
-    prim_refs, same_place, self_meet, side_overlap, side_unbalanced, stacked, twice_foid,
-    wrong_group, wrong_turn,
+    false_truncation, node_on_edge, node_pointer, orphan, prim_refs, same_place, self_meet,
+    side_overlap, side_unbalanced, stacked, twice_foid, wrong_group,
 };
 use s57_types::{Cell, Feature, Items, Lnam, Rec, RecName, Recs, Vector};
 use std::alloc::{AllocError, Global};

@@ -2,7 +2,7 @@
 
 ghost use Rattle.plain_findings.specs.Expected.{AreFoundAs, vector_samples, pair_samples, feature_samples, side_samples, PlacedNodesCount};
 ghost use Rattle.plain_findings.specs.Tables.{CodesFitTheTable, CoverageIsSaid, BoundariesPartition, TilesDecideCandidates};
-ghost use Rattle.plain_findings.specs.Changes.{EditsKeepPlaces, ReadsAreAsListed, TouchedAreAsListed, AffectedAreAsListed};
+ghost use Rattle.plain_findings.specs.Changes.{EditsKeepPlaces, ReadsAreAsListed, TouchedAreAsListed, AffectedAreAsListed, AffectedAreTheSet, RowsAreAsListed};
 
 /// In each sample cell the rules find what stands beside it.
 pub fn samples_are_judged()
@@ -35,4 +35,6 @@ pub fn changes_are_judged()
     ensures reads { ReadsAreAsListed }
     ensures touched { TouchedAreAsListed }
     ensures affected { AffectedAreAsListed }
+    ensures members { AffectedAreTheSet }
+    ensures rows { RowsAreAsListed }
 {}

@@ -1,15 +1,12 @@
-//! The 25 rules of a chart cell evaluated plainly and slowly: lists, no index. The yardstick of every faster body.
+//! The rules of a chart cell evaluated plainly and slowly: lists, no index. The yardstick of every faster body. Those on the boundary of
+//! an area stand in `plain_boundary`.
 #![tactic(auto)]
 
-mod boundary;
 mod contact;
 mod feature;
-mod ring;
 mod side;
-mod turn;
 mod vector;
 
-pub use boundary::{mixed_ring, open_ring, outer_count, wrong_turn};
 pub use contact::{contact_of_kind, node_on_edge, same_place};
 pub use feature::{bad_codes, dangling_feature, dangling_ref, prim_refs, wrong_group};
 pub use side::{false_truncation, orphan, side_overlap, side_unbalanced, twice_foid};
