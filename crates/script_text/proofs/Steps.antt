@@ -1,15 +1,14 @@
 -- Reading a script line by line.
 use Rattle.std.proofs.Common.{◌≡◌, ℕ, ◌≤◌, ◌+◌, true, false, List, [], ◌∷◌, ◌++◌, length, Result, Ok, Err, Option, Some, None, refl, sym, ap, ◌∙◌, arith, subst, append_assoc}
-use Rattle.std.specs.List.{flat_map, list_all}
-use Rattle.std.proofs.lemmas.Bool.{false≢true}
+use Rattle.std.specs.List.{flat_map}
 use Rattle.std.proofs.lemmas.List.{length-append, append-nil}
 use Rattle.std.proofs.lemmas.List.Concat.{flat_map-append}
 use Rattle.std.proofs.lemmas.List.Elements.{All-nil, All-cons, All-append, filter_map-append}
-use Rattle.text_spec.specs.ScriptLines.{ScriptLine, skipped, spoken, line_text, spoken_command, IsLine, IsMinimalScript, is_skipped, is_minimal_command, command_limit}
+use Rattle.text_spec.specs.ScriptLines.{ScriptLine, skipped, spoken, line_text, spoken_command, IsLine, is_skipped, command_limit}
 use Rattle.text_spec.specs.declared.command.Command.{Command}
 use Rattle.script_text.specs.Faults.{IsLineFault, IsOf, fault_code}
 use Rattle.script_text.specs.Guess.{IsReadOf}
-use Rattle.script_text.specs.Reading.{IsOnlyReading, IsOnlyScript}
+use Rattle.script_text.specs.Reading.{IsOnlyReading}
 use Rattle.script_text.specs.Steps.{IsReadTo, IsLineRead, IsLineRefusal, IsTaken, IsNotTaken, IsTextFault, IsFormFault, IsFirstRefusal, first_refusal}
 use Rattle.script_text.specs.declared.reading.FirstRefusal.{FirstRefusal}
 use Rattle.script_text.specs.declared.reading.FirstRefusal.TheVariants.{Fault as FirstFault}
@@ -109,22 +108,3 @@ refused bytes count rest commands to within (Fault fault) is = (
   }),
   within,
 )
-
--- minimal scripts are scripts
-same_ok : (others commands : List Command) → ◌≡◌ {A = Result (List Command) (ℕ × ℕ)} (Ok others) (Ok commands) → others ≡ commands
-same_ok others commands same = cc
-
-pub minimal_script : (bytes : List ℕ) (commands : List Command) → IsOnlyReading bytes (Ok commands) → list_all is_minimal_command commands ≡ true → IsOnlyScript bytes commands
-minimal_script bytes commands reading minimal = record {
-  script = record { is_script = reading.is; minimal = minimal };
-  only = λ others script. same_ok others commands (reading.only (Ok others) script.is_script);
-}
-
-pub no_minimal : (bytes : List ℕ) (commands : List Command) → IsOnlyReading bytes (Ok commands) → list_all is_minimal_command commands ≡ false → (others : List Command) → IsMinimalScript bytes others → ⊥
-no_minimal bytes commands reading not_minimal others script =
-    false≢true (sym not_minimal ∙ ap (list_all is_minimal_command) (sym (same_ok others commands (reading.only (Ok others) script.is_script))) ∙ script.minimal)
-
-pub no_script : (bytes : List ℕ) (refusal : FirstRefusal) (line code : ℕ) → refusal ≡ FirstFault line code → IsFirstRefusal bytes refusal → (others : List Command) → IsMinimalScript bytes others → ⊥
-no_script bytes refusal line code refusal_is is others script =
-    let reading = (subst (IsFirstRefusal bytes) refusal_is is).0 in
-    absurd (let e = reading.only (Ok others) script.is_script in cc)

@@ -1,12 +1,10 @@
 -- What a text is read as: its commands, or its first fault. This project's own.
 use Rattle.std.specs.Prelude.{◌≡◌, ℕ, List, Result, Ok, Err}
-use Rattle.text_spec.specs.ScriptLines.{IsScript, IsMinimalScript}
+use Rattle.text_spec.specs.ScriptLines.{IsScript}
 use Rattle.text_spec.specs.declared.command.Command.{Command}
 use Rattle.script_text.specs.Faults.{IsFirstFault}
 use Rattle.script_text.specs.declared.refusal.ScriptRefusal.{ScriptRefusal}
 use Rattle.script_text.specs.declared.refusal.ScriptRefusal.TheVariants.{Fault, NoMemory as WantOfMemory}
-use Rattle.script_text.specs.declared.refusal.MinimalScriptRefusal.{MinimalScriptRefusal}
-use Rattle.script_text.specs.declared.refusal.MinimalScriptRefusal.TheVariants.{NotMinimal, NoMemory}
 
 -- the bytes are a script of these commands, or have this line and code as their first fault
 abbrev pub IsReading : List ℕ → Result (List Command) (ℕ × ℕ) → Type 0
@@ -22,13 +20,3 @@ pub record IsOnlyReading (bytes : List ℕ) (reading : Result (List Command) (�
 abbrev pub IsScriptRefusal : List ℕ → ScriptRefusal → Type 0
 IsScriptRefusal bytes (Fault line code) = IsOnlyReading bytes (Err (line, code))
 IsScriptRefusal bytes WantOfMemory = Unit {0}
-
--- the bytes are these commands as a minimal script, and no others
-pub record IsOnlyScript (bytes : List ℕ) (commands : List Command) : Type 0 where
-  pub script : IsMinimalScript bytes commands
-  pub only : (others : List Command) → IsMinimalScript bytes others → others ≡ commands
-
--- a text is refused where it is no minimal script
-abbrev pub IsMinimalRefusal : List ℕ → MinimalScriptRefusal → Type 0
-IsMinimalRefusal bytes NotMinimal = (commands : List Command) → IsMinimalScript bytes commands → ⊥
-IsMinimalRefusal bytes NoMemory = Unit {0}

@@ -5,7 +5,6 @@ mod cut;
 mod feature;
 mod item;
 mod law;
-mod minimal;
 mod reading;
 mod refusal;
 mod script;
@@ -15,9 +14,8 @@ mod value;
 mod vector;
 
 pub use law::{a_line_is_of_one_command, a_text_has_one_reading, read_written};
-pub use minimal::read_minimal_script;
 pub use reading::{read_command, read_script};
-pub use refusal::{MinimalScriptRefusal, ScriptRefusal};
+pub use refusal::ScriptRefusal;
 pub use script::Script;
 pub use text_spec::Command;
 

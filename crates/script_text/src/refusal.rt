@@ -56,11 +56,3 @@ impl From<AllocError> for LineRefusal {
         LineRefusal::NoMemory
     }
 }
-
-/// Why a text wasn't read as a minimal script.
-#[derive(Clone, Copy, Debug, PartialEq, Eq)]
-pub enum MinimalScriptRefusal {
-    /// The text is no minimal script.
-    NotMinimal,
-    NoMemory,
-}

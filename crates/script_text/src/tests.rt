@@ -256,20 +256,3 @@ fn every_byte_stands_in_a_text(rt: HostRuntime) -> Result<(), Fail> {
     }
     Ok(())
 }
-
-#[test]
-fn minimal_scripts_are_scripts(rt: HostRuntime) -> Result<(), Fail> {
-    let script = read_minimal_script(rt.alloc(), b"view\nset vc 1 2 p=0,1\ndel ve 1\n".as_slice())?;
-    assert_eq!(rt; script.shared(), 1);
-    assert_eq!(rt; script.commands().len(), 3);
-    for text in ["view", "list 1\n", "del vi 1\n", "add vc 1 1 a=1:\n"] {
-        assert!(rt;
-            matches!(
-                read_minimal_script(rt.alloc(), text.as_bytes()),
-                Err(MinimalScriptRefusal::NotMinimal)
-            ),
-            "{text:?}"
-        );
-    }
-    Ok(())
-}
