@@ -2,6 +2,8 @@
 use Rattle.std.specs.Prelude.{◌≡◌, ◌⊎◌, ℕ, ◌+◌, ◌<◌, nat_lt, List, [], length, map, count_by, slice_index_or, Option, None, Some, Result, Ok, Err, IfSome, if◌then◌else◌}
 use Rattle.enc_outside.specs.Count.{Rose}
 use Rattle.enc_outside.specs.Files.{Files}
+use Rattle.export_laws.specs.DecodedTypes.{AreFileBytes}
+use Rattle.export_laws.specs.ExportedCells.{IsReadBack}
 use Rattle.file_spec.specs.DecodedCell.{decoded_cell}
 use Rattle.rule_spec.specs.Findings.{finding_total}
 use Rattle.rule_spec.specs.Kinds.{built_kinds}
@@ -47,6 +49,10 @@ abbrev pub judged : Result Cell CellFault → Result Cell Status
 judged (Ok c) = judged_cell c
 judged (Err fault) = Err (BadCell fault)
 
+-- a file stands for the cell
+abbrev pub IsCellOfFile : Cell → Type 0
+IsCellOfFile c = (b : List ℕ) × AreFileBytes b × (decoded_cell b ≡ Ok c)
+
 -- the cell that a file stands for, or its first fault
 abbrev pub cell_in : List ℕ → Result Cell Status
 cell_in bytes = judged (decoded_cell bytes)
@@ -89,9 +95,10 @@ order_in (Err place) = Err (BadOrder place)
 abbrev pub OrderIs : List ℕ → List ℕ → Files → Result (List ℕ) Status → Type 0
 OrderIs quotas name files = AndThen (FileIs order_limit name files) (λ bytes answer. order_in (order_of quotas bytes) ≡ answer)
 
--- a run of scripts on a cell, in the order of a file; the order is read after all scripts
+-- a run of scripts on a cell, in the order of a file; the order is read after all scripts. The file of the cell that is left is read
+-- as that cell
 abbrev pub OrderedRunIs : Cell → List ℕ → List ℕ → List (List Command) → Files → Result Task Status → Type 0
-OrderedRunIs c out order commands files = AndThen (OrderIs (quotas_of commands) order files) (λ sessions answer. answer ≡ Ok (run_task c out commands sessions))
+OrderedRunIs c out order commands files = AndThen (OrderIs (quotas_of commands) order files) (λ sessions answer. (answer ≡ Ok (run_task c out commands sessions)) × IsReadBack built_kinds c commands sessions)
 
 abbrev pub RunIs : Cell → List ℕ → List ℕ → List (List ℕ) → Files → Result Task Status → Type 0
 RunIs c out order scripts files = AndThen (ScriptsAre scripts files) (λ commands. OrderedRunIs c out order commands files)
@@ -103,9 +110,9 @@ OutputIs (replay_form cell out order scripts) files = AndThen (CellIs cell files
 OutputIs later_form files = λ answer. answer ≡ Err NotYet
 OutputIs no_form files = λ answer. answer ≡ Err Usage
 
--- a run of some scripts on a cell in some order
+-- a run of some scripts on a cell in some order, after which the file of the cell that is left is read as that cell
 abbrev pub IsRunOf : Cell → List ℕ → Task → Type 0
-IsRunOf c out task = (commands : List (List Command)) × (sessions : List ℕ) × (task ≡ run_task c out commands sessions)
+IsRunOf c out task = (commands : List (List Command)) × (sessions : List ℕ) × (task ≡ run_task c out commands sessions) × IsReadBack built_kinds c commands sessions
 
 -- what a step's answer tells, with what it gave seen through a function: where the files are told, the relation of the step
 -- holds of it; a fault of reading comes only with a risen count; want of memory is free

@@ -2,11 +2,12 @@
 
 ghost use Rattle.std.specs.Prelude.{◌≡◌, ◌≤◌, ◌<◌, ◌^◌, ◌++◌, ◌∷◌, [], All, IfErr, IfOk, OnOk, length, map, string_bytes};
 ghost use Rattle.edge_findings.specs.AllFindings.{IsAllOf};
+ghost use Rattle.export_laws.specs.ExportedCells.{IsScriptOfText};
 ghost use Rattle.cell_spec.specs.Writable.{IsWritable};
 ghost use Rattle.history_spec.specs.Steps.{finding_limit};
 ghost use Rattle.plain_replay.specs.Requests.{IsRunnable};
 ghost use Rattle.text_spec.specs.OrderLine.{order_of};
-ghost use Rattle.enc_top.specs.Inputs.{CellIs, FileIs, IsAmong, IsInputStatus, IsJudged, IsJudgedScript, OrderIs, ScriptIs, ScriptsAre, Tells, cell_in, order_in, quotas_of as quotas_of_lem};
+ghost use Rattle.enc_top.specs.Inputs.{CellIs, FileIs, IsAmong, IsCellOfFile, IsInputStatus, IsJudged, IsJudgedScript, OrderIs, ScriptIs, ScriptsAre, Tells, cell_in, order_in, quotas_of as quotas_of_lem};
 ghost use Rattle.enc_top.specs.Refused.{IsRefusal};
 
 use crate::input::{InputRefusal, read_file};
@@ -79,6 +80,7 @@ fn judge_cell(alloc: Global, bytes: &[u8]) -> Result<Checked, Status>
     requires small { length bytes.now ≤ 16777216 }
     ensures judged { IsJudged (λ checked. checked.cell) (cell_in bytes.now) result }
     ensures writable { IfOk result (λ checked. IsWritable checked.cell) }
+    ensures of_file { IfOk result (λ checked. IsCellOfFile checked.cell) }
     ensures findings { IfOk result (λ checked. IsAllOf checked.cell finding_limit checked.findings) }
     ensures status { IfErr result (IsInputStatus (λ n. ⊥)) }
 {
@@ -99,6 +101,7 @@ fn judge_cell(alloc: Global, bytes: &[u8]) -> Result<Checked, Status>
 pub fn read_cell<H: Shelf>(alloc: Global, shelf: &mut H, name: &str) -> Result<Checked, Status>
     ensures tells { Tells (λ checked. checked.cell) (CellIs name.now) (H.files shelf.old) (H.read_faults shelf.old) (H.read_faults shelf.new) result }
     ensures writable { IfOk result (λ checked. IsWritable checked.cell) }
+    ensures of_file { IfOk result (λ checked. IsCellOfFile checked.cell) }
     ensures findings { IfOk result (λ checked. IsAllOf checked.cell finding_limit checked.findings) }
     ensures status { IfErr result (IsInputStatus (λ n. n ≡ name.now)) }
     ensures files { H.files shelf.new ≡ H.files shelf.old }
@@ -114,6 +117,7 @@ fn judge_script(alloc: Global, bytes: &[u8], session: u32) -> Result<Script, Sta
     requires short { length bytes.now < 2 ^ 32 }
     ensures judged { IsJudgedScript session bytes.now result }
     ensures runnable { IfOk result IsRunnable }
+    ensures of_text { IfOk result IsScriptOfText }
     ensures status { IfErr result (IsInputStatus (λ n. ⊥)) }
 {
     match read_script(alloc, bytes) {
@@ -132,6 +136,7 @@ fn read_session<H: Shelf>(
 ) -> Result<Script, Status>
     ensures tells { Tells (λ script. script) (ScriptIs session name.now) (H.files shelf.old) (H.read_faults shelf.old) (H.read_faults shelf.new) result }
     ensures runnable { IfOk result IsRunnable }
+    ensures of_text { IfOk result IsScriptOfText }
     ensures status { IfErr result (IsInputStatus (λ n. n ≡ name.now)) }
     ensures files { H.files shelf.new ≡ H.files shelf.old }
     ensures read_faults { H.read_faults shelf.old ≤ H.read_faults shelf.new }
@@ -159,6 +164,7 @@ pub fn read_scripts<H: Shelf>(
     ensures tells { Tells (λ scripts. scripts.items) (ScriptsAre (map string_bytes names.now)) (H.files shelf.old) (H.read_faults shelf.old) (H.read_faults shelf.new) result }
     ensures many { IfOk result (λ scripts. length scripts.items ≡ length names.now) }
     ensures runnable { IfOk result (λ scripts. All IsRunnable scripts.items) }
+    ensures of_texts { IfOk result (λ scripts. All IsScriptOfText scripts.items) }
     ensures status { IfErr result (IsInputStatus (IsAmong (map string_bytes names.now))) }
     ensures files { H.files shelf.new ≡ H.files shelf.old }
     ensures read_faults { H.read_faults shelf.old ≤ H.read_faults shelf.new }

@@ -3,9 +3,11 @@
 ghost use Rattle.std.specs.Prelude.{◌≡◌, ◌⊎◌, ◌↔◌, ◌≤◌, All, IfErr, IfOk, length, map, string_bytes};
 ghost use Rattle.edge_findings.specs.AllFindings.{IsAllOf};
 ghost use Rattle.cell_spec.specs.Writable.{IsWritable};
+ghost use Rattle.export_laws.specs.ExportedCells.{IsReadBack, IsScriptOfText};
 ghost use Rattle.history_spec.specs.Steps.{finding_limit};
+ghost use Rattle.rule_spec.specs.Kinds.{built_kinds};
 ghost use Rattle.plain_replay.specs.Requests.{IsRunnable};
-ghost use Rattle.enc_top.specs.Inputs.{IsAmong, IsInputStatus, IsRunOf, OrderedRunIs, RunIs, Tells};
+ghost use Rattle.enc_top.specs.Inputs.{IsAmong, IsCellOfFile, IsInputStatus, IsRunOf, OrderedRunIs, RunIs, Tells};
 ghost use Rattle.enc_top.specs.Outcome.{IsAskedBy, IsCause, IsExact, outside};
 ghost use Rattle.enc_top.specs.Task.{run_task, task_of};
 ghost use Rattle.enc_top.specs.Words.{check_among, form_of, later_form, no_form, replay_among};
@@ -18,6 +20,7 @@ use crate::work::{Export, Work};
 use cell_write::write_cell;
 use edge_findings::push_cell;
 use enc_outside::{Meet, Shelf, Sink};
+use export_laws::exports_are_read_back;
 use plain_replay::replay;
 use script_text::Script;
 use std::alloc::Global;
@@ -146,6 +149,7 @@ fn run_on<H: Shelf>(
     names: &[String],
 ) -> Result<Work, Status>
     requires writable { IsWritable checked.cell }
+    requires of_file { IsCellOfFile checked.cell }
     requires findings { IsAllOf checked.cell finding_limit checked.findings }
     requires few { length names.now ≤ 16 }
     ensures tells { Tells task_of (RunIs checked.cell out.now order.now (map string_bytes names.now)) (H.files shelf.old) (H.read_faults shelf.old) (H.read_faults shelf.new) result }
@@ -172,9 +176,11 @@ fn run_in_order_of<H: Shelf>(
     scripts: &[Script],
 ) -> Result<Work, Status>
     requires writable { IsWritable checked.cell }
+    requires of_file { IsCellOfFile checked.cell }
     requires findings { IsAllOf checked.cell finding_limit checked.findings }
     requires few { length scripts.now ≤ 16 }
     requires runnable { All IsRunnable scripts.now }
+    requires of_texts { All IsScriptOfText scripts.now }
     ensures tells { Tells task_of (OrderedRunIs checked.cell out.now order.now scripts.now) (H.files shelf.old) (H.read_faults shelf.old) (H.read_faults shelf.new) result }
     ensures run { IfOk result (λ work. IsRunOf checked.cell out.now (task_of work)) }
     ensures status { IfErr result (IsInputStatus (λ n. n ≡ order.now)) }
@@ -199,13 +205,17 @@ fn run_of(
     order: &[u32],
 ) -> Result<Work, Status>
     requires writable { IsWritable checked.cell }
+    requires of_file { IsCellOfFile checked.cell }
     requires findings { IsAllOf checked.cell finding_limit checked.findings }
     requires few { length scripts.now ≤ 16 }
     requires runnable { All IsRunnable scripts.now }
+    requires of_texts { All IsScriptOfText scripts.now }
     requires sessions { All (λ session. (1 ≤ session) × (session ≤ length scripts.now)) order.now }
     ensures run { IfOk result (λ work. task_of work ≡ run_task checked.cell out.now scripts.now order.now) }
+    ensures read_back { IsReadBack built_kinds checked.cell scripts.now order.now }
     ensures status { IfErr result (λ status. status ≡ Status.NoMemory) }
 {
+    exports_are_read_back();
     let replayed = replay(alloc, checked.cell, checked.findings, scripts, order)?;
     let name = String::from_str(alloc, out)?;
     let bytes = write_cell(alloc, &replayed.cell)?;
