@@ -47,10 +47,10 @@ module _ (limit : ℕ) (c : Cell) (h after : History) (reply : Reply) (seen : Li
       elim (cases_lt n (length seen)) [
         | inl earlier ↦ get_or_append_left seen added d n earlier ∙ before.each n d earlier ∙ ap (seen_of limit) (sym (more.kept n (omega (arith, earlier, count))))
         | inr past ↦
-          let inside : n - length seen < length added = omega (arith, within, all, past) in
-          let last : length after.commits ≡ n = omega (arith, within, all, past, count, counted, few, inside) in
-          get_or-append_right seen added (length seen) n d refl past ∙ seen_last limit after.cell reply (n - length seen) d inside
-          ∙ ap (seen_of limit) (more.on ∙ ap (λ k. cell_after k after.commits c) last)
+            let inside : n - length seen < length added = omega (arith, within, all, past) in
+            let last : length after.commits ≡ n = omega (arith, within, all, past, count, counted, few, inside) in
+            get_or-append_right seen added (length seen) n d refl past ∙ seen_last limit after.cell reply (n - length seen) d inside
+            ∙ ap (seen_of limit) (more.on ∙ ap (λ k. cell_after k after.commits c) last)
       ]
 
   pub seen_more : AreSeenAfter limit c after.commits (seen ++ added)

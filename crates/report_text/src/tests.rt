@@ -1,12 +1,10 @@
 use super::*;
-use cell_spec::{Edit, Finding, Subject};
-use edge_findings::{Findings, SubjectFinding};
+use cell_spec::Edit;
 use edit_sets::{EditSet, FormFault, FormRefusal};
 use history_spec::{Reply, StateRefusal};
 use s57_types::{Attrs, Deep, End, Ends, Kind, Plane, Rec, RecName, Unfit, Vector};
 use std::alloc::{AllocError, Global};
 use std::test::Fail;
-use text_spec::Command;
 
 fn name(kind: Kind, id: u32) -> RecName {
     RecName { kind, id }
@@ -102,117 +100,6 @@ fn an_order_and_a_draft_have_their_lines(rt: HostRuntime) -> Result<(), Fail> {
     push_order(&mut out, &[1, 2, 2, 1])?;
     push_draft(&mut out, 1)?;
     assert_eq!(rt; out.as_slice(), b"order 1 2 2 1\ndraft 1\n".as_slice());
-    Ok(())
-}
-
-/// The finding that an end of edge 2 leads to no connected node.
-fn dangling(place: u32) -> SubjectFinding {
-    SubjectFinding {
-        subject: Subject::Rec(name(Kind::Ve, 2)),
-        finding: Finding {
-            kind: 3,
-            nums: [place, 0, 0, 0],
-        },
-    }
-}
-
-/// What may be shown of a cell whose edge 2 has so many ends that lead to no connected node.
-fn dangling_ends(alloc: Global, count: u32) -> Result<Seen, AllocError>
-    requires { count < 2 ^ 32 - 1 }
-{
-    let mut list = Vec::new(alloc);
-    for place in 1..count + 1 {
-        list.push(dangling(place))?;
-    }
-    Seen::of(alloc, &Findings::of_vec(list), 20)
-}
-
-#[test]
-fn a_session_has_the_lines_of_its_commands(rt: HostRuntime) -> Result<(), Fail> {
-    let alloc = rt.alloc();
-    let mut out = Vec::new(alloc);
-    let empty = Reply::Formed(FormFault::Empty);
-    let missing = Reply::Refused(StateRefusal::DelMissing(name(Kind::Vc, 9)));
-    let commands = [
-        Command::Commit,
-        Command::Push(Edit::Del(name(Kind::Vc, 9))),
-        Command::Commit,
-        Command::View,
-    ];
-    push_session(&mut out, 2, &commands, &[&empty, &missing], &[dangling_ends(alloc, 0)?])?;
-    let text = "session 2\ncommit refused empty\ndraft 1\ncommit refused del missing vc 9\n";
-    assert_eq!(rt; out.as_slice(), text.as_bytes());
-    Ok(())
-}
-
-#[test]
-fn findings_of_the_base_are_shown(rt: HostRuntime) -> Result<(), Fail> {
-    let alloc = rt.alloc();
-    let mut out = Vec::new(alloc);
-    let newer = Reply::Newer {
-        number: 1,
-        name: name(Kind::Ve, 2),
-        desk: 2,
-        edit: Edit::Del(name(Kind::Ve, 2)),
-    };
-    let viewed = Reply::Viewed {
-        number: 1,
-        findings: 25,
-    };
-    let accepted = Reply::Accepted {
-        number: 2,
-        findings: 0,
-    };
-    let commands = [
-        Command::List(20),
-        Command::Commit,
-        Command::List(1),
-        Command::List(0),
-        Command::View,
-        Command::List(20),
-        Command::Commit,
-        Command::List(20),
-    ];
-    let seen = [
-        dangling_ends(alloc, 2)?,
-        dangling_ends(alloc, 25)?,
-        dangling_ends(alloc, 0)?,
-    ];
-    push_session(&mut out, 1, &commands, &[&newer, &viewed, &accepted], &seen)?;
-    let text = "session 1
-list seen 0 findings 2
-rec ve 2 DanglingEnd 1
-rec ve 2 DanglingEnd 2
-commit refused newer 1 ve 2 desk 2
-list seen 0 findings 2
-rec ve 2 DanglingEnd 1
-list seen 0 findings 2
-view seen 1 findings 25
-list seen 1 findings 25
-rec ve 2 DanglingEnd 1
-rec ve 2 DanglingEnd 2
-rec ve 2 DanglingEnd 3
-rec ve 2 DanglingEnd 4
-rec ve 2 DanglingEnd 5
-rec ve 2 DanglingEnd 6
-rec ve 2 DanglingEnd 7
-rec ve 2 DanglingEnd 8
-rec ve 2 DanglingEnd 9
-rec ve 2 DanglingEnd 10
-rec ve 2 DanglingEnd 11
-rec ve 2 DanglingEnd 12
-rec ve 2 DanglingEnd 13
-rec ve 2 DanglingEnd 14
-rec ve 2 DanglingEnd 15
-rec ve 2 DanglingEnd 16
-rec ve 2 DanglingEnd 17
-rec ve 2 DanglingEnd 18
-rec ve 2 DanglingEnd 19
-rec ve 2 DanglingEnd 20
-commit accepted 2 findings 0
-list seen 2 findings 0
-";
-    assert_eq!(rt; out.as_slice(), text.as_bytes());
     Ok(())
 }
 
