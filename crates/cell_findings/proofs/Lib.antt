@@ -8,5 +8,4 @@ pub mod AllFindings
 pub mod Gathering
 pub mod KindsAgree
 pub mod KnownKinds
-pub mod SmallCells
 pub mod Extents
