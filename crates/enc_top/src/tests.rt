@@ -349,7 +349,9 @@ fn a_bad_script_is_told_with_its_line(rt: HostRuntime) -> Result<(), Fail> {
     ];
     for (script, line, code) in cases {
         let (status, text) = replayed(&rt, rt.alloc(), b"order\n", &[b"", script])?;
-        assert!(rt; matches!(status, Status::BadScript(2, at, found) if at == line && found == code));
+        assert!(rt;
+            matches!(status, Status::BadScript(2, at, found) if at == line && found == code)
+        );
         assert!(rt; text.is_empty());
     }
     Ok(())
