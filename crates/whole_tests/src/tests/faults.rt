@@ -27,9 +27,13 @@ const COUNTS: [&str; 10] = [
 
 /// What is printed of the square where it is cut within a record of a number, or before it.
 fn cut_line(alloc: Global, number: usize, whole: bool) -> Result<String, Fail> {
-    let offset = BEGINS.get(number - 1).ok_or("it has thirteen records")?;
+    let offset = BEGINS
+        .get(number.wrapping_sub(1))
+        .ok_or("it has thirteen records")?;
     if whole && number > 3 {
-        let counts = COUNTS.get(number - 4).ok_or("it has ten records")?;
+        let counts = COUNTS
+            .get(number.wrapping_sub(4))
+            .ok_or("it has ten records")?;
         return Ok(format!(in alloc; "cell vi 0 {counts}\nfindings 0\nend\n")?);
     }
     Ok(format!(in alloc; "enc_cell: bad cell record {number} offset {offset} code 1\n")?)
@@ -42,7 +46,9 @@ fn check_cuts<R: Threads + Sync>(
     file: &[u8],
     number: usize,
 ) -> Result<bool, Fail> {
-    let begin = *BEGINS.get(number - 1).ok_or("it has thirteen records")?;
+    let begin = *BEGINS
+        .get(number.wrapping_sub(1))
+        .ok_or("it has thirteen records")?;
     let end = BEGINS.get(number).copied().unwrap_or(file.len());
     let before = cut_line(alloc, number, true)?;
     let within = cut_line(alloc, number, false)?;
@@ -138,7 +144,8 @@ fn a_record_once_more_has_no_new_name(rt: HostRuntime) -> Result<(), Fail> {
 
 /// Appends nodes of 40 bytes, numbered from 1.
 fn push_nodes(file: &mut Vec<u8>, count: u32) -> Result<(), Fail> {
-    for id in 1..count + 1 {
+    for before in 0..count {
+        let id = before.wrapping_add(1);
         file.extend_from_slice(b"00040 D     00031   1104VRID90\x1ex")?;
         file.extend_from_slice(&id.to_le_bytes())?;
         file.extend_from_slice(b"\x01\x00\x01\x1e")?;
