@@ -263,7 +263,10 @@ fn write_cell(cell: &Cell) -> Vec<u8> {
     let mut out = STORED[..1785].to_vec();
     let nodes = cell.vectors.iter().filter(|vector| vector.name.kind == 120).count() as u32;
     let edges = cell.vectors.len() as u32 - nodes;
-    for (place, count) in [(1692, cell.features.len() as u32), (1704, nodes), (1708, edges)] {
+    // M_COVR is a meta feature, the areas are geo features
+    let meta = cell.features.iter().filter(|feature| feature.class == 302).count() as u32;
+    let geo = cell.features.len() as u32 - meta;
+    for (place, count) in [(1684, meta), (1692, geo), (1704, nodes), (1708, edges)] {
         out[place..place + 4].copy_from_slice(&count.to_le_bytes());
     }
     let mut number = 3u16;
