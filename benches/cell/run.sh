@@ -6,14 +6,7 @@ here=$(cd "$(dirname "$0")" && pwd)
 rounds=${1:-20}
 runs=${2:-7}
 . "$here/../built.sh"
-
-# one run of a program; each says the same
-timed() {
-    name=$1
-    shift
-    "$@" "$rounds" 2>>"$work/times_$name" >"$work/said_$name"
-    cmp "$work/said_ours" "$work/said_$name"
-}
+. "$here/../timed.sh"
 
 # the least time of a program's runs in milliseconds a cell
 least() {
