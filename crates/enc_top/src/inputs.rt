@@ -1,7 +1,7 @@
 //! The input files of a call, each read and judged before the next.
 
 ghost use Rattle.std.specs.Prelude.{◌≡◌, ◌≤◌, ◌<◌, ◌^◌, ◌++◌, ◌∷◌, [], All, IfErr, IfOk, OnOk, length, map, string_bytes};
-ghost use Rattle.edge_findings.specs.AllFindings.{IsAllOf};
+ghost use Rattle.cell_findings.specs.AllFindings.{IsAllOf};
 ghost use Rattle.export_laws.specs.ExportedCells.{IsScriptOfText};
 ghost use Rattle.cell_spec.specs.Writable.{IsWritable};
 ghost use Rattle.history_spec.specs.Steps.{finding_limit};
@@ -14,7 +14,7 @@ use crate::input::{InputRefusal, read_file};
 use crate::status::Status;
 use cell_decode::ReadRefusal;
 use decode_laws::decoded_cell_is_writable;
-use edge_findings::{FindingRefusal, Findings, find_all};
+use cell_findings::{FindingRefusal, Findings, find_all};
 use enc_outside::Shelf;
 use order_text::{Order, OrderRefusal, read_order};
 use plain_history::FINDING_LIMIT;

@@ -1,11 +1,11 @@
 //! The program as one call.
 
 ghost use Rattle.std.specs.Prelude.{◌≡◌, ◌⊎◌, ◌↔◌, ◌≤◌, All, IfErr, IfOk, length, map, string_bytes};
-ghost use Rattle.edge_findings.specs.AllFindings.{IsAllOf};
+ghost use Rattle.cell_findings.specs.AllFindings.{IsAllOf};
 ghost use Rattle.cell_spec.specs.Writable.{IsWritable};
 ghost use Rattle.export_laws.specs.ExportedCells.{IsReadBack, IsScriptOfText};
 ghost use Rattle.history_spec.specs.Steps.{finding_limit};
-ghost use Rattle.rule_spec.specs.Kinds.{built_kinds};
+ghost use Rattle.cell_findings.specs.Kinds.{judged_kinds};
 ghost use Rattle.plain_replay.specs.Requests.{IsRunnable};
 ghost use Rattle.enc_top.specs.Inputs.{IsAmong, IsCellOfFile, IsInputStatus, IsRunOf, OrderedRunIs, RunIs, Tells};
 ghost use Rattle.enc_top.specs.Outcome.{IsAskedBy, IsCause, IsExact, outside};
@@ -18,7 +18,7 @@ use crate::status::Status;
 use crate::words::is_later_form;
 use crate::work::{Export, Work};
 use cell_write::write_cell;
-use edge_findings::push_cell;
+use cell_findings::push_cell;
 use enc_outside::{Meet, Shelf, Sink};
 use export_laws::exports_are_read_back;
 use plain_replay::replay;
@@ -212,7 +212,7 @@ fn run_of(
     requires of_texts { All IsScriptOfText scripts.now }
     requires sessions { All (λ session. (1 ≤ session) × (session ≤ length scripts.now)) order.now }
     ensures run { IfOk result (λ work. task_of work ≡ run_task checked.cell out.now scripts.now order.now) }
-    ensures read_back { IsReadBack built_kinds checked.cell scripts.now order.now }
+    ensures read_back { IsReadBack judged_kinds checked.cell scripts.now order.now }
     ensures status { IfErr result (λ status. status ≡ Status.NoMemory) }
 {
     exports_are_read_back();

@@ -8,8 +8,8 @@ use Rattle.decode_laws.specs.DecodedCells.{DecodedIsWritable}
 use Rattle.edit_laws.specs.ReadBackAfterRuns.{CommandHasItsTypes, RunsAreReadBack}
 use Rattle.edit_laws.proofs.DistinctNames.{each_weaker}
 use Rattle.export_laws.specs.DecodedTypes.{DecodedHasItsTypes}
-use Rattle.export_laws.specs.ExportedCells.{IsScriptOfText, IsMinimalScriptOfText, ExportsAreReadBack, MinimalExportsAreReadBack}
-use Rattle.export_laws.specs.ScriptTypes.{ScriptHasItsTypes, MinimalScriptHasItsTypes}
+use Rattle.export_laws.specs.ExportedCells.{IsScriptOfText, ExportsAreReadBack}
+use Rattle.export_laws.specs.ScriptTypes.{ScriptHasItsTypes}
 
 scripts_typed : (nall : ℕ) (Of : List Command → Type 0) → ((commands : List Command) → Of commands → AllByRecursion (CommandHasItsTypes nall) commands)
     → (scripts : List (List Command)) → All Of scripts → AllByRecursion (AllByRecursion (CommandHasItsTypes nall)) scripts
@@ -19,8 +19,3 @@ pub exports_are_read_back : DecodedIsWritable → DecodedHasItsTypes → ScriptH
 exports_are_read_back writable typed of_script back asked b c scripts order bytes is all =
     back asked c scripts order (writable b c is) (typed b c bytes is)
     (scripts_typed c.head.nall IsScriptOfText (λ commands some. of_script c.head.nall some.0 commands some.1) scripts all)
-
-pub minimal_exports_are_read_back : DecodedIsWritable → DecodedHasItsTypes → MinimalScriptHasItsTypes → RunsAreReadBack → MinimalExportsAreReadBack
-minimal_exports_are_read_back writable typed of_script back asked b c scripts order bytes is all =
-    back asked c scripts order (writable b c is) (typed b c bytes is)
-    (scripts_typed c.head.nall IsMinimalScriptOfText (λ commands some. of_script c.head.nall some.0 commands some.1) scripts all)

@@ -19,7 +19,7 @@ use Rattle.text_spec.specs.declared.command.Command.TheVariants.{View, Commit, D
 use Rattle.text_spec.specs.ScriptLines.{IsOfWidth, record_subfields, vector_subfields, feature_subfields, IsEditOfWidth, IsCommand, ScriptLine, skipped, spoken, spoken_command, IsLine}
 use Rattle.edit_laws.specs.ReadBackAfterRuns.{EditHasItsTypes, CommandHasItsTypes}
 use Rattle.edit_laws.proofs.DistinctNames.{each_weaker, each_front, each_back}
-use Rattle.export_laws.specs.ScriptTypes.{ScriptHasItsTypes, MinimalScriptHasItsTypes}
+use Rattle.export_laws.specs.ScriptTypes.{ScriptHasItsTypes}
 
 in_range : (s : Subfield) → IsOfWidth s → IsInRange s
 in_range (unsigned_of w n) fits = fits
@@ -113,6 +113,3 @@ lines_typed nall (spoken command ∷ lines) all = (command_typed nall command al
 pub script_has_its_types : ScriptHasItsTypes
 script_has_its_types nall bytes commands is =
     subst (AllByRecursion (CommandHasItsTypes nall)) (sym is.commands_are) (lines_typed nall is.lines (recursion_from_All IsLine is.lines is.each))
-
-pub minimal_script_has_its_types : MinimalScriptHasItsTypes
-minimal_script_has_its_types nall bytes commands is = script_has_its_types nall bytes commands is.is_script

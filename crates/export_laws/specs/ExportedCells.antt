@@ -4,17 +4,13 @@ use Rattle.s57_types.specs.declared.cell.Cell.{Cell}
 use Rattle.file_spec.specs.DecodedCell.{decoded_cell}
 use Rattle.file_spec.specs.EncodedCell.{encoded_cell}
 use Rattle.text_spec.specs.declared.command.Command.{Command}
-use Rattle.text_spec.specs.ScriptLines.{IsScript, IsMinimalScript}
+use Rattle.text_spec.specs.ScriptLines.{IsScript}
 use Rattle.history_spec.specs.ReportText.{final_cell}
 use Rattle.export_laws.specs.DecodedTypes.{AreFileBytes}
 
 -- the commands of some text that is a script
 abbrev pub IsScriptOfText : List Command → Type 0
 IsScriptOfText commands = (text : List ℕ) × IsScript text commands
-
--- the same of a minimal script
-abbrev pub IsMinimalScriptOfText : List Command → Type 0
-IsMinimalScriptOfText commands = (text : List ℕ) × IsMinimalScript text commands
 
 -- the file of the cell that a run leaves is read as that cell
 abbrev pub IsReadBack : List ℕ → Cell → List (List Command) → List ℕ → Type 0
@@ -24,8 +20,3 @@ IsReadBack asked c scripts order = decoded_cell (encoded_cell (final_cell asked 
 abbrev pub ExportsAreReadBack : Type 0
 ExportsAreReadBack = (asked b : List ℕ) (c : Cell) (scripts : List (List Command)) (order : List ℕ) → AreFileBytes b → decoded_cell b ≡ Ok c
     → All IsScriptOfText scripts → IsReadBack asked c scripts order
-
--- and of each run of minimal scripts
-abbrev pub MinimalExportsAreReadBack : Type 0
-MinimalExportsAreReadBack = (asked b : List ℕ) (c : Cell) (scripts : List (List Command)) (order : List ℕ) → AreFileBytes b → decoded_cell b ≡ Ok c
-    → All IsMinimalScriptOfText scripts → IsReadBack asked c scripts order

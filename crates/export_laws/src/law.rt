@@ -1,8 +1,8 @@
 //! Each law is the contract of a function that does nothing.
 
 ghost use Rattle.export_laws.specs.DecodedTypes.{DecodedHasItsTypes};
-ghost use Rattle.export_laws.specs.ExportedCells.{ExportsAreReadBack, MinimalExportsAreReadBack};
-ghost use Rattle.export_laws.specs.ScriptTypes.{MinimalScriptHasItsTypes, ScriptHasItsTypes};
+ghost use Rattle.export_laws.specs.ExportedCells.{ExportsAreReadBack};
+ghost use Rattle.export_laws.specs.ScriptTypes.{ScriptHasItsTypes};
 
 use decode_laws::decoded_cell_is_writable;
 use edit_laws::runs_are_read_back;
@@ -14,14 +14,12 @@ pub fn decoded_cell_has_its_types()
 
 /// The commands of a script leave records whose numbers fit their types, at each level of national attributes.
 pub fn scripts_have_their_types()
-    ensures whole { ScriptHasItsTypes }
-    ensures minimal { MinimalScriptHasItsTypes }
+    ensures { ScriptHasItsTypes }
 {}
 
 /// What is written of the cell that a run of scripts leaves of a file's cell is that cell when it is read.
 pub fn exports_are_read_back()
-    ensures whole { ExportsAreReadBack }
-    ensures minimal { MinimalExportsAreReadBack }
+    ensures { ExportsAreReadBack }
 {
     decoded_cell_is_writable();
     runs_are_read_back();

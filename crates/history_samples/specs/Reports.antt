@@ -5,7 +5,7 @@ use Rattle.s57_types.specs.declared.record.Rec.{Rec}
 use Rattle.s57_types.specs.declared.record.Rec.TheVariants.{V, F}
 use Rattle.cell_spec.specs.declared.edit.Edit.{Edit}
 use Rattle.cell_spec.specs.declared.edit.Edit.TheVariants.{Add, Set, Del}
-use Rattle.rule_spec.specs.Kinds.{built_kinds, all_kinds}
+use Rattle.rule_spec.specs.Kinds.{all_kinds}
 use Rattle.sample_cells.specs.Parts.{vc, ve, at, node, vector, end_of, depth_area, square}
 use Rattle.sample_cells.specs.Samples.{dangling, grid}
 use Rattle.text_spec.specs.declared.command.Command.{Command}
@@ -31,51 +31,55 @@ move_node place = Set (renewed (node 1 (at place place)))
 -- an edge gets its two nodes; an empty draft and a deletion of no record are refused
 abbrev pub MinimalRunIsReported : Type 0
 MinimalRunIsReported =
-    report built_kinds dangling (
+    report all_kinds dangling (
     edit_seen (Set (renewed (vector (ve 2) (end_of 1 (vc 1) ∷ end_of 2 (vc 2) ∷ []) (at 50 50 ∷ [])))) ∷ (Commit ∷ Push (Del (vc 9)) ∷ Commit ∷ []) ∷ [])
     (1 ∷ 2 ∷ 2 ∷ 1 ∷ [])
     ≡ text_of_lines (
     codes "order 1 2 2 1" ∷
     codes "session 1" ∷
-    codes "view seen 0 findings 2" ∷
+    codes "view seen 0 findings 4" ∷
     codes "draft 1" ∷
-    codes "commit accepted 1 findings 0" ∷
+    codes "commit accepted 1 findings 2" ∷
     codes "session 2" ∷
     codes "commit refused empty" ∷
     codes "draft 1" ∷
     codes "commit refused del missing vc 9" ∷
     codes "history" ∷
-    codes "commit 1 desk 1 findings 0" ∷
+    codes "commit 1 desk 1 findings 2" ∷
     codes "set ve 2 2 e=vc:1:255:255:1:255 e=vc:2:255:255:2:255 p=50,50" ∷
     codes "cell vi 0 vc 2 ve 2 fe 0" ∷
-    codes "findings 0" ∷
+    codes "findings 2" ∷
+    codes "side ve 1 Orphan" ∷
+    codes "side ve 2 Orphan" ∷
     codes "end" ∷ [])
 
 -- the second of two commits that name one record is shown the first
 abbrev pub ClashIsReported : Type 0
 ClashIsReported =
-    report built_kinds dangling ((Push (Set (renewed (node 1 (at 0 1)))) ∷ Commit ∷ []) ∷ (Push (Set (renewed (node 1 (at 0 2)))) ∷ Commit ∷ []) ∷ []) (1 ∷ 2 ∷ [])
+    report all_kinds dangling ((Push (Set (renewed (node 1 (at 0 1)))) ∷ Commit ∷ []) ∷ (Push (Set (renewed (node 1 (at 0 2)))) ∷ Commit ∷ []) ∷ []) (1 ∷ 2 ∷ [])
     ≡ text_of_lines (
     codes "order 1 2" ∷
     codes "session 1" ∷
     codes "draft 1" ∷
-    codes "commit accepted 1 findings 2" ∷
+    codes "commit accepted 1 findings 4" ∷
     codes "session 2" ∷
     codes "draft 1" ∷
     codes "commit refused newer 1 vc 1 desk 1" ∷
     codes "history" ∷
-    codes "commit 1 desk 1 findings 2" ∷
+    codes "commit 1 desk 1 findings 4" ∷
     codes "set vc 1 2 p=0,1" ∷
     codes "cell vi 0 vc 2 ve 2 fe 0" ∷
-    codes "findings 2" ∷
+    codes "findings 4" ∷
     codes "rec ve 2 EndCount 1 0 1" ∷
     codes "rec ve 2 DanglingEnd 1" ∷
+    codes "side ve 1 Orphan" ∷
+    codes "side ve 2 Orphan" ∷
     codes "end" ∷ [])
 
 -- a session that has seen the newer commit may change its record
 abbrev pub ViewEndsTheClash : Type 0
 ViewEndsTheClash =
-    report built_kinds grid (edit_seen (move_node 1) ∷ (View ∷ Push (move_node 2) ∷ Commit ∷ View ∷ Push (move_node 2) ∷ Commit ∷ []) ∷ []) (1 ∷ 2 ∷ 1 ∷ 2 ∷ 2 ∷ 2 ∷ [])
+    report all_kinds grid (edit_seen (move_node 1) ∷ (View ∷ Push (move_node 2) ∷ Commit ∷ View ∷ Push (move_node 2) ∷ Commit ∷ []) ∷ []) (1 ∷ 2 ∷ 1 ∷ 2 ∷ 2 ∷ 2 ∷ [])
     ≡ text_of_lines (
     codes "order 1 2 1 2 2 2" ∷
     codes "session 1" ∷

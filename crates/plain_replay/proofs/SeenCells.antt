@@ -6,8 +6,8 @@ use Rattle.s57_types.specs.declared.cell.Cell.{Cell}
 use Rattle.history_spec.specs.Steps.{History, cell_after}
 use Rattle.history_spec.specs.declared.reply.Reply.{Reply}
 use Rattle.history_spec.specs.declared.reply.Reply.TheVariants.{Viewed, Formed, Newer, Refused, Accepted}
-use Rattle.edge_findings.specs.AllFindings.{IsAllOf}
-use Rattle.edge_findings.specs.declared.list.SubjectFinding.{SubjectFinding}
+use Rattle.cell_findings.specs.AllFindings.{IsAllOf}
+use Rattle.cell_findings.specs.declared.list.SubjectFinding.{SubjectFinding}
 use Rattle.report_text.specs.SeenFindings.{seen_among, seen_of}
 use Rattle.report_text.specs.declared.seen.Seen.{Seen}
 use Rattle.plain_replay.specs.Runs.{AreSeenAfter, accepted_seen}

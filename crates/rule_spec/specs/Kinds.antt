@@ -18,10 +18,6 @@ kind_name kind = (slice_index_or kinds (kind - 1) (codes "", 0)).0
 abbrev pub number_count : ℕ → ℕ
 number_count kind = (slice_index_or kinds (kind - 1) (codes "", 0)).1
 
--- the kinds that the program judges so far: EndCount and DanglingEnd
-abbrev pub built_kinds : List ℕ
-built_kinds = 2 ∷ 3 ∷ []
-
 -- all kinds
 abbrev pub all_kinds : List ℕ
 all_kinds = 1 ∷ 2 ∷ 3 ∷ 4 ∷ 5 ∷ 6 ∷ 7 ∷ 8 ∷ 9 ∷ 10 ∷ 11 ∷ 12 ∷ 13 ∷ 14 ∷ 15 ∷ 16 ∷ 17 ∷ 18 ∷ 19 ∷ 20 ∷ 21 ∷ 22 ∷ 23 ∷ 24 ∷ 25 ∷ []

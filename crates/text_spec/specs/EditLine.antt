@@ -1,5 +1,5 @@
 -- The line of a record edit in a script and in a report. This project's own text.
-use Rattle.std.specs.Prelude.{ℕ, ℤ, ◌+◌, ◌/◌, ◌%◌, ◌==◌, ◌&&◌, Bool, true, false, not, nat_le, nat_lt, List, [], ◌∷◌, ◌++◌, length, map, codes, if◌then◌else◌}
+use Rattle.std.specs.Prelude.{ℕ, ℤ, ◌+◌, ◌/◌, ◌%◌, ◌==◌, ◌&&◌, Bool, true, false, not, nat_le, nat_lt, List, [], ◌∷◌, ◌++◌, map, codes, if◌then◌else◌}
 use Rattle.std.specs.Fmt.{decimal, signed_decimal}
 use Rattle.std.specs.List.{flat_map}
 use Rattle.s57_types.specs.declared.name.Kind.{Kind}
@@ -99,19 +99,3 @@ abbrev pub has_line : Edit → Bool
 has_line (Add r) = record_has_line r
 has_line (Set r) = record_has_line r
 has_line (Del n) = true
-
--- minimal edits are of connected nodes and edges without attributes and soundings
-abbrev pub is_node_or_edge : Kind → Bool
-is_node_or_edge Vi = false
-is_node_or_edge Vc = true
-is_node_or_edge Ve = true
-is_node_or_edge Fe = false
-
-abbrev pub is_minimal_record : Rec → Bool
-is_minimal_record (V v) = is_node_or_edge v.name.kind && (length v.attrs == 0) && (length v.deep == 0)
-is_minimal_record (F f) = false
-
-abbrev pub is_minimal_edit : Edit → Bool
-is_minimal_edit (Add r) = is_minimal_record r
-is_minimal_edit (Set r) = is_minimal_record r
-is_minimal_edit (Del n) = is_node_or_edge n.kind

@@ -1,7 +1,7 @@
 -- Scripts: the commands of one session, a line each. This project's own text.
 use Rattle.std.specs.Prelude.{◌≡◌, ℕ, ◌≤◌, ◌<◌, ◌^◌, ◌==◌, Bool, true, false, List, [], ◌∷◌, ◌++◌, length, codes, Option, None, Some, All}
 use Rattle.std.specs.Fmt.{decimal}
-use Rattle.std.specs.List.{flat_map, filter_map, list_all}
+use Rattle.std.specs.List.{flat_map, filter_map}
 use Rattle.std.specs.Int.{w32}
 use Rattle.std.specs.Prelude.{FitsSigned}
 use Rattle.s57_types.specs.Subfield.{Subfield, unsigned_of, signed_of, text_of, wide_text_of, fixed_of, holds}
@@ -13,7 +13,7 @@ use Rattle.s57_types.specs.declared.record.Rec.TheVariants.{V, F}
 use Rattle.cell_spec.specs.declared.edit.Edit.{Edit}
 use Rattle.cell_spec.specs.declared.edit.Edit.TheVariants.{Add, Set, Del}
 use Rattle.text_spec.specs.Lines.{line}
-use Rattle.text_spec.specs.EditLine.{edit_line, has_line, is_minimal_edit}
+use Rattle.text_spec.specs.EditLine.{edit_line, has_line}
 use Rattle.text_spec.specs.declared.command.Command.{Command}
 use Rattle.text_spec.specs.declared.command.Command.TheVariants.{View, Commit, Drop, List as Findings, Push}
 
@@ -68,14 +68,6 @@ IsCommand Drop = Unit {0}
 IsCommand (Findings shown) = shown ≤ shown_limit
 IsCommand (Push edit) = (has_line edit ≡ true) × IsEditOfWidth edit
 
--- a command of a minimal script
-abbrev pub is_minimal_command : Command → Bool
-is_minimal_command View = true
-is_minimal_command Commit = true
-is_minimal_command Drop = true
-is_minimal_command (Findings shown) = false
-is_minimal_command (Push edit) = is_minimal_edit edit
-
 -- a line is skipped where it is empty or begins with a number sign
 abbrev pub is_skipped : List ℕ → Bool
 is_skipped [] = true
@@ -105,11 +97,6 @@ pub record IsScript (bytes : List ℕ) (commands : List Command) : Type 0 where
   pub bytes_are : bytes ≡ flat_map line_text lines
   pub commands_are : commands ≡ filter_map spoken_command lines
   pub few : length commands ≤ command_limit
-
--- a minimal script
-pub record IsMinimalScript (bytes : List ℕ) (commands : List Command) : Type 0 where
-  pub is_script : IsScript bytes commands
-  pub minimal : list_all is_minimal_command commands ≡ true
 
 -- the commands that all sessions see: views and commits
 abbrev pub is_shared : Command → Bool

@@ -1,7 +1,7 @@
 use Rattle.std.proofs.Common.{◌≡◌, ◌++◌, ◌∙◌, ap, take}
 use Rattle.std.specs.List.{flat_map}
 use Rattle.std.proofs.lemmas.Result.{on_ok_weaker}
-use Rattle.edge_findings.specs.Rows.{line_of}
+use Rattle.cell_findings.specs.Rows.{line_of}
 use Rattle.report_text.proofs.ShownFindings.{lines_shown}
 use Rattle.report_text.proofs.seen.push_list.Goals as goal
 

@@ -1,9 +1,0 @@
-pub mod RowTexts
-pub mod Edges
-pub mod Ascending
-pub mod SubjectOrder
-pub mod WritableLists
-pub mod Nodes
-pub mod EdgeSubjects
-pub mod ShortEdges
-pub mod AllFindings

@@ -1,7 +1,0 @@
-use Rattle.edge_findings.proofs.RowTexts.{text_with-findings}
-use Rattle.edge_findings.proofs.text.push_cell.Goals as goal
-
-pub returns : goal.returns
-returns c = λ rows is.
-    rw (c.in_ok-push_text.ensures, c.in_ok-push_findings.ensures, c.as_slice.ensures.same, c.in_ok-push_total.ensures, c.len.ensures, c.in_ok-push_counts.ensures)
-    (text_with-findings c.args.out.now.items c.args.cell.now rows c.args.findings.now is)

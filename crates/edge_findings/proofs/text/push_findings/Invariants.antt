@@ -1,7 +1,0 @@
-use Rattle.std.proofs.Common.{◌≡◌, ◌++◌, take}
-use Rattle.std.specs.List.{flat_map}
-use Rattle.edge_findings.specs.Rows.{line_of}
-use Rattle.edge_findings.proofs.text.push_findings.Given as goal
-
-abbrev pub invariant-loop-found : goal.invariant-loop-found
-invariant-loop-found l = l.out.items ≡ l.initial.out.items ++ flat_map line_of (take l.found-index l.findings)

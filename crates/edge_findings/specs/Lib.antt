@@ -1,4 +1,0 @@
-pub mod Rows
-pub mod Ends
-pub mod EdgeFindings
-pub mod AllFindings
