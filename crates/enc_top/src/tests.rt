@@ -14,7 +14,7 @@ use std::test::Fail;
 
 /// What `check` prints of the minimal cell.
 const REPORT: &[u8] =
-    b"cell vi 0 vc 2 ve 2 fe 0\nfindings 2\nrec ve 2 EndCount 1 0 1\nrec ve 2 DanglingEnd 1\nend\n";
+    b"cell vi 0 vc 2 ve 2 fe 0\nfindings 4\nrec ve 2 EndCount 1 0 1\nrec ve 2 DanglingEnd 1\nside ve 1 Orphan\nside ve 2 Orphan\nend\n";
 
 /// Words from a text with spaces between them.
 fn words(alloc: Global, text: &str) -> Result<Vec<String>, Fail> {
@@ -270,7 +270,7 @@ fn a_failed_write_leaves_a_beginning(rt: HostRuntime) -> Result<(), Fail> {
 
 /// The report of the minimal cell, as it ends after no accepted commit.
 const UNCHANGED: &[u8] =
-    b"history\ncell vi 0 vc 2 ve 2 fe 0\nfindings 2\nrec ve 2 EndCount 1 0 1\nrec ve 2 DanglingEnd 1\nend\n";
+    b"history\ncell vi 0 vc 2 ve 2 fe 0\nfindings 4\nrec ve 2 EndCount 1 0 1\nrec ve 2 DanglingEnd 1\nside ve 1 Orphan\nside ve 2 Orphan\nend\n";
 
 #[test]
 fn two_sessions_are_reported(rt: HostRuntime) -> Result<(), Fail> {
@@ -286,7 +286,7 @@ fn two_sessions_are_reported(rt: HostRuntime) -> Result<(), Fail> {
     assert_eq!(rt; status.number(), 0);
     assert_eq!(rt;
         text.as_slice(),
-        b"order 1 2 2 1\nsession 1\nview seen 0 findings 2\ndraft 1\ncommit accepted 1 findings 0\nsession 2\ncommit refused empty\ndraft 1\ncommit refused del missing vc 9\nhistory\ncommit 1 desk 1 findings 0\nset ve 2 2 e=vc:1:255:255:1:255 e=vc:2:255:255:2:255 p=50,50\ncell vi 0 vc 2 ve 2 fe 0\nfindings 0\nend\n".as_slice()
+        b"order 1 2 2 1\nsession 1\nview seen 0 findings 4\ndraft 1\ncommit accepted 1 findings 2\nsession 2\ncommit refused empty\ndraft 1\ncommit refused del missing vc 9\nhistory\ncommit 1 desk 1 findings 2\nset ve 2 2 e=vc:1:255:255:1:255 e=vc:2:255:255:2:255 p=50,50\ncell vi 0 vc 2 ve 2 fe 0\nfindings 2\nside ve 1 Orphan\nside ve 2 Orphan\nend\n".as_slice()
     );
     Ok(())
 }
@@ -302,7 +302,7 @@ fn a_commit_meets_a_newer_one(rt: HostRuntime) -> Result<(), Fail> {
     assert_eq!(rt; status.number(), 0);
     assert_eq!(rt;
         text.as_slice(),
-        b"order 1 2\nsession 1\ndraft 1\ncommit accepted 1 findings 2\nsession 2\ndraft 1\ncommit refused newer 1 vc 1 desk 1\nhistory\ncommit 1 desk 1 findings 2\nset vc 1 2 p=0,1\ncell vi 0 vc 2 ve 2 fe 0\nfindings 2\nrec ve 2 EndCount 1 0 1\nrec ve 2 DanglingEnd 1\nend\n".as_slice()
+        b"order 1 2\nsession 1\ndraft 1\ncommit accepted 1 findings 4\nsession 2\ndraft 1\ncommit refused newer 1 vc 1 desk 1\nhistory\ncommit 1 desk 1 findings 4\nset vc 1 2 p=0,1\ncell vi 0 vc 2 ve 2 fe 0\nfindings 4\nrec ve 2 EndCount 1 0 1\nrec ve 2 DanglingEnd 1\nside ve 1 Orphan\nside ve 2 Orphan\nend\n".as_slice()
     );
     Ok(())
 }
@@ -402,7 +402,7 @@ fn sixteen_sessions_run(rt: HostRuntime) -> Result<(), Fail> {
     assert_eq!(rt; status.number(), 0);
     assert!(rt;
         text.ends_with(
-            b"session 16\nview seen 0 findings 2\nhistory\ncell vi 0 vc 2 ve 2 fe 0\nfindings 2\nrec ve 2 EndCount 1 0 1\nrec ve 2 DanglingEnd 1\nend\n"
+            b"session 16\nview seen 0 findings 4\nhistory\ncell vi 0 vc 2 ve 2 fe 0\nfindings 4\nrec ve 2 EndCount 1 0 1\nrec ve 2 DanglingEnd 1\nside ve 1 Orphan\nside ve 2 Orphan\nend\n"
         )
     );
     Ok(())
@@ -410,7 +410,7 @@ fn sixteen_sessions_run(rt: HostRuntime) -> Result<(), Fail> {
 
 #[test]
 fn a_cell_has_at_most_262_144_findings(rt: HostRuntime) -> Result<(), Fail> {
-    for (ends, number) in [(519, 0), (520, 12)] {
+    for (ends, number) in [(494, 0), (495, 12)] {
         let mut shelf = shelf_of(rt.alloc(), &crowded_file(rt.alloc(), ends)?)?;
         let mut out = MemSink::make(rt.alloc());
         let status = run_plain(
@@ -503,7 +503,7 @@ fn a_full_cell_takes_no_more(rt: HostRuntime) -> Result<(), Fail> {
     let cases = [
         (minimal_file(alloc)?, long.as_slice(), "unfit 1 too long"),
         (nodes_file(alloc, 262_144)?, node, "cell full 262145"),
-        (crowded_file(alloc, 519)?, edge, "findings full"),
+        (crowded_file(alloc, 494)?, edge, "findings full"),
     ];
     for (cell, script, refusal) in &cases {
         let (status, text) = replayed_on(&rt, alloc, cell, b"order 1\n", &[*script])?;

@@ -1,7 +1,11 @@
 mod calls;
+mod crowd;
 mod drawn;
+mod draws;
 mod export;
 mod faults;
 mod liberties;
+mod plainly;
+mod rows;
 mod sessions;
 mod square;

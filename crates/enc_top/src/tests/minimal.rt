@@ -299,7 +299,7 @@ fn push_crowded_edge(
     push_record(alloc, file, " D     ", "   ", (5, 2), &fields)
 }
 
-/// Twenty-four edges of 10,900 ends that lead to no node, and one of so many: 261,625 findings and one more for each
+/// Twenty-four edges of 10,900 ends that lead to no node, and one of so many: 261,650 findings and one more for each
 /// end of the last.
 pub fn crowded_file(alloc: Global, ends: usize) -> Result<Vec<u8>, Fail> {
     let mut file = head_file(alloc)?;

@@ -1,15 +1,10 @@
 //! Cells that are drawn, written and read again.
 
 use super::calls::{checked, exported, joined};
+use super::draws::draw;
 use super::square;
 use std::alloc::Global;
 use std::test::Fail;
-
-/// A number that looks random and is the same on every machine.
-fn draw(state: &mut u32) -> u32 {
-    *state = state.wrapping_mul(1_664_525).wrapping_add(1_013_904_223);
-    *state >> 8
-}
 
 /// The square at lexical levels of attributes and of national attributes.
 fn square_at(alloc: Global, aall: u8, nall: u8) -> Result<Vec<u8>, Fail> {

@@ -11,18 +11,18 @@ const BEGINS: [usize; 13] = [
     0, 1578, 1717, 1785, 1852, 1919, 1986, 2053, 2133, 2213, 2293, 2373, 2488,
 ];
 
-/// The records of a cell by kind, behind each of its first records.
-const COUNTS: [&str; 10] = [
-    "vc 0 ve 0 fe 0",
-    "vc 1 ve 0 fe 0",
-    "vc 2 ve 0 fe 0",
-    "vc 3 ve 0 fe 0",
-    "vc 4 ve 0 fe 0",
-    "vc 4 ve 1 fe 0",
-    "vc 4 ve 2 fe 0",
-    "vc 4 ve 3 fe 0",
-    "vc 4 ve 4 fe 0",
-    "vc 4 ve 4 fe 1",
+/// What is printed of the cell behind each of the square's first records, after the number of isolated nodes.
+const CELLS: [&str; 10] = [
+    "vc 0 ve 0 fe 0\nfindings 0",
+    "vc 1 ve 0 fe 0\nfindings 0",
+    "vc 2 ve 0 fe 0\nfindings 0",
+    "vc 3 ve 0 fe 0\nfindings 0",
+    "vc 4 ve 0 fe 0\nfindings 0",
+    "vc 4 ve 1 fe 0\nfindings 1\nside ve 1 Orphan",
+    "vc 4 ve 2 fe 0\nfindings 2\nside ve 1 Orphan\nside ve 2 Orphan",
+    "vc 4 ve 3 fe 0\nfindings 3\nside ve 1 Orphan\nside ve 2 Orphan\nside ve 3 Orphan",
+    "vc 4 ve 4 fe 0\nfindings 4\nside ve 1 Orphan\nside ve 2 Orphan\nside ve 3 Orphan\nside ve 4 Orphan",
+    "vc 4 ve 4 fe 1\nfindings 4\nside ve 1 SideUnbalanced 0 1 0 0\nside ve 2 SideUnbalanced 1 0 0 0\nside ve 3 SideUnbalanced 1 0 0 0\nside ve 4 SideUnbalanced 0 1 0 0",
 ];
 
 /// What is printed of the square where it is cut within a record of a number, or before it.
@@ -31,10 +31,10 @@ fn cut_line(alloc: Global, number: usize, whole: bool) -> Result<String, Fail> {
         .get(number.wrapping_sub(1))
         .ok_or("it has thirteen records")?;
     if whole && number > 3 {
-        let counts = COUNTS
+        let cell = CELLS
             .get(number.wrapping_sub(4))
             .ok_or("it has ten records")?;
-        return Ok(format!(in alloc; "cell vi 0 {counts}\nfindings 0\nend\n")?);
+        return Ok(format!(in alloc; "cell vi 0 {cell}\nend\n")?);
     }
     Ok(format!(in alloc; "enc_cell: bad cell record {number} offset {offset} code 1\n")?)
 }

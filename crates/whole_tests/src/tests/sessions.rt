@@ -34,7 +34,7 @@ fn a_list_is_of_the_cell_that_the_desk_has_seen(rt: HostRuntime) -> Result<(), F
     )?;
     assert_eq!(rt;
         report.as_slice(),
-        b"order 1 2\nsession 1\ndraft 1\ncommit accepted 1 findings 1\nlist seen 1 findings 1\nrec ve 9 EndCount 0 0 0\nlist seen 1 findings 1\nsession 2\ndraft 1\ncommit refused newer 1 ve 9 desk 1\nlist seen 0 findings 0\nhistory\ncommit 1 desk 1 findings 1\nadd ve 9 1\ncell vi 0 vc 4 ve 5 fe 2\nfindings 1\nrec ve 9 EndCount 0 0 0\nend\n".as_slice()
+        b"order 1 2\nsession 1\ndraft 1\ncommit accepted 1 findings 2\nlist seen 1 findings 2\nrec ve 9 EndCount 0 0 0\nside ve 9 Orphan\nlist seen 1 findings 2\nsession 2\ndraft 1\ncommit refused newer 1 ve 9 desk 1\nlist seen 0 findings 0\nhistory\ncommit 1 desk 1 findings 2\nadd ve 9 1\ncell vi 0 vc 4 ve 5 fe 2\nfindings 2\nrec ve 9 EndCount 0 0 0\nside ve 9 Orphan\nend\n".as_slice()
     );
     Ok(())
 }
