@@ -13,4 +13,4 @@ mod text;
 pub use findings::find_all;
 pub use list::{Findings, SubjectFinding};
 pub use refusal::FindingRefusal;
-pub use text::push_cell;
+pub use text::{push_cell, push_findings};

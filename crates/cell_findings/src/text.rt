@@ -73,7 +73,9 @@ fn push_finding(out: &mut Vec<u8>, found: &SubjectFinding) -> Result<(), AllocEr
 }
 
 /// Appends the lines of findings.
-fn push_findings(out: &mut Vec<u8>, findings: &[SubjectFinding]) -> Result<(), AllocError>
+///
+/// An `Err` is want of memory.
+pub fn push_findings(out: &mut Vec<u8>, findings: &[SubjectFinding]) -> Result<(), AllocError>
     requires { All HasKnownKind findings.now }
     ensures { OnOk result (out.new.items ≡ out.old.items ++ flat_map line_of findings.now) }
 {

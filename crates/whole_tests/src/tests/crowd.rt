@@ -5,6 +5,7 @@ use std::alloc::Global;
 use std::test::Fail;
 
 /// The script of a cell, and the numbers that are drawn for it.
+#[derive(Drop)]
 struct Drawn {
     state: u32,
     text: String,
