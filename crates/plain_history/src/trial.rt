@@ -8,8 +8,8 @@ ghost use Rattle.plain_history.specs.Trials.{FitsWhenSmall, IsSize, IsTrial};
 
 use crate::apply::apply_edits;
 use crate::count::record_count;
-use cell_spec::Edit;
 use cell_findings::{FindingRefusal, Findings, find_all};
+use cell_spec::Edit;
 use edit_sets::EditSet;
 use history_spec::StateRefusal;
 use plain_lookups::{name_of, record_named};

@@ -168,9 +168,7 @@ fn push_feature(alloc: Global, drawn: &mut Drawn, id: u32) -> Result<(), Fail> {
     let objl = drawn.one_of(&[42, 46, 302, 302, 30, 71]);
     let fidn = drawn.below(250);
     let catcov = drawn.one_of(&[1, 1, 2]);
-    drawn.push(&format!(in alloc;
-        "add fe {id} 1 {prim} {grup} {objl} 1 {fidn} 1 a=18:{catcov}"
-    )?)?;
+    drawn.push(&format!(in alloc; "add fe {id} 1 {prim} {grup} {objl} 1 {fidn} 1 a=18:{catcov}")?)?;
     if drawn.below(3) == 0 {
         let partner = drawn.below(400);
         drawn.push(&format!(in alloc; " f=1:{partner}:1:2:")?)?;

@@ -66,11 +66,7 @@ fn subjects_of(alloc: Global, cell: &Cell) -> Result<Vec<Subject>, Fail> {
 
 /// The pairs of a name with greater ones; names of isolated nodes and of features are in none. The plain bodies are
 /// slow, so only every sixteenth number is taken for the first.
-fn push_pairs(
-    subjects: &mut Vec<Subject>,
-    first: RecName,
-    names: &[RecName],
-) -> Result<(), Fail> {
+fn push_pairs(subjects: &mut Vec<Subject>, first: RecName, names: &[RecName]) -> Result<(), Fail> {
     if !matches!(first.kind, Kind::Vc | Kind::Ve) || first.id % 16 != 0 {
         return Ok(());
     }

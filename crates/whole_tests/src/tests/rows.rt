@@ -8,10 +8,7 @@ use std::test::Fail;
 /// The square's head records alone: a cell without records.
 fn head(alloc: Global) -> Result<Vec<u8>, Fail> {
     let whole = joined(alloc, &square::ROWS)?;
-    Ok(Vec::from_slice(
-        alloc,
-        whole.get(..1785).ok_or("it is long")?,
-    )?)
+    Ok(Vec::from_slice(alloc, whole.get(..1785).ok_or("it is long")?)?)
 }
 
 /// The report of one session of one commit: so many edits, one a line, that leave so many findings and this cell.
@@ -39,14 +36,18 @@ fn committed<R: std::thread::Threads + Sync>(
 }
 
 /// A closed edge with two points, and the same without points.
-const CLOSED: &str = "add vc 1 1 p=0,0\nadd ve 1 1 e=vc:1:255:255:1:255 e=vc:1:255:255:2:255 p=0,100 p=100,0\n";
+const CLOSED: &str =
+    "add vc 1 1 p=0,0\nadd ve 1 1 e=vc:1:255:255:1:255 e=vc:1:255:255:2:255 p=0,100 p=100,0\n";
+
 const STACKED: &str = "add vc 1 1 p=0,0\nadd ve 1 1 e=vc:1:255:255:1:255 e=vc:1:255:255:2:255\n";
 
 /// Edges between the opposite corners of the whole range of coordinates.
-const DIAGONALS: &str = "add vc 1 1 p=-2147483648,-2147483648\nadd vc 2 1 p=2147483647,2147483647\nadd vc 3 1 p=-2147483648,2147483647\nadd vc 4 1 p=2147483647,-2147483648\nadd ve 1 1 e=vc:1:255:255:1:255 e=vc:2:255:255:2:255\nadd ve 2 1 e=vc:3:255:255:1:255 e=vc:4:255:255:2:255\n";
+const DIAGONALS: &str =
+    "add vc 1 1 p=-2147483648,-2147483648\nadd vc 2 1 p=2147483647,2147483647\nadd vc 3 1 p=-2147483648,2147483647\nadd vc 4 1 p=2147483647,-2147483648\nadd ve 1 1 e=vc:1:255:255:1:255 e=vc:2:255:255:2:255\nadd ve 2 1 e=vc:3:255:255:1:255 e=vc:4:255:255:2:255\n";
 
 /// An edge with a node on it that isn't its own.
-const NODE_ON_EDGE: &str = "add vc 1 1 p=0,0\nadd vc 2 1 p=0,10\nadd vc 3 1 p=0,5\nadd ve 1 1 e=vc:1:255:255:1:255 e=vc:2:255:255:2:255\n";
+const NODE_ON_EDGE: &str =
+    "add vc 1 1 p=0,0\nadd vc 2 1 p=0,10\nadd vc 3 1 p=0,5\nadd ve 1 1 e=vc:1:255:255:1:255 e=vc:2:255:255:2:255\n";
 
 #[test]
 fn small_cells_have_their_findings(rt: HostRuntime) -> Result<(), Fail> {
@@ -82,7 +83,8 @@ fn small_cells_have_their_findings(rt: HostRuntime) -> Result<(), Fail> {
 }
 
 /// The findings of the square where a second depth area lies on the first and nothing says that data is there.
-const UNCOVERED: &str = "cell vi 0 vc 4 ve 4 fe 2\nfindings 8\nside ve 1 SideOverlap 0 2 0 0\nside ve 1 SideUnbalanced 0 2 0 0\nside ve 2 SideOverlap 2 0 0 0\nside ve 2 SideUnbalanced 2 0 0 0\nside ve 3 SideOverlap 2 0 0 0\nside ve 3 SideUnbalanced 2 0 0 0\nside ve 4 SideOverlap 0 2 0 0\nside ve 4 SideUnbalanced 0 2 0 0\n";
+const UNCOVERED: &str =
+    "cell vi 0 vc 4 ve 4 fe 2\nfindings 8\nside ve 1 SideOverlap 0 2 0 0\nside ve 1 SideUnbalanced 0 2 0 0\nside ve 2 SideOverlap 2 0 0 0\nside ve 2 SideUnbalanced 2 0 0 0\nside ve 3 SideOverlap 2 0 0 0\nside ve 3 SideUnbalanced 2 0 0 0\nside ve 4 SideOverlap 0 2 0 0\nside ve 4 SideUnbalanced 0 2 0 0\n";
 
 #[test]
 fn the_changed_square_has_its_findings(rt: HostRuntime) -> Result<(), Fail> {
@@ -119,12 +121,7 @@ fn a_line_takes_up_an_edge(rt: HostRuntime) -> Result<(), Fail> {
     let file = exported(&rt, alloc, &head(alloc)?, b"order 1\n", &script)?;
     let line = "add fe 1 1 2 2 30 1 1 1 s=ve:1:1:255:255\n";
     let printed = committed(&rt, alloc, &file, line)?;
-    let expected = report_of(
-        alloc,
-        line,
-        0,
-        "cell vi 0 vc 1 ve 1 fe 1\nfindings 0\n",
-    )?;
+    let expected = report_of(alloc, line, 0, "cell vi 0 vc 1 ve 1 fe 1\nfindings 0\n")?;
     assert_eq!(rt; printed.as_slice(), expected.as_slice());
     Ok(())
 }
