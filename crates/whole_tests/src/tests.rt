@@ -2,6 +2,7 @@ mod calls;
 mod crowd;
 mod drawn;
 mod draws;
+mod every_rule;
 mod export;
 mod faults;
 mod liberties;

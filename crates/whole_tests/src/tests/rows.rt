@@ -6,13 +6,13 @@ use std::alloc::Global;
 use std::test::Fail;
 
 /// The square's head records alone: a cell without records.
-fn head(alloc: Global) -> Result<Vec<u8>, Fail> {
+pub fn head(alloc: Global) -> Result<Vec<u8>, Fail> {
     let whole = joined(alloc, &square::ROWS)?;
     Ok(Vec::from_slice(alloc, whole.get(..1785).ok_or("it is long")?)?)
 }
 
 /// The report of one session of one commit: so many edits, one a line, that leave so many findings and this cell.
-fn report_of(alloc: Global, edits: &str, total: u32, cell: &str) -> Result<Vec<u8>, Fail> {
+pub fn report_of(alloc: Global, edits: &str, total: u32, cell: &str) -> Result<Vec<u8>, Fail> {
     let mut text = String::from_str(alloc, "order 1\nsession 1\n")?;
     for (k, _) in edits.lines().enumerate() {
         let draft = k.wrapping_add(1);
@@ -25,7 +25,7 @@ fn report_of(alloc: Global, edits: &str, total: u32, cell: &str) -> Result<Vec<u
 }
 
 /// What a commit of these edits prints, where they are added to a cell file.
-fn committed<R: std::thread::Threads + Sync>(
+pub fn committed<R: std::thread::Threads + Sync>(
     rt: &R,
     alloc: Global,
     file: &[u8],
