@@ -1,9 +1,8 @@
 -- All findings of a writable cell are those about its judged subjects, one subject after the other.
-use Rattle.std.proofs.Common.{◌≡◌, ℕ, ◌+◌, ◌<◌, ◌≤◌, All, Bool, true, false, List, [], ◌∷◌, ◌++◌, map, filter, length, cond, refl, sym, ap, ◌∙◌, subst, arith}
+use Rattle.std.proofs.Common.{◌≡◌, ℕ, ◌<◌, ◌≤◌, true, List, [], ◌∷◌, ◌++◌, map, length, cond, refl, sym, ap, ◌∙◌, subst, arith}
 use Rattle.std.specs.Prelude.{nat_lt}
-use Rattle.std.specs.List.{flat_map, AllByRecursion}
+use Rattle.std.specs.List.{flat_map}
 use Rattle.std.proofs.lemmas.Bool.Decides.{nat_tests}
-use Rattle.std.proofs.lemmas.List.Elements.{All-from_recursion}
 use Rattle.s57_types.specs.declared.cell.Cell.{Cell}
 use Rattle.cell_spec.specs.declared.finding.Finding.{Finding}
 use Rattle.cell_spec.specs.declared.key.Subject.{Subject}
@@ -17,8 +16,7 @@ use Rattle.cell_findings.specs.Gathered.{IsGathered, IsOver}
 use Rattle.cell_findings.specs.Judged.{judged_subjects, subject_findings}
 use Rattle.cell_findings.specs.Kinds.{judged_kinds}
 use Rattle.cell_findings.specs.Rows.{with_subject, findings_of_rows}
-use Rattle.cell_findings.proofs.Ascending.{holds}
-use Rattle.cell_findings.proofs.Judged.{is_judged, judged_are, no_finding}
+use Rattle.cell_findings.proofs.Judged.{subjects_are}
 use Rattle.cell_findings.proofs.RowTexts.{row_counts}
 
 -- ---- rows one after the other
@@ -38,21 +36,10 @@ rows_of_all : (c : Cell) → findings_of_rows (all_findings judged_kinds c) ≡ 
 unfolding all_findings
 rows_of_all c = rows_among c (subjects c)
 
--- ---- only judged subjects have findings
-kept_by : {X Y : Type 0} (f : X → List Y) (b : Bool) (x : X) (xs : List X) → (b ≡ false → f x ≡ []) → f x ++ flat_map f xs ≡ flat_map f (cond b (x ∷ xs) xs)
-kept_by f true x xs h = refl
-kept_by f false x xs h = ap (λ ys. ys ++ flat_map f xs) (h refl)
-
-only_kept : {X Y : Type 0} (f : X → List Y) (p : X → Bool) → ((x : X) → p x ≡ false → f x ≡ []) → (xs : List X) → flat_map f xs ≡ flat_map f (filter p xs)
-only_kept f p h [] = refl
-only_kept f p h (x ∷ xs) = ap (λ rest. f x ++ rest) (only_kept f p h xs) ∙ kept_by f (p x) x (filter p xs) (h x)
-
 module _ (c : Cell) (w : IsWritable c) where
   pub all_are_judged : findings_of_rows (all_findings judged_kinds c) ≡ flat_map (subject_findings c) (judged_subjects c)
   all_are_judged =
-      rows_of_all c
-      ∙ only_kept (subject_findings c) (is_judged c w) (no_finding c w) (subjects c)
-      ∙ ap (flat_map (subject_findings c)) (judged_are c w)
+      rows_of_all c ∙ ap (flat_map (subject_findings c)) (subjects_are c w)
 
   total : length (flat_map (subject_findings c) (judged_subjects c)) ≡ finding_total judged_kinds c
   total = ap (λ rows. length rows) (sym all_are_judged) ∙ row_counts (all_findings judged_kinds c)

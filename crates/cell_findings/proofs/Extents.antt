@@ -20,17 +20,16 @@ use Rattle.cell_spec.specs.declared.finding.Finding.{Finding}
 use Rattle.cell_spec.specs.declared.key.Subject.TheVariants.{Pair}
 use Rattle.cell_spec.specs.Lookup.{lookup_record}
 use Rattle.cell_spec.specs.Names.{is_of_kind, kind_rank}
-use Rattle.geometry_spec.specs.declared.segment.MeetCase.TheVariants.{Apart}
 use Rattle.geometry_spec.specs.declared.tile.Box4.{Box4}
 use Rattle.geometry_spec.specs.Boxes.{are_disjoint, are_disjoint_ranges, box_of}
 use Rattle.geometry_spec.specs.Points.{Point}
 use Rattle.geometry_spec.specs.Segments.{CommonPoint, LiesOn, SegmentMeeting, scaled_between}
-use Rattle.geometry_spec.specs.Signs.{lies_on, meeting_of}
+use Rattle.geometry_spec.specs.Signs.{lies_on}
 use Rattle.geometry_spec.proofs.DisjointBoxes.{apart_by_boxes}
 use Rattle.geometry_spec.proofs.LyingOn.{lying_on_decided}
 use Rattle.geometry_spec.proofs.MeetingCases.{meeting_is}
 use Rattle.rule_spec.specs.declared.line.EdgeLine.{EdgeLine}
-use Rattle.rule_spec.specs.Contacts.{are_same_place, coincide, contact_of_lines, cross, found_contact, have_illegal_contact, is_on, names_node, node_on_edge, same_place, segment_under, shared_nodes, touch}
+use Rattle.rule_spec.specs.Contacts.{are_same_place, contact_of_lines, found_contact, have_illegal_contact, is_on, names_node, node_on_edge, same_place, segment_under}
 use Rattle.rule_spec.specs.EdgePoints.{Segment, edge_line_of, line_of, node_position, same_point, segments_of}
 use Rattle.rule_spec.specs.Findings.{finding, findings_about, findings_of_subject, is_subject}
 use Rattle.rule_spec.specs.Records.{edge_named, is_edge_name, the_only, vector_of}

@@ -1,13 +1,15 @@
--- The findings about a record are of the kinds about records, and those about a pair of the kinds about pairs.
+-- The findings about a record are of the kinds about records, and so are those about sides, pairs and identifiers.
 use Rattle.std.proofs.Common.{◌≡◌, [], Option, None, Some, cond, refl, ap}
 use Rattle.std.specs.Option.{option_map_or}
+use Rattle.s57_types.specs.declared.name.Lnam.{Lnam}
 use Rattle.s57_types.specs.declared.name.RecName.{RecName}
 use Rattle.s57_types.specs.declared.record.Rec.{Rec as Record}
 use Rattle.s57_types.specs.declared.record.Rec.TheVariants.{V, F}
 use Rattle.s57_types.specs.declared.cell.Cell.{Cell}
-use Rattle.cell_spec.specs.declared.key.Subject.TheVariants.{Rec, Pair}
+use Rattle.cell_spec.specs.declared.key.Subject.TheVariants.{Rec, Side, Pair, Ident}
 use Rattle.cell_spec.specs.Lookup.{lookup_record}
-use Rattle.rule_spec.specs.Findings.{findings_about, findings_of_record, findings_of_subject, is_subject}
+use Rattle.rule_spec.specs.Findings.{findings_of_record, findings_of_subject, is_subject}
+use Rattle.check_group1.specs.AskedKinds.{identity_kinds, side_kinds}
 use Rattle.check_pairs.specs.PairKinds.{pair_kinds}
 use Rattle.check_record.specs.RecordKinds.{record_kinds}
 use Rattle.cell_findings.specs.Kinds.{judged_kinds}
@@ -27,3 +29,11 @@ record_judged c n = ap (λ fs. cond (is_subject c (Rec n)) fs []) (of_found c (l
 pub pair_judged : (c : Cell) (a b : RecName) → findings_of_subject pair_kinds c (Pair a b) ≡ findings_of_subject judged_kinds c (Pair a b)
 unfolding findings_of_subject
 pair_judged c a b = refl
+
+pub side_judged : (c : Cell) (n : RecName) → findings_of_subject side_kinds c (Side n) ≡ findings_of_subject judged_kinds c (Side n)
+unfolding findings_of_subject
+side_judged c n = refl
+
+pub identity_judged : (c : Cell) (l : Lnam) → findings_of_subject identity_kinds c (Ident l) ≡ findings_of_subject judged_kinds c (Ident l)
+unfolding findings_of_subject
+identity_judged c l = refl

@@ -1,5 +1,5 @@
 -- The kinds of a cell's findings are those of the rules.
-use Rattle.std.proofs.Common.{◌≡◌, ℕ, ◌+◌, ◌≤◌, All, Bool, true, false, List, [], ◌∷◌, ◌++◌, Option, None, Some, map, length, cond, arith}
+use Rattle.std.proofs.Common.{ℕ, ◌+◌, ◌≤◌, All, Bool, true, false, List, [], ◌∷◌, Option, None, Some, map, length, cond, arith}
 use Rattle.std.specs.List.{flat_map, AllByRecursion}
 use Rattle.std.specs.Option.{option_map_or}
 use Rattle.std.proofs.lemmas.List.Elements.{All-from_recursion}
@@ -13,7 +13,6 @@ use Rattle.cell_spec.specs.Lookup.{lookup_record}
 use Rattle.rule_spec.specs.Findings.{finding, findings_about, findings_of_record, findings_of_subject, is_asked, is_subject, numbered_findings}
 use Rattle.rule_spec.specs.Rule.{Found}
 use Rattle.rule_spec.specs.Rules.{feature_rules, identity_rules, pair_rules, side_rules, vector_rules}
-use Rattle.cell_findings.specs.declared.list.SubjectFinding.{SubjectFinding}
 use Rattle.cell_findings.specs.Judged.{subject_findings}
 use Rattle.cell_findings.specs.Kinds.{judged_kinds}
 use Rattle.cell_findings.specs.Rows.{HasKnownKind, with_subject}

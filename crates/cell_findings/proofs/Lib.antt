@@ -3,6 +3,8 @@ pub mod Ascending
 pub mod SubjectOrder
 pub mod WritableLists
 pub mod Pairs
+pub mod Blocks
+pub mod Identities
 pub mod Judged
 pub mod AllFindings
 pub mod Gathering

@@ -1,18 +1,21 @@
 -- The pairs of an ascending list of names: they ascend, and they are each two of its names, the lesser first.
 use Rattle.std.proofs.Common.{◌≡◌, Bool, true, false, ◌&&◌, ◌||◌, List, [], ◌∷◌, map, refl, sym, ap, ◌∙◌, subst}
+use Rattle.std.specs.declared.cmp.Ordering.{Ordering}
 use Rattle.std.specs.declared.cmp.Ordering.TheVariants.{Less}
-use Rattle.std.specs.List.{list_any, AllByRecursion}
+use Rattle.std.specs.List.{AllByRecursion}
 use Rattle.std.specs.List.Sorted.{IsStrictlySortedBy}
 use Rattle.std.specs.Ordering.{is_eq, is_lt, ordering_reverse}
 use Rattle.std.proofs.lemmas.List.Folds.{list_any-append}
 use Rattle.s57_types.specs.declared.name.RecName.{RecName}
 use Rattle.cell_spec.specs.declared.key.Subject.{Subject}
-use Rattle.cell_spec.specs.declared.key.Subject.TheVariants.{Rec, Pair}
+use Rattle.cell_spec.specs.declared.key.Subject.TheVariants.{Pair}
 use Rattle.cell_spec.specs.Names.{name_order, subject_order}
 use Rattle.rule_spec.specs.Findings.{is_below}
 use Rattle.cell_findings.specs.Judged.{pairs_among}
-use Rattle.cell_findings.proofs.Ascending.{all_append, any_and, any-map, any_same, holds, sorted-append, tied, ties_itself}
-use Rattle.cell_findings.proofs.SubjectOrder.{exact_names, pairs_by_first, pairs_by_second, pairs_tie, total_names}
+use Rattle.chain_topo.proofs.Ascending.{holds}
+use Rattle.chain_topo.proofs.Orders.{exact_names, total_names}
+use Rattle.cell_findings.proofs.Ascending.{all_append, any_and, any-map, any_same, sorted-append, tied, ties_itself}
+use Rattle.cell_findings.proofs.SubjectOrder.{pairs_by_first, pairs_by_second, pairs_tie}
 
 -- a name is among some names
 abbrev pub has : RecName → List RecName → Bool
@@ -26,57 +29,43 @@ AreAbove a = AllByRecursion (λ b. name_order a b ≡ Less)
 abbrev AreBehind : Subject → List Subject → Type 0
 AreBehind s = AllByRecursion (λ t. subject_order s t ≡ Less)
 
+-- ---- a list of subjects of one sort
+pub mapped_all : {X : Type 0} (P : Subject → Type 0) (f : X → Subject) → ((x : X) → P (f x)) → (xs : List X) → AllByRecursion P (map f xs)
+mapped_all P f h [] = tt
+mapped_all P f h (x ∷ xs) = (h x, mapped_all P f h xs)
+
+module _ {X : Type 0} (order : X → X → Ordering) (f : X → Subject) (same : (a b : X) → subject_order (f a) (f b) ≡ order a b) where
+  mapped_above : (x : X) (xs : List X) → AllByRecursion (λ y. order x y ≡ Less) xs → AreBehind (f x) (map f xs)
+  mapped_above x [] h = tt
+  mapped_above x (y ∷ ys) h = (same x y ∙ h.0, mapped_above x ys h.1)
+
+  -- it ascends as what it is made of does
+  pub mapped_sorted : (xs : List X) → IsStrictlySortedBy order xs → IsStrictlySortedBy subject_order (map f xs)
+  unfolding IsStrictlySortedBy
+  mapped_sorted [] h = tt
+  mapped_sorted (x ∷ xs) h = (mapped_above x xs h.0, mapped_sorted xs h.1)
+
 -- ---- the pairs ascend
 above_firsts : (a b x : RecName) (ys : List RecName) → name_order a x ≡ Less → AreBehind (Pair a b) (map (Pair x) ys)
-above_firsts a b x [] h = tt
-above_firsts a b x (y ∷ ys) h = (pairs_by_first a b x y h, above_firsts a b x ys h)
+above_firsts a b x ys h = mapped_all (λ t. subject_order (Pair a b) t ≡ Less) (Pair x) (λ y. pairs_by_first a b x y h) ys
 
 above_pairs : (a b : RecName) (xs : List RecName) → AreAbove a xs → AreBehind (Pair a b) (pairs_among xs)
 above_pairs a b [] h = tt
 above_pairs a b (x ∷ xs) h =
     all_append (λ t. subject_order (Pair a b) t ≡ Less) (map (Pair x) xs) (pairs_among xs) (above_firsts a b x xs h.0) (above_pairs a b xs h.1)
 
-above_seconds : (a b : RecName) (ys : List RecName) → AreAbove b ys → AreBehind (Pair a b) (map (Pair a) ys)
-above_seconds a b [] h = tt
-above_seconds a b (y ∷ ys) h = (pairs_by_second a b y ∙ h.0, above_seconds a b ys h.1)
-
-firsts_sorted : (a : RecName) (xs : List RecName) → IsStrictlySortedBy name_order xs → IsStrictlySortedBy subject_order (map (Pair a) xs)
-unfolding IsStrictlySortedBy
-firsts_sorted a [] h = tt
-firsts_sorted a (x ∷ xs) h = (above_seconds a x xs h.0, firsts_sorted a xs h.1)
-
 each_above : (a : RecName) (xs ys : List RecName) → AreAbove a xs → AllByRecursion (λ s. AreBehind s (pairs_among xs)) (map (Pair a) ys)
-each_above a xs [] h = tt
-each_above a xs (y ∷ ys) h = (above_pairs a y xs h, each_above a xs ys h)
+each_above a xs ys h = mapped_all (λ s. AreBehind s (pairs_among xs)) (Pair a) (λ y. above_pairs a y xs h) ys
 
 pub pairs_sorted : (xs : List RecName) → IsStrictlySortedBy name_order xs → IsStrictlySortedBy subject_order (pairs_among xs)
 unfolding IsStrictlySortedBy
 pairs_sorted [] h = tt
 pairs_sorted (x ∷ xs) h =
-    sorted-append subject_order (map (Pair x) xs) (pairs_among xs) (firsts_sorted x xs h.1) (pairs_sorted xs h.1) (each_above x xs xs h.0)
+    sorted-append subject_order (map (Pair x) xs) (pairs_among xs) (mapped_sorted name_order (Pair x) (pairs_by_second x) xs h.1) (pairs_sorted xs h.1) (each_above x xs xs h.0)
 
--- ---- records ascend, and pairs stand behind them
-above_records : (n : RecName) (xs : List RecName) → AreAbove n xs → AreBehind (Rec n) (map Rec xs)
-above_records n [] h = tt
-above_records n (x ∷ xs) h = (h.0, above_records n xs h.1)
-
-pub records_sorted : (xs : List RecName) → IsStrictlySortedBy name_order xs → IsStrictlySortedBy subject_order (map Rec xs)
-unfolding IsStrictlySortedBy
-records_sorted [] h = tt
-records_sorted (x ∷ xs) h = (above_records x xs h.0, records_sorted xs h.1)
-
-firsts_behind : (n a : RecName) (xs : List RecName) → AreBehind (Rec n) (map (Pair a) xs)
-firsts_behind n a [] = tt
-firsts_behind n a (x ∷ xs) = (refl, firsts_behind n a xs)
-
-pairs_behind : (n : RecName) (xs : List RecName) → AreBehind (Rec n) (pairs_among xs)
-pairs_behind n [] = tt
-pairs_behind n (x ∷ xs) =
-    all_append (λ t. subject_order (Rec n) t ≡ Less) (map (Pair x) xs) (pairs_among xs) (firsts_behind n x xs) (pairs_behind n xs)
-
-pub records_first : (names xs : List RecName) → AllByRecursion (λ s. AreBehind s (pairs_among xs)) (map Rec names)
-records_first [] xs = tt
-records_first (n ∷ names) xs = (pairs_behind n xs, records_first names xs)
+pub pairs_all : (P : Subject → Type 0) → ((a b : RecName) → P (Pair a b)) → (xs : List RecName) → AllByRecursion P (pairs_among xs)
+pairs_all P h [] = tt
+pairs_all P h (x ∷ xs) = all_append P (map (Pair x) xs) (pairs_among xs) (mapped_all P (Pair x) (h x) xs) (pairs_all P h xs)
 
 -- ---- which pairs there are
 has_by : (x b y : RecName) (more tie : Bool) → is_eq (name_order b y) ≡ tie → name_order x y ≡ Less → (more ≡ true → name_order x b ≡ Less) → (tie || more) ≡ true → name_order x b ≡ Less

@@ -1,26 +1,13 @@
 //! Findings that are gathered from one subject after the other, within a limit.
 
-ghost use Rattle.std.specs.Prelude.{◌≡◌, ◌≤◌, ◌++◌, IsTrue, MatchResult, OnOk, All, length, map};
-ghost use Rattle.std.specs.List.{flat_map};
-ghost use Rattle.cell_spec.specs.declared.key.Subject.{Subject as SpecSubject};
-ghost use Rattle.cell_spec.specs.declared.key.Subject.TheVariants.{Rec as SubjectRec, Pair as SubjectPair};
-ghost use Rattle.rule_spec.specs.Findings.{is_subject};
-ghost use Rattle.cell_findings.specs.declared.part.Part.{Part as SpecPart};
-ghost use Rattle.cell_findings.specs.Extents.{IsPlaced, names_of};
+ghost use Rattle.std.specs.Prelude.{◌≡◌, ◌++◌, MatchResult, OnOk, map};
 ghost use Rattle.cell_findings.specs.Gathered.{IsGathered, IsOver};
-ghost use Rattle.cell_findings.specs.Judged.{pairs_among, subject_findings};
 ghost use Rattle.cell_findings.specs.Rows.{with_subject};
 
 use crate::list::SubjectFinding;
-use crate::part::{Part, are_apart};
 use crate::refusal::FindingRefusal;
 use cell_spec::{Finding, Row, Subject};
-use chain_topo::{ListLook, Steps};
-use check_pairs::verdict_pair;
-use check_record::verdict_rec;
-use s57_types::RecName;
-use std::alloc::{AllocError, Global};
-use std::sync::ledger::Ledger;
+use std::alloc::AllocError;
 
 fn push_findings(
     gathered: &mut Vec<SubjectFinding>,
@@ -39,7 +26,7 @@ fn push_findings(
 }
 
 /// Appends the findings of a row.
-fn push_row(
+pub(crate) fn push_row(
     gathered: &mut Vec<SubjectFinding>,
     row: &Row,
     limit: usize,
@@ -49,124 +36,6 @@ fn push_row(
     push_findings(gathered, row.subject, row.findings.as_slice())?;
     if gathered.len() > limit {
         return Err(FindingRefusal::TooMany);
-    }
-    Ok(())
-}
-
-fn push_record<L: Ledger>(
-    alloc: Global,
-    gathered: &mut Vec<SubjectFinding>,
-    look: &ListLook,
-    name: RecName,
-    limit: usize,
-    steps: &mut Steps<L>,
-) -> Result<(), FindingRefusal>
-    ensures { MatchResult result (λ _. IsGathered limit (gathered.old.items ++ subject_findings look.now (SubjectRec name)) gathered.new.items) (IsOver limit (gathered.old.items ++ subject_findings look.now (SubjectRec name))) }
-{
-    let row = verdict_rec(alloc, look, name, steps)?;
-    push_row(gathered, &row, limit)
-}
-
-/// Appends the findings about records.
-pub(crate) fn push_records<L: Ledger>(
-    alloc: Global,
-    gathered: &mut Vec<SubjectFinding>,
-    look: &ListLook,
-    names: &[RecName],
-    limit: usize,
-    steps: &mut Steps<L>,
-) -> Result<(), FindingRefusal>
-    requires { length gathered.old.items ≤ limit }
-    ensures { MatchResult result (λ _. IsGathered limit (gathered.old.items ++ flat_map (subject_findings look.now) (map SubjectRec names.now)) gathered.new.items) (IsOver limit (gathered.old.items ++ flat_map (subject_findings look.now) (map SubjectRec names.now))) }
-{
-    for name in names {
-        push_record(alloc, gathered, look, *name, limit, steps)?;
-    }
-    Ok(())
-}
-
-fn push_judged_pair<L: Ledger>(
-    alloc: Global,
-    gathered: &mut Vec<SubjectFinding>,
-    look: &ListLook,
-    pair: (RecName, RecName),
-    limit: usize,
-    steps: &mut Steps<L>,
-) -> Result<(), FindingRefusal>
-    requires { IsTrue (is_subject look.now (SubjectPair pair.0 pair.1)) }
-    ensures { MatchResult result (λ _. IsGathered limit (gathered.old.items ++ subject_findings look.now (SubjectPair pair.0 pair.1)) gathered.new.items) (IsOver limit (gathered.old.items ++ subject_findings look.now (SubjectPair pair.0 pair.1))) }
-{
-    let row = verdict_pair(alloc, look, pair.0, pair.1, steps)?;
-    push_row(gathered, &row, limit)
-}
-
-/// Appends the findings about a pair. Two whose boxes are disjoint have none, and aren't looked at.
-fn push_pair<L: Ledger>(
-    alloc: Global,
-    gathered: &mut Vec<SubjectFinding>,
-    look: &ListLook,
-    pair: (Part, Part),
-    limit: usize,
-    steps: &mut Steps<L>,
-) -> Result<(), FindingRefusal>
-    requires subject { IsTrue (is_subject look.now (SubjectPair pair.0.name pair.1.name)) }
-    requires first_placed { IsPlaced look.now pair.0 }
-    requires second_placed { IsPlaced look.now pair.1 }
-    requires within { length gathered.old.items ≤ limit }
-    ensures { MatchResult result (λ _. IsGathered limit (gathered.old.items ++ subject_findings look.now (SubjectPair pair.0.name pair.1.name)) gathered.new.items) (IsOver limit (gathered.old.items ++ subject_findings look.now (SubjectPair pair.0.name pair.1.name))) }
-{
-    if are_apart(pair.0, pair.1) {
-        return Ok(());
-    }
-    push_judged_pair(
-        alloc,
-        gathered,
-        look,
-        (pair.0.name, pair.1.name),
-        limit,
-        steps,
-    )
-}
-
-/// Appends the findings about the pairs of one with others.
-fn push_pairs_of<L: Ledger>(
-    alloc: Global,
-    gathered: &mut Vec<SubjectFinding>,
-    look: &ListLook,
-    first: Part,
-    others: &[Part],
-    limit: usize,
-    steps: &mut Steps<L>,
-) -> Result<(), FindingRefusal>
-    requires subjects { All (λ (other : SpecPart). IsTrue (is_subject look.now (SubjectPair first.name other.name))) others.now }
-    requires first_placed { IsPlaced look.now first }
-    requires placed { All (IsPlaced look.now) others.now }
-    requires within { length gathered.old.items ≤ limit }
-    ensures { MatchResult result (λ _. IsGathered limit (gathered.old.items ++ flat_map (subject_findings look.now) (map (SubjectPair first.name) (names_of others.now))) gathered.new.items) (IsOver limit (gathered.old.items ++ flat_map (subject_findings look.now) (map (SubjectPair first.name) (names_of others.now)))) }
-{
-    for other in others {
-        push_pair(alloc, gathered, look, (first, *other), limit, steps)?;
-    }
-    Ok(())
-}
-
-/// Appends the findings about each two of some connected nodes and edges.
-pub(crate) fn push_pairs<L: Ledger>(
-    alloc: Global,
-    gathered: &mut Vec<SubjectFinding>,
-    look: &ListLook,
-    parts: &[Part],
-    limit: usize,
-    steps: &mut Steps<L>,
-) -> Result<(), FindingRefusal>
-    requires subjects { All (λ (s : SpecSubject). IsTrue (is_subject look.now s)) (pairs_among (names_of parts.now)) }
-    requires placed { All (IsPlaced look.now) parts.now }
-    requires within { length gathered.old.items ≤ limit }
-    ensures { MatchResult result (λ _. IsGathered limit (gathered.old.items ++ flat_map (subject_findings look.now) (pairs_among (names_of parts.now))) gathered.new.items) (IsOver limit (gathered.old.items ++ flat_map (subject_findings look.now) (pairs_among (names_of parts.now)))) }
-{
-    for (k, first) in parts.iter().enumerate() {
-        let (_, others) = parts.split_at(k + 1);
-        push_pairs_of(alloc, gathered, look, *first, others, limit, steps)?;
     }
     Ok(())
 }

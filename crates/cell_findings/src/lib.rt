@@ -1,4 +1,4 @@
-//! The findings of a chart cell about its nodes and edges, alone and in pairs, and their text.
+//! The findings of a chart cell and their text.
 #![tactic(auto)]
 
 mod boxes;
@@ -6,8 +6,10 @@ mod findings;
 mod gather;
 mod list;
 mod names;
+mod pairing;
 mod part;
 mod refusal;
+mod single;
 mod text;
 
 pub use findings::find_all;

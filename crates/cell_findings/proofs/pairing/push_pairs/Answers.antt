@@ -1,4 +1,4 @@
-use Rattle.std.proofs.Common.{◌≡◌, ◌+◌, ◌++◌, IsTrue, None, drop, get_or, map, subst, sym}
+use Rattle.std.proofs.Common.{◌+◌, ◌++◌, IsTrue, None, drop, get_or, map, subst, sym}
 use Rattle.std.specs.List.{All, flat_map}
 use Rattle.std.proofs.lemmas.Result.{err_from_is_err_and}
 use Rattle.s57_types.specs.declared.name.Kind.TheVariants.{Vi}
@@ -10,7 +10,7 @@ use Rattle.cell_findings.specs.Extents.{names_of}
 use Rattle.cell_findings.specs.Gathered.{IsGathered}
 use Rattle.cell_findings.specs.Judged.{pairs_among, subject_findings}
 use Rattle.cell_findings.proofs.Gathering.{all_before, all_behind, all_of_map, firsts_more, gathered_more, gathered_within, over_more, pairs_more}
-use Rattle.cell_findings.proofs.gather.push_pairs.Goals as goal
+use Rattle.cell_findings.proofs.pairing.push_pairs.Goals as goal
 
 abbrev default : Part
 default = record { name = record { kind = Vi; id = 0 }; around = None }

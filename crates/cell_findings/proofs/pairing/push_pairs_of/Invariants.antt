@@ -3,7 +3,7 @@ use Rattle.std.specs.List.{flat_map}
 use Rattle.cell_spec.specs.declared.key.Subject.TheVariants.{Pair}
 use Rattle.cell_findings.specs.Extents.{names_of}
 use Rattle.cell_findings.specs.Judged.{subject_findings}
-use Rattle.cell_findings.proofs.gather.push_pairs_of.Given as goal
+use Rattle.cell_findings.proofs.pairing.push_pairs_of.Given as goal
 
 abbrev pub invariant-loop-other : goal.invariant-loop-other
 invariant-loop-other g l =

@@ -2,7 +2,7 @@ use Rattle.std.proofs.Common.{◌≡◌, ◌≤◌, ◌++◌, drop, length, map}
 use Rattle.std.specs.List.{flat_map}
 use Rattle.cell_spec.specs.declared.key.Subject.TheVariants.{Rec}
 use Rattle.cell_findings.specs.Judged.{subject_findings}
-use Rattle.cell_findings.proofs.gather.push_records.Given as goal
+use Rattle.cell_findings.proofs.single.push_records.Given as goal
 
 abbrev pub invariant-loop-name : goal.invariant-loop-name
 invariant-loop-name g l =

@@ -3,7 +3,7 @@ use Rattle.std.specs.List.{flat_map}
 use Rattle.rule_spec.specs.Findings.{is_subject}
 use Rattle.cell_findings.specs.Extents.{names_of}
 use Rattle.cell_findings.specs.Judged.{pairs_among, subject_findings}
-use Rattle.cell_findings.proofs.gather.push_pairs.Given as goal
+use Rattle.cell_findings.proofs.pairing.push_pairs.Given as goal
 
 abbrev pub invariant-loop-k : goal.invariant-loop-k
 invariant-loop-k g l =

@@ -4,7 +4,7 @@ use Rattle.cell_findings.specs.Judged.{subject_findings}
 use Rattle.cell_spec.specs.declared.key.Subject.TheVariants.{Pair}
 use Rattle.cell_findings.proofs.Extents.{apart_is_clean}
 use Rattle.cell_findings.proofs.Gathering.{gathered_none}
-use Rattle.cell_findings.proofs.gather.push_pair.Goals as goal
+use Rattle.cell_findings.proofs.pairing.push_pair.Goals as goal
 
 pub returns-then-are_apart : goal.returns-then-are_apart
 returns-then-are_apart g c =
