@@ -11,3 +11,4 @@ pub mod Gathering
 pub mod KindsAgree
 pub mod KnownKinds
 pub mod Extents
+mod Unplaced

@@ -63,7 +63,7 @@ fn push_pair<L: Ledger>(
     )
 }
 
-/// Appends the findings about the pairs of one with others.
+/// Appends the findings about the pairs of one with others; there are none where it has no point.
 fn push_pairs_of<L: Ledger>(
     alloc: Global,
     gathered: &mut Vec<SubjectFinding>,
@@ -79,6 +79,9 @@ fn push_pairs_of<L: Ledger>(
     requires within { length gathered.old.items ≤ limit }
     ensures { MatchResult result (λ _. IsGathered limit (gathered.old.items ++ flat_map (subject_findings look.now) (map (SubjectPair first.name) (names_of others.now))) gathered.new.items) (IsOver limit (gathered.old.items ++ flat_map (subject_findings look.now) (map (SubjectPair first.name) (names_of others.now)))) }
 {
+    let Some(_) = first.around else {
+        return Ok(());
+    };
     for other in others {
         push_pair(alloc, gathered, look, (first, *other), limit, steps)?;
     }
