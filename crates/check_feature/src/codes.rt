@@ -2,7 +2,7 @@
 
 ghost use Rattle.std.specs.Prelude.{◌≡◌, ◌++◌, OnOk, map};
 ghost use Rattle.s57_types.specs.declared.cell.Cell.{Cell as SpecCell};
-ghost use Rattle.rule_spec.specs.Features.{bad_codes, has_its_codes as spec_codes, is_one_of as spec_one_of};
+ghost use Rattle.rule_spec.specs.Features.{bad_codes, has_its_codes as spec_codes};
 ghost use Rattle.rule_spec.specs.Findings.{finding};
 
 use crate::found::push_place_if;
@@ -19,29 +19,18 @@ const NONE: u8 = 255;
 /// The usage USAG of a boundary that is cut off by the data limit.
 const TRUNCATED: u8 = 3;
 
-fn is_one_of(codes: &[u8], code: u8) -> bool
-    ensures { result ≡ spec_one_of codes.now code }
-{
-    for other in codes {
-        if *other == code {
-            return true;
-        }
-    }
-    false
-}
-
 fn has_line_codes(spot: &Spot) -> bool
     ensures { result ≡ spec_codes 2 spot.now }
 {
-    is_one_of(&[1, 2, NONE], spot.ornt) && spot.usag == NONE && is_one_of(&[1, 2, NONE], spot.mask)
+    matches!(spot.ornt, 1 | 2 | NONE) && spot.usag == NONE && matches!(spot.mask, 1 | 2 | NONE)
 }
 
 fn has_area_codes(spot: &Spot) -> bool
     ensures { result ≡ spec_codes 3 spot.now }
 {
-    let shown = is_one_of(&[1, 2], spot.usag) && is_one_of(&[1, 2, NONE], spot.mask);
+    let shown = matches!(spot.usag, 1 | 2) && matches!(spot.mask, 1 | 2 | NONE);
     let truncated = spot.usag == TRUNCATED && spot.mask == NONE;
-    is_one_of(&[1, 2], spot.ornt) && (shown || truncated)
+    matches!(spot.ornt, 1 | 2) && (shown || truncated)
 }
 
 /// Whether a spatial pointer has codes that its primitive PRIM may have.

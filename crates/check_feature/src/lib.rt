@@ -10,3 +10,6 @@ mod partners;
 mod places;
 
 pub use feature::feature_findings;
+
+#[cfg(test)]
+mod tests;
