@@ -1,0 +1,4 @@
+pub mod Ways
+pub mod Loops
+pub mod Turns
+pub mod Rows
