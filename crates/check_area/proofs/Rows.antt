@@ -1,5 +1,5 @@
 -- What is found of the rows of a boundary is what is found of their parts.
-use Rattle.std.proofs.Common.{◌≡◌, ℕ, zero, suc, ◌==◌, Bool, true, false, not, ◌&&◌, ◌||◌, ℤ, pos, List, [], ◌∷◌, ◌++◌, length, map, filter, take, drop, Option, None, Some, cond, refl, sym, ap, ◌∙◌}
+use Rattle.std.proofs.Common.{◌≡◌, ℕ, zero, suc, ◌==◌, Bool, true, false, not, ◌&&◌, ◌||◌, ℤ, pos, List, [], ◌∷◌, ◌++◌, length, map, filter, take, drop, Option, None, Some, cond, refl, sym, ap, ◌∙◌, ne_eqb, arith}
 use Rattle.std.specs.Prelude.{int_lt, if◌then◌else◌}
 use Rattle.std.specs.List.{AllByRecursion, list_all, list_any}
 use Rattle.std.proofs.lemmas.List.{append-nil, take-map, drop-map, length-map}
@@ -116,11 +116,14 @@ abbrev pub four_rules : Found → Found → Found → Found → List Finding
 four_rules opens mixed outer wrong =
     map (finding 15) opens ++ (map (finding 16) (if is_clean opens then mixed else []) ++ (map (finding 17) (if is_clean opens && is_clean mixed then outer else []) ++ map (finding 18) (if is_clean opens && is_clean mixed then wrong else [])))
 
-loops_by : (mixed outer wrong : Found) (clean : Bool) → is_clean mixed ≡ clean → (cond clean (map (finding 17) outer ++ map (finding 18) wrong) (map (finding 16) mixed)) ≡ four_rules [] mixed outer wrong
-loops_by [] outer wrong true e = refl
-loops_by [] outer wrong false e = cc
-loops_by (m ∷ mixed) outer wrong true e = cc
-loops_by (m ∷ mixed) outer wrong false e = sym (append-nil (map (finding 16) (m ∷ mixed)))
+clean_empty : (found : Found) → is_clean found ≡ true → found ≡ []
+clean_empty [] e = refl
+clean_empty (x ∷ found) e = let never : is_clean (x ∷ found) ≡ false = ne_eqb (suc (length found)) 0 (λ h. omega (arith, h)) in absurd cc
+
+loops_by : (mixed outer wrong : Found) (clean : Bool) → is_clean mixed ≡ clean
+    → (if clean then map (finding 17) outer ++ map (finding 18) wrong else map (finding 16) mixed) ≡ map (finding 16) mixed ++ (map (finding 17) (if clean then outer else []) ++ map (finding 18) (if clean then wrong else []))
+loops_by mixed outer wrong true e = ap (λ ms. map (finding 16) ms ++ (map (finding 17) outer ++ map (finding 18) wrong)) (sym (clean_empty mixed e))
+loops_by mixed outer wrong false e = sym (append-nil (map (finding 16) mixed))
 
 found_by : (loops : List (List Part)) (place : Option ℕ) → findings_by loops place ≡ four_rules (found_at place) (mixed_loops loops) (exterior_count loops) (wrong_loops loops)
 found_by loops None = loops_by (mixed_loops loops) (exterior_count loops) (wrong_loops loops) (is_clean (mixed_loops loops)) refl
@@ -136,3 +139,18 @@ parts-rows rows h =
     (λ i. findings_by (loops-map rows i) (first_open_place (arcs-map rows i)))
     ∙ found_by (parted loops) (first_open_place (map arc_of rows))
     ∙ (λ i. four_rules (open_ring_of rows) (mixed_same loops i) (count_same loops i) (wrong_same loops each_has i))
+
+-- the rules as they ask for a usable boundary
+pub rules_usable : (usable : Bool) (opens mixed outer wrong : Found) → usable ≡ true
+    → map (finding 15) (if usable then opens else []) ++ (map (finding 16) (if usable && is_clean opens then mixed else [])
+    ++ (map (finding 17) (if usable && (is_clean opens && is_clean mixed) then outer else []) ++ map (finding 18) (if usable && (is_clean opens && is_clean mixed) then wrong else [])))
+    ≡ four_rules opens mixed outer wrong
+rules_usable true opens mixed outer wrong e = refl
+rules_usable false opens mixed outer wrong e = absurd cc
+
+pub rules_unusable : (usable : Bool) (opens mixed outer wrong : Found) → usable ≡ false
+    → map (finding 15) (if usable then opens else []) ++ (map (finding 16) (if usable && is_clean opens then mixed else [])
+    ++ (map (finding 17) (if usable && (is_clean opens && is_clean mixed) then outer else []) ++ map (finding 18) (if usable && (is_clean opens && is_clean mixed) then wrong else [])))
+    ≡ []
+rules_unusable false opens mixed outer wrong e = refl
+rules_unusable true opens mixed outer wrong e = absurd cc

@@ -10,15 +10,16 @@ use Rattle.geometry_spec.proofs.AreaSums.{twice_area_along-append}
 use Rattle.rule_spec.specs.declared.line.BoundaryRow.{BoundaryRow}
 use Rattle.rule_spec.specs.declared.line.EdgeLine.{EdgeLine}
 use Rattle.rule_spec.specs.Boundary.{line_along, reversed_line, turn_of_loop}
+use Rattle.check_area.specs.declared.line.LineEnd.{LineEnd}
 use Rattle.check_area.specs.declared.sweep.LineSweep.{LineSweep}
 use Rattle.check_area.specs.Parts.{area_home, part_of, turn_of_parts}
-use Rattle.check_area.specs.Sweeps.{first_point, last_point, sweep_along, sweep_of, turned_sweep}
+use Rattle.check_area.specs.Sweeps.{first_point, last_point, sweep_along, sweep_between, sweep_of, turned_sweep}
 
 -- ---- a line from its end to its beginning
 step_turned : (p q : Point) → twice_area_step q p ≡ (pos 0 -ℤ twice_area_step p q)
 step_turned p q = omega (arith, ints)
 
-last-append : (points : List Point) (p : Point) → last_point (points ++ p ∷ []) ≡ p
+pub last-append : (points : List Point) (p : Point) → last_point (points ++ p ∷ []) ≡ p
 last-append [] p = refl
 last-append (a ∷ []) p = refl
 last-append (a ∷ b ∷ points) p = last-append (b ∷ points) p
@@ -51,7 +52,7 @@ sweep-along ornt line = sweep_by (ornt == 2) line
 
 -- ---- a loop
 -- the sum along two lists, with the step from the last point of the one to the first of the other
-area-append : (p : Point) (points more : List Point) → twice_area_along (p ∷ (points ++ more)) ≡ (twice_area_along (p ∷ points) +ℤ twice_area_along (last_point (p ∷ points) ∷ more))
+pub area-append : (p : Point) (points more : List Point) → twice_area_along (p ∷ (points ++ more)) ≡ (twice_area_along (p ∷ points) +ℤ twice_area_along (last_point (p ∷ points) ∷ more))
 area-append p [] more = omega (arith, ints)
 area-append p (q ∷ points) more = omega (arith, ints, area-append q points more)
 
@@ -87,3 +88,10 @@ turn-rows [] h = refl
 turn-rows (row ∷ rows) h =
     home-rows (first_point row.line.points) (first_point row.line.points) (row ∷ rows) h
     ∙ back_home row.line.points (points_of rows) (first_point row.line.points) h.0 refl
+
+-- what a line between two nodes sweeps: its inner points, and the step to the last
+pub between_is : (begins ends : LineEnd) (points : List Point) (swept : ℤ) → swept ≡ (twice_area_along (begins.at ∷ points) +ℤ twice_area_step (last_point (begins.at ∷ points)) ends.at)
+    → sweep_between begins points ends ≡ record { begins = begins.node; ends = ends.node; first = begins.at; last = ends.at; swept = swept }
+between_is begins ends points swept e =
+    let all : twice_area_along (begins.at ∷ (points ++ ends.at ∷ [])) ≡ swept = omega (arith, ints, e, area-append begins.at points (ends.at ∷ [])) in
+    λ i. record { begins = begins.node; ends = ends.node; first = begins.at; last = last-append (begins.at ∷ points) ends.at i; swept = all i }

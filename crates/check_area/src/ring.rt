@@ -175,7 +175,7 @@ fn open_ring(alloc: Global, place: u32) -> Result<Vec<Finding>, AllocError>
 /// OpenRing, or what is found of the closed loops that the parts make one after the other.
 ///
 /// An `Err` is want of memory.
-pub fn ring_findings(alloc: Global, parts: &[Part]) -> Result<Vec<Finding>, AllocError>
+pub(crate) fn ring_findings(alloc: Global, parts: &[Part]) -> Result<Vec<Finding>, AllocError>
     ensures { IfOk result (λ findings. findings.items ≡ findings_of_parts parts.now) }
 {
     let arcs = arcs_of(alloc, parts)?;
