@@ -1,5 +1,5 @@
 -- The line of an edge, by its two ends.
-use Rattle.std.proofs.Common.{◌≡◌, ℕ, ◌==◌, Bool, true, List, [], ◌∷◌, Option, None, Some, filter, option_map, cond, refl, sym, ap, subst, ◌∙◌}
+use Rattle.std.proofs.Common.{◌≡◌, ℕ, ◌==◌, true, List, [], ◌∷◌, Option, None, Some, filter, option_map, refl, sym, ap, subst, ◌∙◌}
 use Rattle.std.specs.Prelude.{option_and_then}
 use Rattle.std.specs.List.{All}
 use Rattle.std.proofs.lemmas.List.Elements.{All-filter, All-head}
@@ -11,10 +11,8 @@ use Rattle.cell_spec.specs.declared.key.Key.{Key}
 use Rattle.cell_spec.specs.declared.key.Key.TheVariants.{Name}
 use Rattle.geometry_spec.specs.Points.{Point}
 use Rattle.near_records.specs.Near.{has_key}
-use Rattle.rule_spec.specs.declared.line.EdgeLine.{EdgeLine}
 use Rattle.rule_spec.specs.EdgePoints.{line_between, line_of, node_at, node_position}
 use Rattle.rule_spec.specs.Records.{the_only}
-use Rattle.check_area.specs.declared.line.LineEnd.{LineEnd}
 use Rattle.check_area.specs.Lines.{line_end}
 use Rattle.check_area.specs.Sweeps.{line_from, sweep_if, sweep_of}
 

@@ -1,6 +1,5 @@
 -- What is found of a boundary, by its cut into loops.
-use Rattle.std.proofs.Common.{◌≡◌, ℕ, ◌+◌, ◌-◌, List, [], ◌∷◌, map, Option, None, Some, refl, sym, ap, ◌∙◌, arith}
-use Rattle.cell_spec.specs.declared.finding.Finding.{Finding}
+use Rattle.std.proofs.Common.{◌≡◌, ℕ, ◌+◌, ◌-◌, List, [], ◌∷◌, map, Option, None, Some, refl, ap, ◌∙◌, arith}
 use Rattle.rule_spec.specs.Findings.{finding}
 use Rattle.rule_spec.specs.Loops.{blocks_of, first_open_place, loop_lengths}
 use Rattle.ring_build.specs.declared.ring.Block.{Block}

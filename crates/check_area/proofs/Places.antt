@@ -1,5 +1,5 @@
 -- The parts of a boundary, place after place, and the rows that they are of.
-use Rattle.std.proofs.Common.{◌≡◌, ℕ, suc, ◌+◌, ◌<◌, ◌==◌, ◌&&◌, Bool, true, false, List, [], ◌∷◌, ◌++◌, Option, None, Some, length, map, drop, get_or, filter_map, option_map, is_some, cond, refl, sym, ap, subst, ◌∙◌, append_assoc, append-nil, length-append, arith}
+use Rattle.std.proofs.Common.{◌≡◌, ℕ, ◌+◌, ◌<◌, ◌==◌, ◌&&◌, Bool, true, false, List, [], ◌∷◌, ◌++◌, Option, None, Some, length, map, drop, get_or, filter_map, option_map, is_some, cond, refl, sym, ap, ◌∙◌, append_assoc, append-nil, arith}
 use Rattle.std.specs.Prelude.{option_and_then, if◌then◌else◌}
 use Rattle.std.specs.BTreeMap.{BTreeMap}
 use Rattle.std.specs.List.{All, AllByRecursion, cons_option, enumerate_from, list_all}
@@ -26,9 +26,9 @@ use Rattle.rule_spec.specs.Findings.{finding}
 use Rattle.rule_spec.specs.Records.{edge_named}
 use Rattle.check_area.specs.declared.part.Part.{Part}
 use Rattle.check_area.specs.declared.sweep.LineSweep.{LineSweep}
-use Rattle.check_area.specs.Lines.{AsksForLine, HoldsSweeps, part_along, part_at, parts_of, sweep_named}
+use Rattle.check_area.specs.Lines.{AsksForLine, HoldsSweeps, part_along, part_at, parts_of}
 use Rattle.check_area.specs.Parts.{findings_of_parts, part_of}
-use Rattle.check_area.specs.Sweeps.{sweep_along, sweep_of}
+use Rattle.check_area.specs.Sweeps.{sweep_of}
 use Rattle.check_area.proofs.Rows.{parts-rows, rules_unusable, rules_usable}
 use Rattle.check_area.proofs.Turns.{HasPoints, sweep-along}
 

@@ -1,5 +1,5 @@
 -- The parts of an area's boundary, by the lines of its edges (S-57 Part 3, 7.6.8).
-use Rattle.std.specs.Prelude.{◌≡◌, ℕ, ◌==◌, true, List, [], ◌∷◌, Option, None, Some, filter_map, option_map, option_and_then, if◌then◌else◌}
+use Rattle.std.specs.Prelude.{◌≡◌, ℕ, true, List, Option, None, Some, filter_map, option_map, option_and_then, if◌then◌else◌}
 use Rattle.std.specs.BTreeMap.{BTreeMap, get}
 use Rattle.std.specs.List.{All, enumerate_from, list_all}
 use Rattle.std.specs.Ordering.{nat_cmp}

@@ -8,7 +8,7 @@ use Rattle.rule_spec.specs.declared.line.BoundaryRow.{BoundaryRow}
 use Rattle.rule_spec.specs.Boundary.{is_clean}
 use Rattle.rule_spec.specs.Findings.{finding}
 use Rattle.rule_spec.specs.Loops.{Arc, loop_lengths, first_open_place, blocks_of}
-use Rattle.rule_spec.specs.Rule.{Found, found_if, found_at}
+use Rattle.rule_spec.specs.Rule.{Found, found_if}
 use Rattle.ring_build.specs.declared.ring.Block.{Block}
 use Rattle.check_area.specs.declared.part.Part.{Part}
 use Rattle.check_area.specs.Sweeps.{sweep_of}

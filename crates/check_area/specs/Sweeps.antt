@@ -1,5 +1,5 @@
 -- What the loops of a boundary need of a line: its nodes, its end points, and the area that its points sweep.
-use Rattle.std.specs.Prelude.{ℕ, ◌==◌, ℤ, pos, ◌-ℤ◌, List, [], ◌∷◌, ◌++◌, Option, None, Some, if◌then◌else◌}
+use Rattle.std.specs.Prelude.{ℕ, ◌==◌, pos, ◌-ℤ◌, List, [], ◌∷◌, ◌++◌, Option, None, Some, if◌then◌else◌}
 use Rattle.geometry_spec.specs.Areas.{twice_area_along}
 use Rattle.geometry_spec.specs.Points.{Point}
 use Rattle.rule_spec.specs.declared.line.EdgeLine.{EdgeLine}

@@ -1,4 +1,4 @@
-use Rattle.std.proofs.Common.{◌≡◌, ◌∷◌, [], List, map, subst, sym, ap, ◌∙◌, IfOk}
+use Rattle.std.proofs.Common.{◌≡◌, List, map, subst, sym, ap, ◌∙◌, IfOk}
 use Rattle.cell_spec.specs.declared.finding.Finding.{Finding}
 use Rattle.ring_build.specs.Partition.{cut_of}
 use Rattle.ring_build.specs.declared.ring.RingCut.TheVariants.{OpenAt, Whole}
