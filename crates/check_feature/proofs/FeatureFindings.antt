@@ -77,9 +77,9 @@ module _ (c : Cell) (f : Feature) (found : List Finding) (is : found ≡ pointer
   not_judged h =
       let rows = boundary_of c f in
       λ i. map (finding 15) (cond (not_usable h i) (open_ring_of rows) [])
-      ++ map (finding 16) (cond (not_usable h i && is_clean (open_ring_of rows)) (mixed_ring_of rows) [])
-      ++ map (finding 17) (cond (not_usable h i && has_whole_loops rows) (outer_count_of rows) [])
-      ++ map (finding 18) (cond (not_usable h i && has_whole_loops rows) (wrong_turn_of rows) [])
+      ++ (map (finding 16) (cond (not_usable h i && is_clean (open_ring_of rows)) (mixed_ring_of rows) [])
+      ++ (map (finding 17) (cond (not_usable h i && has_whole_loops rows) (outer_count_of rows) [])
+      ++ map (finding 18) (cond (not_usable h i && has_whole_loops rows) (wrong_turn_of rows) [])))
 
 -- ---- all kinds
 -- three rules' findings appended one after the other
@@ -89,8 +89,8 @@ unfolding pointer_findings
 pointers_appended c f none first second third start a b d =
     d ∙ ap (λ xs. xs ++ map (finding 14) (bad_codes c f)) (b ∙ ap (λ xs. xs ++ map (finding 13) (dangling_ref c f)) (a ∙ ap (λ xs. xs ++ map (finding 12) (prim_refs c f)) start))
 
-regroup : (a b c d e f g h i : List Finding) → (((a ++ b ++ c) ++ (d ++ e ++ f ++ g)) ++ h) ++ i ≡ a ++ (b ++ (c ++ (d ++ (e ++ (f ++ (g ++ (h ++ (i ++ []))))))))
-regroup a b c d e f g h i = ap (λ rest. (((a ++ b ++ c) ++ (d ++ e ++ f ++ g)) ++ h) ++ rest) (sym (append-nil i)) ∙ simp append_assoc
+regroup : (a b c d e f g h i : List Finding) → (((a ++ b ++ c) ++ (d ++ (e ++ (f ++ g)))) ++ h) ++ i ≡ a ++ (b ++ (c ++ (d ++ (e ++ (f ++ (g ++ (h ++ (i ++ []))))))))
+regroup a b c d e f g h i = ap (λ rest. (((a ++ b ++ c) ++ (d ++ (e ++ (f ++ g)))) ++ h) ++ rest) (sym (append-nil i)) ∙ simp append_assoc
 
 -- those about the pointers, the boundary, the partners and the group
 pub all_appended : (c : Cell) (f : Feature) (third fourth fifth sixth : List Finding) → third ≡ pointer_findings c f → fourth ≡ third ++ boundary_findings c f

@@ -18,4 +18,4 @@ pointer_findings c f = map (finding 12) (prim_refs c f) ++ map (finding 13) (dan
 -- the findings about the boundary of an area
 unfoldable pub boundary_findings : Cell → Feature → List Finding
 boundary_findings c f =
-    map (finding 15) (open_ring c f) ++ map (finding 16) (mixed_ring c f) ++ map (finding 17) (outer_count c f) ++ map (finding 18) (wrong_turn c f)
+    map (finding 15) (open_ring c f) ++ (map (finding 16) (mixed_ring c f) ++ (map (finding 17) (outer_count c f) ++ map (finding 18) (wrong_turn c f)))

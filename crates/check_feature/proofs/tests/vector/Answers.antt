@@ -1,4 +1,4 @@
-use Rattle.std.proofs.Common.{sym, ap, ◌∙◌}
+use Rattle.std.proofs.Common.{ap, ◌∙◌}
 use Rattle.s57_types.specs.Fitness.{unfitness}
 use Rattle.check_feature.proofs.tests.vector.Goals as goal
 
