@@ -21,7 +21,7 @@ use std::process::Abort;
 use std::test::Fail;
 
 // A feature: its primitive, group and object class, the number of its identifier, the value of its attribute CATCOV, and
-// the edges that it points to with their orientations.
+// the usage of the edges that it points to, which stand with their orientations.
 #[derive(Clone, Copy)]
 struct Sketch<'a> {
     prim: u8,
@@ -29,6 +29,7 @@ struct Sketch<'a> {
     objl: u16,
     fidn: u32,
     catcov: &'a [u8],
+    usag: u8,
     edges: &'a [(u32, u8)],
 }
 
@@ -133,7 +134,7 @@ fn attributes(alloc: Global, catcov: &[u8]) -> Result<Attrs, AllocError> {
     Ok(attrs)
 }
 
-fn spots(alloc: Global, edges: &[(u32, u8)]) -> Result<Vec<Spot>, AllocError> {
+fn spots(alloc: Global, usag: u8, edges: &[(u32, u8)]) -> Result<Vec<Spot>, AllocError> {
     edges
         .iter()
         .map(|edge| Spot {
@@ -142,7 +143,7 @@ fn spots(alloc: Global, edges: &[(u32, u8)]) -> Result<Vec<Spot>, AllocError> {
                 id: edge.0,
             },
             ornt: edge.1,
-            usag: 1,
+            usag,
             mask: 255,
         })
         .collect(alloc)
@@ -164,7 +165,7 @@ fn feature(rt: &impl Abort, alloc: Global, id: u32, sketch: Sketch) -> Result<Re
     ensures fits { IfOk result (λ r. (nall : ℕ) → unfitness nall r ≡ None) }
 {
     let attf = attributes(alloc, sketch.catcov)?;
-    let places = spots(alloc, sketch.edges)?;
+    let places = spots(alloc, sketch.usag, sketch.edges)?;
     let feature = Rec::F(Feature {
         name: of(Kind::Fe, id),
         prim: sketch.prim,
@@ -253,14 +254,15 @@ fn found(subject: Subject, kind: u8, nums: [u32; 4]) -> SubjectFinding {
     }
 }
 
-// A feature without geometry.
-fn nothing(fidn: u32) -> Sketch<'static> {
+// A feature without geometry, by its group.
+fn nothing(grup: u8, fidn: u32) -> Sketch<'static> {
     Sketch {
         prim: 255,
-        grup: 2,
+        grup,
         objl: 400,
         fidn,
         catcov: &[],
+        usag: 255,
         edges: &[],
     }
 }
@@ -275,6 +277,7 @@ fn depth_area<'a>(fidn: u32, edges: &'a [(u32, u8)]) -> Sketch<'a> {
         objl: 42,
         fidn,
         catcov: &[],
+        usag: 1,
         edges,
     }
 }
@@ -286,6 +289,7 @@ fn coverage<'a>(fidn: u32, edges: &'a [(u32, u8)]) -> Sketch<'a> {
         objl: 302,
         fidn,
         catcov: b"1",
+        usag: 1,
         edges,
     }
 }
@@ -297,6 +301,7 @@ fn coastline<'a>(fidn: u32, edges: &'a [(u32, u8)]) -> Sketch<'a> {
         objl: 30,
         fidn,
         catcov: &[],
+        usag: 255,
         edges,
     }
 }
@@ -307,6 +312,8 @@ const SAME_PLACE: u8 = 10;
 
 const NODE_ON_EDGE: u8 = 11;
 
+const WRONG_GROUP: u8 = 20;
+
 const ORPHAN: u8 = 21;
 
 const SIDE_OVERLAP: u8 = 22;
@@ -316,7 +323,8 @@ const SIDE_UNBALANCED: u8 = 23;
 const TWICE_FOID: u8 = 25;
 
 // Node 4 is at the place of node 3, where edges 2 and 3 end, and edge 4 leads to a node that isn't there. A line uses edges 1
-// and 3 alone, and it bears one identifier with two other features.
+// and 3 alone, and it bears one identifier with two other features, of which
+// one is in the wrong group.
 #[test]
 fn findings_ascend_up_to_the_limit(rt: HostRuntime) -> Result<(), Fail> {
     let alloc = rt.alloc();
@@ -324,7 +332,7 @@ fn findings_ascend_up_to_the_limit(rt: HostRuntime) -> Result<(), Fail> {
     let sheet = Sheet {
         places: [(0, 0), (0, 10), (10, 0), (10, 0)],
         lines: [(1, 2), (1, 3), (2, 3), (1, 9)],
-        sketches: [coastline(7, &line), nothing(7), nothing(7)],
+        sketches: [coastline(7, &line), nothing(2, 7), nothing(1, 7)],
     };
     let cell = cell_of(&rt, alloc, &sheet)?;
     let fourth = of(Kind::Vc, 4);
@@ -335,6 +343,7 @@ fn findings_ascend_up_to_the_limit(rt: HostRuntime) -> Result<(), Fail> {
     };
     let expected = [
         found(Subject::Rec(of(Kind::Ve, 4)), DANGLING_END, [2, 0, 0, 0]),
+        found(Subject::Rec(of(Kind::Fe, 3)), WRONG_GROUP, [0; 4]),
         found(Subject::Side(of(Kind::Ve, 2)), ORPHAN, [0; 4]),
         found(Subject::Side(of(Kind::Ve, 4)), ORPHAN, [0; 4]),
         found(Subject::Pair(of(Kind::Vc, 3), fourth), SAME_PLACE, [0; 4]),
@@ -350,15 +359,15 @@ fn findings_ascend_up_to_the_limit(rt: HostRuntime) -> Result<(), Fail> {
         ),
         found(Subject::Ident(identity), TWICE_FOID, [3, 0, 0, 0]),
     ];
-    let findings = find_all(alloc, &cell, 7).expect(&rt, "seven findings");
+    let findings = find_all(alloc, &cell, 8).expect(&rt, "eight findings");
     assert_eq!(rt; findings.as_slice(), expected.as_slice());
-    assert_eq!(rt; findings.len(), 7);
-    let refusal = find_all(alloc, &cell, 6).err();
+    assert_eq!(rt; findings.len(), 8);
+    let refusal = find_all(alloc, &cell, 7).err();
     assert_eq!(rt; refusal, Some(FindingRefusal::TooMany));
     let mut text = Vec::new(alloc);
     push_cell(&mut text, &cell, &findings)?;
     let lines =
-        b"cell vi 0 vc 4 ve 4 fe 3\nfindings 7\nrec ve 4 DanglingEnd 2\nside ve 2 Orphan\nside ve 4 Orphan\npair vc 3 vc 4 SamePlace\npair vc 4 ve 2 NodeOnEdge 1\npair vc 4 ve 3 NodeOnEdge 1\nident 1 7 1 TwiceFoid 3\nend\n";
+        b"cell vi 0 vc 4 ve 4 fe 3\nfindings 8\nrec ve 4 DanglingEnd 2\nrec fe 3 WrongGroup\nside ve 2 Orphan\nside ve 4 Orphan\npair vc 3 vc 4 SamePlace\npair vc 4 ve 2 NodeOnEdge 1\npair vc 4 ve 3 NodeOnEdge 1\nident 1 7 1 TwiceFoid 3\nend\n";
     assert_eq!(rt; text.as_slice(), lines.as_slice());
     Ok(())
 }
@@ -374,7 +383,7 @@ fn square_of<'a>(sketches: [Sketch<'a>; 3]) -> Sheet<'a> {
 #[test]
 fn a_square_has_no_findings(rt: HostRuntime) -> Result<(), Fail> {
     let alloc = rt.alloc();
-    let sheet = square_of([depth_area(1, &SQUARE), coverage(2, &SQUARE), nothing(3)]);
+    let sheet = square_of([depth_area(1, &SQUARE), coverage(2, &SQUARE), nothing(2, 3)]);
     let cell = cell_of(&rt, alloc, &sheet)?;
     let findings = find_all(alloc, &cell, 0).expect(&rt, "no finding");
     assert_eq!(rt; findings.len(), 0);
