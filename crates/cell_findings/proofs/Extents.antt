@@ -39,7 +39,7 @@ use Rattle.check_pairs.specs.Bounds.{box_of_segment, box_with, line_box, united}
 use Rattle.check_pairs.proofs.Boxes.{disjoint_first, disjoint_second, none_by_boxes, none_first, none_second}
 use Rattle.cell_findings.specs.Extents.{are_apart, extent_of, segments_at}
 use Rattle.cell_findings.specs.Judged.{subject_findings}
-use Rattle.cell_findings.specs.Kinds.{judged_kinds}
+use Rattle.rule_spec.specs.Kinds.{all_kinds}
 use Rattle.cell_findings.specs.Rows.{with_subject}
 
 -- ---- boxes
@@ -190,7 +190,7 @@ module _ (c : Cell) (a b : RecName) (apart : are_apart (extent_of c a) (extent_o
       either_none (option_map_or (λ e. names_node e a) (edge_named c b) true) (segment_under (node_position c a) (edge_line_of c b))
       (no_segment (edge_line_of c a) (edge_line_of c b) (node_position c a) (node_position c b) (is_one c a) apart)
 
-  nothing_about : findings_about judged_kinds c (Pair a b) ≡ []
+  nothing_about : findings_about all_kinds c (Pair a b) ≡ []
   nothing_about = λ i. all_five (no_contacts 7 i) (no_contacts 8 i) (no_contacts 9 i) (not_same_place i) (not_on_edge i)
 
   pub apart_is_clean : subject_findings c (Pair a b) ≡ []

@@ -14,7 +14,7 @@ use Rattle.rule_spec.specs.Findings.{finding, findings_about, findings_of_record
 use Rattle.rule_spec.specs.Rule.{Found}
 use Rattle.rule_spec.specs.Rules.{feature_rules, identity_rules, pair_rules, side_rules, vector_rules}
 use Rattle.cell_findings.specs.Judged.{subject_findings}
-use Rattle.cell_findings.specs.Kinds.{judged_kinds}
+use Rattle.rule_spec.specs.Kinds.{all_kinds}
 use Rattle.cell_findings.specs.Rows.{HasKnownKind, with_subject}
 use Rattle.cell_findings.proofs.Ascending.{all_append}
 
@@ -52,9 +52,9 @@ about asked c (Side n) = of_rules asked (λ rule. rule c n) 21 side_rules (omega
 about asked c (Pair a b) = of_rules asked (λ rule. rule c a b) 7 pair_rules (omega arith) (omega arith)
 about asked c (Ident l) = of_rules asked (λ rule. rule c l) 25 identity_rules (omega arith) (omega arith)
 
-of_subject : (c : Cell) (s : Subject) → AllByRecursion IsKnown (findings_of_subject judged_kinds c s)
+of_subject : (c : Cell) (s : Subject) → AllByRecursion IsKnown (findings_of_subject all_kinds c s)
 unfolding findings_of_subject
-of_subject c s = if_asked (is_subject c s) (findings_about judged_kinds c s) (about judged_kinds c s)
+of_subject c s = if_asked (is_subject c s) (findings_about all_kinds c s) (about all_kinds c s)
 
 with_it : (s : Subject) (fs : List Finding) → AllByRecursion IsKnown fs → AllByRecursion HasKnownKind (map (with_subject s) fs)
 with_it s [] h = tt
@@ -63,7 +63,7 @@ with_it s (f ∷ fs) h = (record { from_one = h.0.from_one; known = h.0.known },
 of_subjects : (c : Cell) (ss : List Subject) → AllByRecursion HasKnownKind (flat_map (subject_findings c) ss)
 of_subjects c [] = tt
 of_subjects c (s ∷ ss) =
-    all_append HasKnownKind (subject_findings c s) (flat_map (subject_findings c) ss) (with_it s (findings_of_subject judged_kinds c s) (of_subject c s)) (of_subjects c ss)
+    all_append HasKnownKind (subject_findings c s) (flat_map (subject_findings c) ss) (with_it s (findings_of_subject all_kinds c s) (of_subject c s)) (of_subjects c ss)
 
 pub known_kinds : (c : Cell) (ss : List Subject) → All HasKnownKind (flat_map (subject_findings c) ss)
 known_kinds c ss = All-from_recursion HasKnownKind (flat_map (subject_findings c) ss) (of_subjects c ss)

@@ -10,5 +10,6 @@ pub mod AllFindings
 pub mod Gathering
 pub mod KindsAgree
 pub mod KnownKinds
+pub mod SmallCells
 pub mod Extents
 mod Unplaced

@@ -13,7 +13,7 @@ use Rattle.cell_spec.specs.declared.key.Subject.{Subject}
 use Rattle.cell_spec.specs.declared.key.Subject.TheVariants.{Rec, Side, Pair, Ident}
 use Rattle.rule_spec.specs.Findings.{findings_of_subject, record_names}
 use Rattle.rule_spec.specs.Records.{is_edge_name}
-use Rattle.cell_findings.specs.Kinds.{judged_kinds}
+use Rattle.rule_spec.specs.Kinds.{all_kinds}
 use Rattle.cell_findings.specs.Rows.{with_subject}
 use Rattle.cell_findings.specs.declared.list.SubjectFinding.{SubjectFinding}
 
@@ -46,6 +46,6 @@ identities_in c = ascending (order_by identity_parts) (flat_map identities_of (a
 abbrev pub judged_subjects : Cell → List Subject
 judged_subjects c = records_and_sides (names_in c) ++ (part_pairs (names_in c) ++ map Ident (identities_in c))
 
--- the findings about a subject of the judged kinds, each with it
+-- the findings about a subject, each with it
 abbrev pub subject_findings : Cell → Subject → List SubjectFinding
-subject_findings c s = map (with_subject s) (findings_of_subject judged_kinds c s)
+subject_findings c s = map (with_subject s) (findings_of_subject all_kinds c s)

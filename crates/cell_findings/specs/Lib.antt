@@ -1,5 +1,4 @@
 pub mod Rows
-pub mod Kinds
 pub mod AllFindings
 pub mod Judged
 pub mod Gathered

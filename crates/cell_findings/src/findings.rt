@@ -92,9 +92,9 @@ fn gather<L: Ledger>(
     Ok(gathered)
 }
 
-/// All findings of a writable cell about its nodes and edges, about the sides of its edges, about each two connected nodes
-/// or edges, and about the identifiers of its features, ascending by subject, kind and numbers, where there are at most so
-/// many. Counting stops at the first subject that goes over the limit.
+/// All findings of a writable cell about its records, the sides of its edges, each two connected nodes or edges, and the
+/// identifiers of its features, ascending by subject, kind and numbers, where there are at most so many. Counting stops at
+/// the first subject that goes over the limit.
 pub fn find_all(alloc: Global, cell: &Cell, limit: usize) -> Result<Findings, FindingRefusal>
     requires writable { IsWritable cell.now }
     ensures { MatchResult result (IsAllOf cell.now limit) (IsFindingRefusal cell.now limit) }

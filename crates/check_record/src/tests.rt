@@ -67,7 +67,8 @@ struct Shape<'a> {
     deep: &'a [(i32, i32, i32)],
 }
 
-// Isolated node 5, connected nodes 1 and 2, and edge 1.
+// Isolated node 5, connected nodes 1 and 2, and edge 1. Edges 2 and 3 lead from node 2 back to node 1, over (10, 5) and
+// (-10, 5).
 #[derive(Clone, Copy)]
 struct Sheet<'a> {
     isolated: Shape<'a>,
@@ -132,19 +133,30 @@ fn connected(rt: &impl Abort, alloc: Global, sheet: &Sheet) -> Result<Vec<Rec>, 
 }
 
 fn edges(rt: &impl Abort, alloc: Global, sheet: &Sheet) -> Result<Vec<Rec>, AllocError>
-    ensures names { IfOk result (λ v. map (λ (r : SpecRec). name_parts (spec_name r)) v.items ≡ (2 ∷ 1 ∷ []) ∷ []) }
+    ensures names { IfOk result (λ v. map (λ (r : SpecRec). name_parts (spec_name r)) v.items ≡ (2 ∷ 1 ∷ []) ∷ (2 ∷ 2 ∷ []) ∷ (2 ∷ 3 ∷ []) ∷ []) }
     ensures fits { IfOk result (λ v. All (λ r. (nall : ℕ) → unfitness nall r ≡ None) v.items) }
 {
+    let north = Shape {
+        ends: &[(1, vc(2)), (2, vc(1))],
+        plane: &[(10, 5)],
+        deep: &[],
+    };
+    let south = Shape {
+        plane: &[(-10, 5)],
+        ..north
+    };
     let one = vector(rt, alloc, of(Kind::Ve, 1), sheet.edge)?;
-    Ok(vec![in alloc; one]?)
+    let two = vector(rt, alloc, of(Kind::Ve, 2), north)?;
+    let three = vector(rt, alloc, of(Kind::Ve, 3), south)?;
+    Ok(vec![in alloc; one, two, three]?)
 }
 
-fn spot(kind: Kind, id: u32) -> Spot
+fn spot(kind: Kind, id: u32, ornt: u8) -> Spot
     ensures { result.to.kind ≡ kind }
 {
     Spot {
         to: of(kind, id),
-        ornt: 1,
+        ornt,
         usag: 1,
         mask: 255,
     }
@@ -174,17 +186,24 @@ fn feature(alloc: Global, id: u32, prim: u8, places: Vec<Spot>) -> Rec
     })
 }
 
-// Feature 1 is an area and 2 a line, of edge 1 twice, the isolated node and an edge that isn't there.
+// Feature 1 is an area and 2 a line, of edge 1 twice, the isolated node and an edge that isn't there. Area 3 lies between
+// edges 1 and 2, area 4 between edges 1 and 3, and area 5 is area 3 without its last edge.
 fn features(alloc: Global) -> Result<Vec<Rec>, AllocError>
-    ensures names { IfOk result (λ v. map (λ (r : SpecRec). name_parts (spec_name r)) v.items ≡ (3 ∷ 1 ∷ []) ∷ (3 ∷ 2 ∷ []) ∷ []) }
+    ensures names { IfOk result (λ v. map (λ (r : SpecRec). name_parts (spec_name r)) v.items ≡ (3 ∷ 1 ∷ []) ∷ (3 ∷ 2 ∷ []) ∷ (3 ∷ 3 ∷ []) ∷ (3 ∷ 4 ∷ []) ∷ (3 ∷ 5 ∷ []) ∷ []) }
     ensures fits { IfOk result (λ v. All (λ r. (nall : ℕ) → unfitness nall r ≡ None) v.items) }
 {
-    let edge = spot(Kind::Ve, 1);
-    let node = spot(Kind::Vi, 5);
-    let absent = spot(Kind::Ve, 8);
+    let edge = spot(Kind::Ve, 1, 1);
+    let back = spot(Kind::Ve, 1, 2);
+    let north = spot(Kind::Ve, 2, 2);
+    let south = spot(Kind::Ve, 3, 1);
+    let node = spot(Kind::Vi, 5, 1);
+    let absent = spot(Kind::Ve, 8, 1);
     let one = feature(alloc, 1, 3, vec![in alloc; edge, edge, node, absent]?);
     let two = feature(alloc, 2, 2, vec![in alloc; edge, edge, node, absent]?);
-    Ok(vec![in alloc; one, two]?)
+    let three = feature(alloc, 3, 3, vec![in alloc; north, back]?);
+    let four = feature(alloc, 4, 3, vec![in alloc; edge, south]?);
+    let five = feature(alloc, 5, 3, vec![in alloc; north]?);
+    Ok(vec![in alloc; one, two, three, four, five]?)
 }
 
 fn head(alloc: Global) -> Head {
@@ -364,6 +383,73 @@ fn check_shapes(
     for (shape, names, found) in cases {
         check_names(rt, alloc, *shape, names, found)?;
     }
+    Ok(())
+}
+
+// Checks features where edge 1 leads from node 1 at (0, 0) straight to node 2.
+fn check_features(
+    rt: &impl Abort,
+    alloc: Global,
+    last: &[Point],
+    cases: &[(u32, &[(u8, u32, u32, u32)])],
+) -> Result<(), AllocError> {
+    let edge = Shape {
+        ends: &[(1, vc(1)), (2, vc(2))],
+        plane: &[],
+        deep: &[],
+    };
+    let sheet = Sheet {
+        isolated: at(&[(7, 8)]),
+        first: at(&[(0, 0)]),
+        last: at(last),
+        edge,
+    };
+    for (id, found) in cases {
+        check(rt, alloc, &sheet, of(Kind::Fe, *id), found)?;
+    }
+    Ok(())
+}
+
+#[test]
+fn places_and_codes_of_features(rt: HostRuntime) -> Result<(), Fail> {
+    check_features(
+        &rt,
+        rt.alloc(),
+        &[(0, 10)],
+        &[
+            // An area and a line of a node, of an edge that isn't there, and of edges with an area's codes.
+            (1, &[(12, 0, 0, 0), (13, 4, 0, 0)]),
+            (
+                2,
+                &[
+                    (12, 0, 0, 0),
+                    (13, 4, 0, 0),
+                    (14, 1, 0, 0),
+                    (14, 2, 0, 0),
+                    (14, 3, 0, 0),
+                    (14, 4, 0, 0),
+                    (20, 0, 0, 0),
+                ],
+            ),
+        ],
+    )?;
+    Ok(())
+}
+
+#[test]
+fn a_moved_node_turns_two_areas(rt: HostRuntime) -> Result<(), Fail> {
+    let open: &[(u8, u32, u32, u32)] = &[(15, 1, 0, 0)];
+    let turned: &[(u8, u32, u32, u32)] = &[(18, 1, 0, 0)];
+    let alloc = rt.alloc();
+    check_features(&rt, alloc, &[(0, 10)], &[(3, &[]), (4, &[]), (5, open)])?;
+    check_features(
+        &rt,
+        alloc,
+        &[(0, -10)],
+        &[(3, turned), (4, turned), (5, open)],
+    )?;
+    // Without a position of node 2 no edge has points, and no boundary is judged.
+    check_features(&rt, alloc, &[], &[(3, &[]), (4, &[]), (5, &[])])?;
     Ok(())
 }
 

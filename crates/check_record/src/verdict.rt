@@ -14,6 +14,8 @@ use crate::reads::{feature_reads, vector_reads};
 use crate::vector::vector_findings;
 use cell_spec::{Findings, Key, Row, Subject};
 use chain_topo::{Look, Steps};
+use check_feature::feature_findings;
+use near_records::gather;
 use read_sets::ascending_keys;
 use s57_types::{Feature, Items, Rec, RecName, Vector};
 use std::alloc::{AllocError, Global};
@@ -51,9 +53,11 @@ fn feature_row<B: Look, L: Ledger>(
     ensures steps { steps.new + 1 ≤ steps.old + 4 * length (read_set (B.cell look.now) (SubjectRec name)) }
 {
     let reads = feature_reads(alloc, look, name, feature, steps)?;
+    let near = gather(alloc, look, reads.as_slice(), steps)?;
+    let findings = feature_findings(alloc, &near, feature)?;
     Ok(Row {
         subject: Subject::Rec(name),
-        findings: Findings::make(alloc),
+        findings: Items::of_vec(findings),
         reads,
     })
 }
@@ -70,9 +74,10 @@ fn absent_row(alloc: Global, name: RecName) -> Result<Row, AllocError>
     })
 }
 
-/// The findings about a record, ascending by kind and numbers, and its read set. The kinds are BadShape, EndCount,
-/// DanglingEnd, Stacked, SelfMeet and NodePointer, about a node or an edge; a feature has none of them. A name that no
-/// record has gives no finding, and its read set is the name.
+/// The findings about a record, ascending by kind and numbers, and its read set. About a node or an edge the kinds are
+/// BadShape, EndCount, DanglingEnd, Stacked, SelfMeet and NodePointer; about a feature PrimRefs, DanglingRef, BadCodes,
+/// OpenRing, MixedRing, OuterCount, WrongTurn, DanglingFeature and WrongGroup. A name that no record has gives no finding,
+/// and its read set is the name.
 ///
 /// It makes at most four look-ups for each key of the read set. An `Err` is want of memory.
 pub fn verdict_rec<B: Look, L: Ledger>(

@@ -1,17 +1,40 @@
-use Rattle.std.proofs.Common.{◌∙◌, refl, sym, arith}
-use Rattle.check_record.proofs.ReadSets.{findings_found, some_keys}
+use Rattle.std.proofs.Common.{◌≡◌, length, refl, sym, ap, ◌∙◌, arith}
 use Rattle.s57_types.specs.declared.record.Rec.TheVariants.{F}
+use Rattle.cell_spec.specs.declared.key.Subject.TheVariants.{Rec}
+use Rattle.rule_spec.specs.Reads.{read_set}
+use Rattle.check_record.proofs.ReadSets.{findings_found, some_keys}
 use Rattle.check_record.proofs.verdict.feature_row.Goals as goal
 
 pub returns-in_err-reads-clause-steps : goal.returns-in_err-reads-clause-steps
 returns-in_err-reads-clause-steps g c = omega (arith, c.feature_reads.ensures.steps, some_keys (g.B.Look.cell c.args.look.now) c.args.name)
 
+pub returns-in_err-near-clause-steps : goal.returns-in_err-near-clause-steps
+returns-in_err-near-clause-steps g c =
+    let cell = g.B.Look.cell c.args.look.now in
+    let gathered : length c.as_slice.result.now ≡ length (read_set cell (Rec c.args.name)) = ap length (c.as_slice.ensures ∙ c.in_ok-reads.ensures.reads) in
+    omega (arith, c.feature_reads.ensures.steps, c.gather.ensures.steps, gathered, some_keys cell c.args.name)
+
+pub returns-in_err-findings-clause-steps : goal.returns-in_err-findings-clause-steps
+returns-in_err-findings-clause-steps g c =
+    let cell = g.B.Look.cell c.args.look.now in
+    let gathered : length c.as_slice.result.now ≡ length (read_set cell (Rec c.args.name)) = ap length (c.as_slice.ensures ∙ c.in_ok-reads.ensures.reads) in
+    omega (arith, c.feature_reads.ensures.steps, c.gather.ensures.steps, gathered, some_keys cell c.args.name)
+
 pub returns-clause-steps : goal.returns-clause-steps
-returns-clause-steps g c = omega (arith, c.feature_reads.ensures.steps, some_keys (g.B.Look.cell c.args.look.now) c.args.name)
+returns-clause-steps g c =
+    let cell = g.B.Look.cell c.args.look.now in
+    let gathered : length c.as_slice.result.now ≡ length (read_set cell (Rec c.args.name)) = ap length (c.as_slice.ensures ∙ c.in_ok-reads.ensures.reads) in
+    omega (arith, c.feature_reads.ensures.steps, c.gather.ensures.steps, gathered, some_keys cell c.args.name)
 
 pub returns-clause-row : goal.returns-clause-row
-returns-clause-row g c = record {
-  subject = refl;
-  findings = c.make.ensures ∙ sym (findings_found (g.B.Look.cell c.args.look.now) c.args.name (F c.args.feature.now) c.requires);
-  reads = c.in_ok-reads.ensures.reads;
-}
+returns-clause-row g c =
+    let cell = g.B.Look.cell c.args.look.now in
+    let name = c.args.name in
+    record {
+      subject = refl;
+      findings =
+          c.of_vec.ensures
+          ∙ c.in_ok-findings.ensures cell name c.as_slice.result.now c.in_ok-near.ensures.near (c.as_slice.ensures ∙ c.in_ok-reads.ensures.reads) c.requires
+          ∙ sym (findings_found cell name (F c.args.feature.now) c.requires);
+      reads = c.in_ok-reads.ensures.reads;
+    }

@@ -1,0 +1,146 @@
+//! The boundary of an area.
+
+ghost use Rattle.std.specs.Prelude.{◌≡◌, ◌==◌, ◌++◌, [], IfOk, List, None, OnOk, Some, ℕ, if◌then◌else◌, map, option_map, true};
+ghost use Rattle.std.specs.BTreeMap.{get};
+ghost use Rattle.std.specs.List.{All};
+ghost use Rattle.std.specs.Ordering.{nat_cmp};
+ghost use Rattle.s57_types.specs.declared.cell.Cell.{Cell as SpecCell};
+ghost use Rattle.s57_types.specs.declared.name.RecName.{RecName as SpecName};
+ghost use Rattle.s57_types.specs.declared.record.Rec.TheVariants.{F};
+ghost use Rattle.s57_types.specs.declared.record.Spot.{Spot as SpecSpot};
+ghost use Rattle.cell_spec.specs.declared.key.Key.{Key as SpecKey};
+ghost use Rattle.cell_spec.specs.declared.key.Subject.TheVariants.{Rec as SubjectRec};
+ghost use Rattle.cell_spec.specs.Lookup.{lookup_record};
+ghost use Rattle.near_records.specs.Near.{IsNear};
+ghost use Rattle.rule_spec.specs.Boundary.{mixed_ring, open_ring, outer_count, wrong_turn};
+ghost use Rattle.rule_spec.specs.Features.{bad_codes, dangling_ref, prim_refs};
+ghost use Rattle.rule_spec.specs.Findings.{finding};
+ghost use Rattle.rule_spec.specs.Reads.{read_set};
+ghost use Rattle.check_area.specs.Lines.{AsksForLine, HoldsSweeps, edge_name, part_along as spec_part_along, part_at as spec_part_at, parts_of as spec_parts_of, sweep_named as spec_sweep_named};
+
+use crate::line::sweep_named;
+use crate::numbering::number;
+use crate::part::Part;
+use crate::ring::ring_findings;
+use crate::sweep::{LineSweep, sweep_along};
+use cell_spec::Finding;
+use near_records::NearRecords;
+use s57_types::{Feature, Kind, RecName, Spot};
+use std::alloc::{AllocError, Global};
+use std::collections::BTreeMap;
+
+fn keep_sweep(
+    known: &mut BTreeMap<u32, LineSweep>,
+    id: u32,
+    sweep: LineSweep,
+) -> Result<(), AllocError>
+    ensures { OnOk result ((q : ℕ) → get nat_cmp known.new q ≡ (if id == q then Some sweep else get nat_cmp known.old q)) }
+{
+    known.insert(id, sweep)?;
+    Ok(())
+}
+
+/// What the edge of a number sweeps, which is summed once and kept.
+fn kept_sweep(
+    near: &NearRecords,
+    known: &mut BTreeMap<u32, LineSweep>,
+    id: u32,
+) -> Result<Option<LineSweep>, AllocError>
+    ensures sweep { (c : SpecCell) (keys : List SpecKey) → IsNear c keys near.now → AsksForLine c keys (edge_name id) → HoldsSweeps c known.old → IfOk result (λ sweep. sweep ≡ spec_sweep_named c (edge_name id)) }
+    ensures known { (c : SpecCell) (keys : List SpecKey) → IsNear c keys near.now → AsksForLine c keys (edge_name id) → HoldsSweeps c known.old → OnOk result (HoldsSweeps c known.new) }
+{
+    if let Some(sweep) = known.get(&id) {
+        return Ok(Some(*sweep));
+    }
+    let name = RecName { kind: Kind::Ve, id };
+    let Some(sweep) = sweep_named(near, name)? else {
+        return Ok(None);
+    };
+    keep_sweep(known, id, sweep)?;
+    Ok(Some(sweep))
+}
+
+/// What the edge of a name sweeps.
+fn sweep_at(
+    near: &NearRecords,
+    known: &mut BTreeMap<u32, LineSweep>,
+    name: RecName,
+) -> Result<Option<LineSweep>, AllocError>
+    ensures sweep { (c : SpecCell) (keys : List SpecKey) → IsNear c keys near.now → AsksForLine c keys name → HoldsSweeps c known.old → IfOk result (λ sweep. sweep ≡ spec_sweep_named c name) }
+    ensures known { (c : SpecCell) (keys : List SpecKey) → IsNear c keys near.now → AsksForLine c keys name → HoldsSweeps c known.old → OnOk result (HoldsSweeps c known.new) }
+{
+    match name.kind {
+        Kind::Ve => kept_sweep(near, known, name.id),
+        _ => sweep_named(near, name),
+    }
+}
+
+fn part_along(place: u32, spot: &Spot, sweep: LineSweep) -> Result<Part, AllocError>
+    ensures { IfOk result (λ part. part ≡ spec_part_along place spot.now sweep) }
+{
+    let sweep = sweep_along(spot.ornt, sweep)?;
+    Ok(Part {
+        place,
+        usag: spot.usag,
+        sweep,
+    })
+}
+
+/// The part of a boundary that a spatial pointer makes, if it names an edge with points.
+fn part_at(
+    near: &NearRecords,
+    known: &mut BTreeMap<u32, LineSweep>,
+    place: u32,
+    spot: &Spot,
+) -> Result<Option<Part>, AllocError>
+    ensures part { (c : SpecCell) (keys : List SpecKey) → IsNear c keys near.now → AsksForLine c keys spot.now.to → HoldsSweeps c known.old → IfOk result (λ part. part ≡ spec_part_at c (place, spot.now)) }
+    ensures known { (c : SpecCell) (keys : List SpecKey) → IsNear c keys near.now → AsksForLine c keys spot.now.to → HoldsSweeps c known.old → OnOk result (HoldsSweeps c known.new) }
+{
+    let Some(sweep) = sweep_at(near, known, spot.to)? else {
+        return Ok(None);
+    };
+    let part = part_along(place, spot, sweep)?;
+    Ok(Some(part))
+}
+
+/// The parts of a boundary in the order of its spatial pointers, if each of these names an edge with points. An edge that is
+/// named more than once is summed once.
+fn parts_of(
+    alloc: Global,
+    near: &NearRecords,
+    places: &[Spot],
+) -> Result<Option<Vec<Part>>, AllocError>
+    ensures { (c : SpecCell) (keys : List SpecKey) → IsNear c keys near.now → All (λ (s : SpecSpot). AsksForLine c keys s.to) places.now → IfOk result (λ parts. option_map (λ list. list.items) parts ≡ spec_parts_of c places.now) }
+{
+    let mut known = BTreeMap::new(alloc);
+    let mut parts = Vec::new(alloc);
+    for (k, spot) in places.iter().enumerate() {
+        let place = number(k + 1)?;
+        let Some(part) = part_at(near, &mut known, place, spot)? else {
+            return Ok(None);
+        };
+        parts.push(part)?;
+    }
+    Ok(Some(parts))
+}
+
+/// The findings about the boundary of an area: OpenRing, MixedRing, OuterCount and WrongTurn, in the order of their kinds and places
+/// (S-57 Part 3, 7.6.8; Appendix B.1). The feature is an area whose spatial pointers fit its primitive, name records
+/// of the cell and have their codes; where one of these isn't an edge with points, nothing is found. `near` holds what the
+/// cell answers to the feature's read set.
+///
+/// An `Err` is want of memory.
+pub fn area_findings(
+    alloc: Global,
+    near: &NearRecords,
+    feature: &Feature,
+) -> Result<Vec<Finding>, AllocError>
+    ensures { (c : SpecCell) (n : SpecName) (keys : List SpecKey) → IsNear c keys near.now → keys ≡ read_set c (SubjectRec n) → lookup_record c n ≡ Some (F feature.now)
+        → (feature.now.prim == 3) ≡ true → prim_refs c feature.now ≡ [] → dangling_ref c feature.now ≡ [] → bad_codes c feature.now ≡ []
+        → IfOk result (λ findings. findings.items ≡ map (finding 15) (open_ring c feature.now) ++ (map (finding 16) (mixed_ring c feature.now) ++ (map (finding 17) (outer_count c feature.now) ++ map (finding 18) (wrong_turn c feature.now)))) }
+{
+    match parts_of(alloc, near, feature.places.as_slice())? {
+        Some(parts) => ring_findings(alloc, &parts),
+        None => Ok(Vec::new(alloc)),
+    }
+}

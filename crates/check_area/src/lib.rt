@@ -1,0 +1,14 @@
+//! The four rules on the boundary of an area: its closed loops, their usage and the way that they turn.
+#![tactic(auto)]
+
+mod area;
+mod line;
+mod numbering;
+mod part;
+mod ring;
+mod sweep;
+
+pub use area::area_findings;
+pub use line::LineEnd;
+pub use part::Part;
+pub use sweep::LineSweep;

@@ -1,0 +1,149 @@
+//! What the edges of a boundary sweep.
+
+ghost use Rattle.std.specs.Prelude.{◌≡◌, ◌==◌, ◌∷◌, ◌++◌, [], IfOk, List, Some, count_by, find, option_map, true};
+ghost use Rattle.std.specs.List.{All};
+ghost use Rattle.std.specs.Option.{option_copied};
+ghost use Rattle.s57_types.specs.declared.cell.Cell.{Cell as SpecCell};
+ghost use Rattle.s57_types.specs.declared.record.End.{End as SpecEnd};
+ghost use Rattle.cell_spec.specs.declared.key.Key.{Key as SpecKey};
+ghost use Rattle.cell_spec.specs.declared.key.Key.TheVariants.{Name as KeyName};
+ghost use Rattle.near_records.specs.Near.{IsNear, has_key};
+ghost use Rattle.rule_spec.specs.EdgePoints.{line_of, node_at as spec_node_at, node_position as spec_position};
+ghost use Rattle.rule_spec.specs.Records.{the_only as spec_the_only};
+ghost use Rattle.check_area.specs.Lines.{AsksForLine, edge_in as spec_edge_in, line_end as spec_line_end, position_in, sweep_named as spec_sweep_named};
+ghost use Rattle.check_area.specs.Sweeps.{sweep_between as spec_sweep_between, sweep_of};
+
+use crate::sweep::{LineSweep, way_along, way_to};
+use geo_exact::Point;
+use near_records::NearRecords;
+use s57_types::{End, Kind, Rec, RecName, Vector};
+use std::alloc::AllocError;
+
+/// A node at an end of a line, and its position.
+#[derive(Clone, Copy, Debug, PartialEq, Eq)]
+pub struct LineEnd {
+    pub node: RecName,
+    pub at: Point,
+}
+
+fn the_only<T: Copy>(items: &[T]) -> Option<T>
+    ensures { result ≡ spec_the_only items.now }
+{
+    match items {
+        [item] => Some(*item),
+        _ => None,
+    }
+}
+
+fn count_at(topi: u8, ends: &[End]) -> usize
+    ensures { result ≡ count_by (λ (e : SpecEnd). e.topi == topi) ends.now }
+{
+    ends.iter().filter(|end| end.topi == topi).count()
+}
+
+fn first_at(topi: u8, ends: &[End]) -> Option<RecName>
+    ensures { result ≡ option_map (λ (e : SpecEnd). e.to) (find (λ (e : SpecEnd). e.topi == topi) ends.now) }
+{
+    ends.iter().find(|end| end.topi == topi).map(|end| end.to)
+}
+
+/// The node that an edge names at its one end with a topology indicator.
+fn node_at(topi: u8, edge: &Vector) -> Option<RecName>
+    ensures { result ≡ spec_node_at topi edge.now }
+{
+    let ends = edge.ends.as_slice();
+    if count_at(topi, ends) != 1 {
+        return None;
+    }
+    first_at(topi, ends)
+}
+
+/// The position of a record that is a connected node with exactly one.
+fn position_of(found: Option<&Rec>) -> Option<Point>
+    ensures { result ≡ position_in (option_copied found.entry) }
+{
+    match found {
+        Some(Rec::V(node)) if node.name.kind == Kind::Vc => the_only(node.plane.as_slice()),
+        _ => None,
+    }
+}
+
+fn node_position(near: &NearRecords, node: RecName) -> Option<Point>
+    ensures { (c : SpecCell) (keys : List SpecKey) → IsNear c keys near.now → has_key keys (KeyName node) ≡ true → result ≡ spec_position c node }
+{
+    position_of(near.record(node))
+}
+
+/// A node and its position, if it is a connected node with exactly one.
+fn end_at(near: &NearRecords, node: RecName) -> Option<LineEnd>
+    ensures { (c : SpecCell) (keys : List SpecKey) → IsNear c keys near.now → has_key keys (KeyName node) ≡ true → result ≡ spec_line_end c (Some node) }
+{
+    match node_position(near, node) {
+        Some(at) => Some(LineEnd { node, at }),
+        None => None,
+    }
+}
+
+/// The node at the one end of an edge with a topology indicator, if it is a connected node with exactly one position.
+fn line_end(near: &NearRecords, topi: u8, edge: &Vector) -> Option<LineEnd>
+    ensures { (c : SpecCell) (keys : List SpecKey) → IsNear c keys near.now → All (λ (e : SpecEnd). has_key keys (KeyName e.to) ≡ true) edge.now.ends → result ≡ spec_line_end c (spec_node_at topi edge.now) }
+{
+    match node_at(topi, edge) {
+        Some(node) => end_at(near, node),
+        None => None,
+    }
+}
+
+/// What a line between two nodes sweeps along its points.
+fn sweep_between(begins: LineEnd, points: &[Point], ends: LineEnd) -> Result<LineSweep, AllocError>
+    ensures { IfOk result (λ sweep. sweep ≡ spec_sweep_between begins points.now ends) }
+{
+    let inner = way_along(begins.at, points)?;
+    let whole = way_to(inner, ends.at)?;
+    Ok(LineSweep {
+        begins: begins.node,
+        ends: ends.node,
+        first: begins.at,
+        last: ends.at,
+        swept: whole.swept,
+    })
+}
+
+/// What the line of an edge sweeps, if the edge has one.
+fn sweep_of_edge(near: &NearRecords, edge: &Vector) -> Result<Option<LineSweep>, AllocError>
+    ensures { (c : SpecCell) (keys : List SpecKey) → IsNear c keys near.now → All (λ (e : SpecEnd). has_key keys (KeyName e.to) ≡ true) edge.now.ends → IfOk result (λ sweep. sweep ≡ option_map sweep_of (line_of c edge.now)) }
+{
+    let begins = line_end(near, 1, edge);
+    let ends = line_end(near, 2, edge);
+    match (begins, ends) {
+        (Some(begins), Some(ends)) => {
+            let sweep = sweep_between(begins, edge.plane.as_slice(), ends)?;
+            Ok(Some(sweep))
+        }
+        _ => Ok(None),
+    }
+}
+
+fn edge_in(found: Option<&Rec>) -> Option<&Vector>
+    ensures { option_copied result ≡ spec_edge_in (option_copied found.entry) }
+{
+    match found {
+        Some(Rec::V(edge)) if edge.name.kind == Kind::Ve => Some(edge),
+        _ => None,
+    }
+}
+
+/// What the edge of a name sweeps. There is nothing where the name isn't an edge's, where the edge hasn't exactly one
+/// beginning node and one end node, or where one of these isn't a connected node with exactly one position (S-57 Part 2,
+/// 2.2.1.2; Part 3, 7.7.1.4).
+pub(crate) fn sweep_named(
+    near: &NearRecords,
+    name: RecName,
+) -> Result<Option<LineSweep>, AllocError>
+    ensures { (c : SpecCell) (keys : List SpecKey) → IsNear c keys near.now → AsksForLine c keys name → IfOk result (λ sweep. sweep ≡ spec_sweep_named c name) }
+{
+    match edge_in(near.record(name)) {
+        Some(edge) => sweep_of_edge(near, edge),
+        None => Ok(None),
+    }
+}

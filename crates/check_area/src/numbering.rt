@@ -1,0 +1,21 @@
+//! Numbers of findings and sums of areas.
+
+ghost use Rattle.std.specs.Prelude.{◌≡◌, ◌+ℤ◌, IfOk};
+
+use std::alloc::AllocError;
+
+/// A number of a finding. A greater one would belong to a record of billions of rows, and is answered with want of
+/// memory.
+pub(crate) fn number(n: usize) -> Result<u32, AllocError>
+    ensures { IfOk result (λ k. k ≡ n) }
+{
+    u32::try_from(n).map_err(|_| AllocError)
+}
+
+/// A sum of areas. A step between two points is at most 2^63, so 128 bits hold the sum of 2^64 steps; more of them, which
+/// take more pointers and points than there is memory for, are answered with want of memory.
+pub(crate) fn plus(a: i128, b: i128) -> Result<i128, AllocError>
+    ensures { IfOk result (λ sum. sum ≡ a +ℤ b) }
+{
+    a.checked_add(b).ok_or(AllocError)
+}

@@ -1,0 +1,190 @@
+//! What is found of the loops that the parts of a boundary make.
+
+ghost use Rattle.std.specs.Prelude.{◌≡◌, ◌++◌, ◌∷◌, [], IfOk, OnOk, map, filter, take, drop, length};
+ghost use Rattle.rule_spec.specs.Findings.{finding};
+ghost use Rattle.rule_spec.specs.Loops.{blocks_of};
+ghost use Rattle.check_area.specs.Parts.{arc_of_part, exterior_count as spec_exterior_count, findings_of_loops, findings_of_parts, is_exterior_loop, length_of_block, mixed_loops, place_of_loop, wrong_loops};
+
+use crate::numbering::number;
+use crate::part::{Part, is_exterior, is_mixed, turns_wrongly};
+use cell_spec::Finding;
+use ring_build::{Block, RingCut, cut};
+use s57_types::RecName;
+use std::alloc::{AllocError, Global};
+
+/// The number of the kind of a boundary that isn't closed loops one after the other.
+const OPEN_RING: u8 = 15;
+
+/// The number of the kind of a loop with interior and other usage.
+const MIXED_RING: u8 = 16;
+
+/// The number of the kind of an area that hasn't exactly one exterior loop.
+const OUTER_COUNT: u8 = 17;
+
+/// The number of the kind of a loop that turns the wrong way.
+const WRONG_TURN: u8 = 18;
+
+fn arcs_of(alloc: Global, parts: &[Part]) -> Result<Vec<(RecName, RecName)>, AllocError>
+    ensures { IfOk result (λ arcs. arcs.items ≡ map arc_of_part parts.now) }
+{
+    parts
+        .iter()
+        .map(|part| (part.sweep.begins, part.sweep.ends))
+        .collect(alloc)
+}
+
+fn block_length(block: Block) -> usize
+    ensures { result ≡ length_of_block block }
+{
+    (block.to as usize + 1).saturating_sub(block.from as usize)
+}
+
+/// The lengths of loops that stand one after the other.
+fn lengths_of(alloc: Global, blocks: &[Block]) -> Result<Vec<usize>, AllocError>
+    ensures { IfOk result (λ lengths. lengths.items ≡ map length_of_block blocks.now) }
+{
+    blocks
+        .iter()
+        .map(|block| block_length(*block))
+        .collect(alloc)
+}
+
+/// The loop of so many parts at the front, and the parts after it.
+fn split_loop(parts: &[Part], n: usize) -> (&[Part], &[Part])
+    ensures front { result.0.now ≡ take n parts.now }
+    ensures after { result.1.now ≡ drop n parts.now }
+{
+    parts.split_at(n.min(parts.len()))
+}
+
+/// Appends a finding of a kind about a loop, by its first place.
+fn push_loop(findings: &mut Vec<Finding>, kind: u8, parts: &[Part]) -> Result<(), AllocError>
+    ensures { OnOk result (findings.new.items ≡ findings.old.items ++ finding kind (place_of_loop parts.now) ∷ []) }
+{
+    let place = match parts {
+        [] => 0,
+        [part, ..] => part.place,
+    };
+    findings.push(Finding {
+        kind,
+        nums: [place, 0, 0, 0],
+    })?;
+    Ok(())
+}
+
+/// MixedRing: appends its findings about loops of these lengths.
+fn push_mixed(
+    findings: &mut Vec<Finding>,
+    lengths: &[usize],
+    parts: &[Part],
+) -> Result<(), AllocError>
+    ensures { OnOk result (findings.new.items ≡ findings.old.items ++ map (finding 16) (mixed_loops (blocks_of lengths.now parts.now))) }
+{
+    let mut rest = parts;
+    for n in lengths {
+        let (front, after) = split_loop(rest, *n);
+        rest = after;
+        if is_mixed(front) {
+            push_loop(findings, MIXED_RING, front)?;
+        }
+    }
+    Ok(())
+}
+
+fn exterior_count(lengths: &[usize], parts: &[Part]) -> usize
+    ensures { result ≡ length (filter is_exterior_loop (blocks_of lengths.now parts.now)) }
+{
+    let mut count = 0usize;
+    let mut rest = parts;
+    for n in lengths {
+        let (front, after) = split_loop(rest, *n);
+        rest = after;
+        if is_exterior(front) {
+            count += 1;
+        }
+    }
+    count
+}
+
+/// OuterCount: appends its finding about loops of these lengths.
+fn push_outer_count(
+    findings: &mut Vec<Finding>,
+    lengths: &[usize],
+    parts: &[Part],
+) -> Result<(), AllocError>
+    ensures { OnOk result (findings.new.items ≡ findings.old.items ++ map (finding 17) (spec_exterior_count (blocks_of lengths.now parts.now))) }
+{
+    let outer = number(exterior_count(lengths, parts))?;
+    if outer != 1 {
+        findings.push(Finding {
+            kind: OUTER_COUNT,
+            nums: [outer, 0, 0, 0],
+        })?;
+    }
+    Ok(())
+}
+
+/// WrongTurn: appends its findings about loops of these lengths.
+fn push_wrong_turns(
+    findings: &mut Vec<Finding>,
+    lengths: &[usize],
+    parts: &[Part],
+) -> Result<(), AllocError>
+    ensures { OnOk result (findings.new.items ≡ findings.old.items ++ map (finding 18) (wrong_loops (blocks_of lengths.now parts.now))) }
+{
+    let mut rest = parts;
+    for n in lengths {
+        let (front, after) = split_loop(rest, *n);
+        rest = after;
+        if turns_wrongly(front)? {
+            push_loop(findings, WRONG_TURN, front)?;
+        }
+    }
+    Ok(())
+}
+
+/// MixedRing, or where no loop is mixed OuterCount and WrongTurn, of loops of these lengths.
+fn loop_findings(
+    alloc: Global,
+    lengths: &[usize],
+    parts: &[Part],
+) -> Result<Vec<Finding>, AllocError>
+    ensures { IfOk result (λ findings. findings.items ≡ findings_of_loops (blocks_of lengths.now parts.now)) }
+{
+    let mut findings = Vec::new(alloc);
+    push_mixed(&mut findings, lengths, parts)?;
+    if !findings.is_empty() {
+        return Ok(findings);
+    }
+    push_outer_count(&mut findings, lengths, parts)?;
+    push_wrong_turns(&mut findings, lengths, parts)?;
+    Ok(findings)
+}
+
+fn open_ring(alloc: Global, place: u32) -> Result<Vec<Finding>, AllocError>
+    ensures { IfOk result (λ findings. findings.items ≡ finding 15 (place ∷ []) ∷ []) }
+{
+    let mut findings = Vec::new(alloc);
+    findings.push(Finding {
+        kind: OPEN_RING,
+        nums: [place, 0, 0, 0],
+    })?;
+    Ok(findings)
+}
+
+/// OpenRing, or what is found of the closed loops that the parts make one after the other.
+///
+/// An `Err` is want of memory.
+pub(crate) fn ring_findings(alloc: Global, parts: &[Part]) -> Result<Vec<Finding>, AllocError>
+    ensures { IfOk result (λ findings. findings.items ≡ findings_of_parts parts.now) }
+{
+    let arcs = arcs_of(alloc, parts)?;
+    let _count = number(arcs.len())?;
+    match cut(alloc, &arcs)? {
+        RingCut::OpenAt(place) => open_ring(alloc, place),
+        RingCut::Whole(blocks) => {
+            let lengths = lengths_of(alloc, blocks.as_slice())?;
+            loop_findings(alloc, &lengths, parts)
+        }
+    }
+}

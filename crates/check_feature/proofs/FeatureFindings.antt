@@ -1,0 +1,104 @@
+-- The findings about a feature, kind after kind.
+use Rattle.std.proofs.Common.{◌≡◌, Bool, true, false, ◌&&◌, List, [], ◌∷◌, ◌++◌, length, map, cond, refl, sym, ap, ◌∙◌, append_assoc, arith}
+use Rattle.std.specs.Prelude.{◌==◌}
+use Rattle.std.specs.List.{list_all}
+use Rattle.std.proofs.lemmas.Bool.Decides.{nat_tests}
+use Rattle.std.proofs.lemmas.List.{append-nil}
+use Rattle.s57_types.specs.declared.record.Feature.{Feature}
+use Rattle.s57_types.specs.declared.cell.Cell.{Cell}
+use Rattle.cell_spec.specs.declared.finding.Finding.{Finding}
+use Rattle.rule_spec.specs.Boundary.{boundary_of, has_points, has_usable_boundary, has_whole_loops, is_clean, mixed_ring, mixed_ring_of, open_ring, open_ring_of, outer_count, outer_count_of, wrong_turn, wrong_turn_of}
+use Rattle.rule_spec.specs.Features.{bad_codes, dangling_feature, dangling_ref, prim_refs, wrong_group}
+use Rattle.rule_spec.specs.Findings.{finding, numbered_findings}
+use Rattle.rule_spec.specs.Rule.{Found}
+use Rattle.rule_spec.specs.Rules.{feature_rules}
+use Rattle.check_feature.specs.FeatureKinds.{boundary_findings, feature_kinds, pointer_findings}
+
+-- ---- an area is judged where nothing is found about its spatial pointers
+some_number : (nums : Found) (first : List _) → is_clean (first ∷ nums) ≡ false
+some_number nums first = grind (arith, nat_tests)
+
+abbrev in_a_row : Found → Found → Found → List Finding
+in_a_row a b c = map (finding 12) a ++ map (finding 13) b ++ map (finding 14) c
+
+some_finding : (x : Finding) (xs : List Finding) → (length (x ∷ xs) == 0) ≡ false
+some_finding x xs = grind (arith, nat_tests)
+
+none_found : (a b c : Found) → (length (in_a_row a b c) == 0) ≡ (is_clean a && is_clean b && is_clean c)
+none_found [] [] [] = refl
+none_found [] [] (x ∷ c) = some_finding (finding 14 x) (map (finding 14) c) ∙ sym (some_number c x)
+none_found [] (x ∷ b) c =
+    some_finding (finding 13 x) (map (finding 13) b ++ map (finding 14) c) ∙ ap (λ z. z && is_clean c) (sym (some_number b x))
+none_found (x ∷ a) b c =
+    some_finding (finding 12 x) (map (finding 12) a ++ map (finding 13) b ++ map (finding 14) c) ∙ ap (λ z. (z && is_clean b) && is_clean c) (sym (some_number a x))
+
+is_nothing : (found : Found) → is_clean found ≡ true → found ≡ []
+is_nothing [] h = refl
+is_nothing (x ∷ found) h = absurd (true_is_false (sym h ∙ some_number found x))
+  where
+    true_is_false : true ≡ false → ⊥
+    true_is_false e = cc
+
+left_of : (a b : Bool) → (a && b) ≡ true → a ≡ true
+left_of true b h = refl
+left_of false b h = h
+
+right_of : (a b : Bool) → (a && b) ≡ true → b ≡ true
+right_of true b h = h
+right_of false b h = absurd cc
+
+module _ (c : Cell) (f : Feature) (found : List Finding) (is : found ≡ pointer_findings c f) where
+  clean : (length found == 0) ≡ (is_clean (prim_refs c f) && is_clean (dangling_ref c f) && is_clean (bad_codes c f))
+  unfolding pointer_findings
+  clean = ap (λ xs. length xs == 0) is ∙ none_found (prim_refs c f) (dangling_ref c f) (bad_codes c f)
+
+  pub judged_prim : ((f.prim == 3) && (length found == 0)) ≡ true → (f.prim == 3) ≡ true
+  judged_prim h = left_of (f.prim == 3) (length found == 0) h
+
+  all_clean : ((f.prim == 3) && (length found == 0)) ≡ true → (is_clean (prim_refs c f) && is_clean (dangling_ref c f) && is_clean (bad_codes c f)) ≡ true
+  all_clean h = sym clean ∙ right_of (f.prim == 3) (length found == 0) h
+
+  pub judged_refs : ((f.prim == 3) && (length found == 0)) ≡ true → prim_refs c f ≡ []
+  judged_refs h = is_nothing (prim_refs c f) (left_of (is_clean (prim_refs c f)) (is_clean (dangling_ref c f)) (left_of (is_clean (prim_refs c f) && is_clean (dangling_ref c f)) (is_clean (bad_codes c f)) (all_clean h)))
+
+  pub judged_targets : ((f.prim == 3) && (length found == 0)) ≡ true → dangling_ref c f ≡ []
+  judged_targets h = is_nothing (dangling_ref c f) (right_of (is_clean (prim_refs c f)) (is_clean (dangling_ref c f)) (left_of (is_clean (prim_refs c f) && is_clean (dangling_ref c f)) (is_clean (bad_codes c f)) (all_clean h)))
+
+  pub judged_codes : ((f.prim == 3) && (length found == 0)) ≡ true → bad_codes c f ≡ []
+  judged_codes h = is_nothing (bad_codes c f) (right_of (is_clean (prim_refs c f) && is_clean (dangling_ref c f)) (is_clean (bad_codes c f)) (all_clean h))
+
+  not_usable : ((f.prim == 3) && (length found == 0)) ≡ false → has_usable_boundary c f ≡ false
+  unfolding has_usable_boundary
+  not_usable h = ap (λ b. ((f.prim == 3) && b) && list_all (has_points c) f.places) (sym clean) ∙ ap (λ b. b && list_all (has_points c) f.places) h
+
+  -- another feature has no boundary to judge
+  pub not_judged : ((f.prim == 3) && (length found == 0)) ≡ false → boundary_findings c f ≡ []
+  unfolding boundary_findings
+  not_judged h =
+      let rows = boundary_of c f in
+      λ i. map (finding 15) (cond (not_usable h i) (open_ring_of rows) [])
+      ++ (map (finding 16) (cond (not_usable h i && is_clean (open_ring_of rows)) (mixed_ring_of rows) [])
+      ++ (map (finding 17) (cond (not_usable h i && has_whole_loops rows) (outer_count_of rows) [])
+      ++ map (finding 18) (cond (not_usable h i && has_whole_loops rows) (wrong_turn_of rows) [])))
+
+-- ---- all kinds
+-- three rules' findings appended one after the other
+pub pointers_appended : (c : Cell) (f : Feature) (none first second third : List Finding) → none ≡ [] → first ≡ none ++ map (finding 12) (prim_refs c f) → second ≡ first ++ map (finding 13) (dangling_ref c f)
+    → third ≡ second ++ map (finding 14) (bad_codes c f) → third ≡ pointer_findings c f
+unfolding pointer_findings
+pointers_appended c f none first second third start a b d =
+    d ∙ ap (λ xs. xs ++ map (finding 14) (bad_codes c f)) (b ∙ ap (λ xs. xs ++ map (finding 13) (dangling_ref c f)) (a ∙ ap (λ xs. xs ++ map (finding 12) (prim_refs c f)) start))
+
+regroup : (a b c d e f g h i : List Finding) → (((a ++ b ++ c) ++ (d ++ (e ++ (f ++ g)))) ++ h) ++ i ≡ a ++ (b ++ (c ++ (d ++ (e ++ (f ++ (g ++ (h ++ (i ++ []))))))))
+regroup a b c d e f g h i = ap (λ rest. (((a ++ b ++ c) ++ (d ++ (e ++ (f ++ g)))) ++ h) ++ rest) (sym (append-nil i)) ∙ simp append_assoc
+
+-- those about the pointers, the boundary, the partners and the group
+pub all_appended : (c : Cell) (f : Feature) (third fourth fifth sixth : List Finding) → third ≡ pointer_findings c f → fourth ≡ third ++ boundary_findings c f
+    → fifth ≡ fourth ++ map (finding 19) (dangling_feature c f) → sixth ≡ fifth ++ map (finding 20) (wrong_group c f) → sixth ≡ numbered_findings feature_kinds (λ rule. rule c f) 12 feature_rules
+unfolding pointer_findings boundary_findings
+all_appended c f third fourth fifth sixth pointers boundary partners group =
+    group
+    ∙ ap (λ xs. xs ++ map (finding 20) (wrong_group c f)) (partners ∙ ap (λ xs. xs ++ map (finding 19) (dangling_feature c f)) (boundary ∙ ap (λ xs. xs ++ boundary_findings c f) pointers))
+    ∙ regroup (map (finding 12) (prim_refs c f)) (map (finding 13) (dangling_ref c f)) (map (finding 14) (bad_codes c f))
+    (map (finding 15) (open_ring c f)) (map (finding 16) (mixed_ring c f)) (map (finding 17) (outer_count c f)) (map (finding 18) (wrong_turn c f))
+    (map (finding 19) (dangling_feature c f)) (map (finding 20) (wrong_group c f))

@@ -1,0 +1,2 @@
+pub mod FeatureFindings
+pub mod NextPlace

@@ -1,0 +1,46 @@
+//! The boundary of an area (S-57 Part 3, 7.6.8; Appendix B.1).
+
+ghost use Rattle.std.specs.Prelude.{◌≡◌, ◌==◌, ◌&&◌, ◌++◌, List, OnOk, Some, length};
+ghost use Rattle.s57_types.specs.declared.cell.Cell.{Cell as SpecCell};
+ghost use Rattle.s57_types.specs.declared.name.RecName.{RecName as SpecName};
+ghost use Rattle.s57_types.specs.declared.record.Rec.TheVariants.{F};
+ghost use Rattle.cell_spec.specs.declared.key.Key.{Key as SpecKey};
+ghost use Rattle.cell_spec.specs.declared.key.Subject.TheVariants.{Rec as SubjectRec};
+ghost use Rattle.cell_spec.specs.Lookup.{lookup_record};
+ghost use Rattle.rule_spec.specs.Reads.{read_set};
+ghost use Rattle.near_records.specs.Near.{IsNear};
+ghost use Rattle.check_feature.specs.FeatureKinds.{boundary_findings, pointer_findings};
+
+use cell_spec::Finding;
+use check_area::area_findings;
+use near_records::NearRecords;
+use s57_types::Feature;
+use std::alloc::{AllocError, Global};
+
+/// The geometric primitive PRIM of an area.
+const AREA: u8 = 3;
+
+/// Whether a feature is an area and nothing is found about its spatial pointers.
+fn may_be_judged(findings: &[Finding], feature: &Feature) -> bool
+    ensures { result ≡ ((feature.now.prim == 3) && (length findings.now == 0)) }
+{
+    feature.prim == AREA && findings.is_empty()
+}
+
+/// OpenRing, MixedRing, OuterCount and WrongTurn: appends their findings about a feature, where the findings about its
+/// spatial pointers are known. Only an area without those has a boundary to judge.
+pub(crate) fn push_boundary_findings(
+    alloc: Global,
+    findings: &mut Vec<Finding>,
+    near: &NearRecords,
+    feature: &Feature,
+) -> Result<(), AllocError>
+    ensures { (c : SpecCell) (n : SpecName) (keys : List SpecKey) → IsNear c keys near.now → keys ≡ read_set c (SubjectRec n) → lookup_record c n ≡ Some (F feature.now) → findings.old.items ≡ pointer_findings c feature.now → OnOk result (findings.new.items ≡ findings.old.items ++ boundary_findings c feature.now) }
+{
+    if !may_be_judged(findings.as_slice(), feature) {
+        return Ok(());
+    }
+    let found = area_findings(alloc, near, feature)?;
+    findings.extend_from_slice(&found)?;
+    Ok(())
+}

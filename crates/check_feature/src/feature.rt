@@ -1,0 +1,46 @@
+//! The findings about a feature.
+
+ghost use Rattle.std.specs.Prelude.{◌≡◌, IfOk, List, Some};
+ghost use Rattle.s57_types.specs.declared.cell.Cell.{Cell as SpecCell};
+ghost use Rattle.s57_types.specs.declared.name.RecName.{RecName as SpecName};
+ghost use Rattle.s57_types.specs.declared.record.Rec.TheVariants.{F};
+ghost use Rattle.cell_spec.specs.declared.key.Key.{Key as SpecKey};
+ghost use Rattle.cell_spec.specs.declared.key.Subject.TheVariants.{Rec as SubjectRec};
+ghost use Rattle.cell_spec.specs.Lookup.{lookup_record};
+ghost use Rattle.rule_spec.specs.Findings.{numbered_findings};
+ghost use Rattle.rule_spec.specs.Reads.{read_set};
+ghost use Rattle.rule_spec.specs.Rules.{feature_rules};
+ghost use Rattle.near_records.specs.Near.{IsNear};
+ghost use Rattle.check_feature.specs.FeatureKinds.{feature_kinds};
+
+use crate::boundary::push_boundary_findings;
+use crate::codes::push_bad_codes;
+use crate::group::push_wrong_group;
+use crate::partners::push_dangling_features;
+use crate::places::{push_dangling_refs, push_prim_refs};
+use cell_spec::Finding;
+use near_records::NearRecords;
+use s57_types::Feature;
+use std::alloc::{AllocError, Global};
+
+/// The findings about a feature, ascending by kind and numbers, where what its cell answers to the keys of its read set
+/// is near. The kinds are PrimRefs, DanglingRef, BadCodes, OpenRing, MixedRing, OuterCount, WrongTurn, DanglingFeature and
+/// WrongGroup (S-57 Part 3, 7.6; Appendix B.1).
+///
+/// An `Err` is want of memory.
+pub fn feature_findings(
+    alloc: Global,
+    near: &NearRecords,
+    feature: &Feature,
+) -> Result<Vec<Finding>, AllocError>
+    ensures { (c : SpecCell) (n : SpecName) (keys : List SpecKey) → IsNear c keys near.now → keys ≡ read_set c (SubjectRec n) → lookup_record c n ≡ Some (F feature.now) → IfOk result (λ found. found.items ≡ numbered_findings feature_kinds (λ rule. rule c feature.now) 12 feature_rules) }
+{
+    let mut findings = Vec::new(alloc);
+    push_prim_refs(&mut findings, feature)?;
+    push_dangling_refs(&mut findings, near, feature)?;
+    push_bad_codes(&mut findings, feature)?;
+    push_boundary_findings(alloc, &mut findings, near, feature)?;
+    push_dangling_features(&mut findings, near, feature)?;
+    push_wrong_group(&mut findings, feature)?;
+    Ok(findings)
+}

@@ -1,0 +1,2 @@
+pub mod NearAnswers
+pub mod ReadKeys

@@ -1,0 +1,105 @@
+-- Answers to ascending keys are found again by their keys.
+use Rattle.std.proofs.Common.{◌≡◌, ℕ, zero, suc, ◌+◌, ◌<◌, ◌≤◌, ◌⊎◌, inl, inr, true, false, true≢false, List, [], ◌∷◌, length, map, fold, get_or, refl, sym, ap, ◌∙◌, subst, arith}
+use Rattle.std.specs.List.Sorted.{IsSortedByKey, IsStrictlySortedBy, IsPartitionPoint}
+use Rattle.std.specs.Ordering.{is_eq, is_lt, match_ordering, ordering_reverse}
+use Rattle.std.specs.declared.cmp.Ordering.{Ordering}
+use Rattle.std.specs.declared.cmp.Ordering.TheVariants.{Less, Equal, Greater}
+use Rattle.std.proofs.Math.Nat.{eq-or-lt_of_le}
+use Rattle.std.proofs.lemmas.List.{get_or-map, length-map}
+use Rattle.std.proofs.lemmas.List.Elements.{All-map}
+use Rattle.std.proofs.lemmas.List.Folds.{list_any_none}
+use Rattle.std.proofs.lemmas.Map.Keys.{Less-from_sorted}
+use Rattle.s57_types.specs.declared.cell.Cell.{Cell}
+use Rattle.cell_spec.specs.declared.key.Key.{Key}
+use Rattle.cell_spec.specs.Ascending.{put_in_order, ascending}
+use Rattle.cell_spec.specs.Names.{key_order}
+use Rattle.chain_topo.proofs.Ascending.{holds-ascending, sorted-ascending}
+use Rattle.read_sets.proofs.KeyOrder.{exact_keys, total_keys}
+use Rattle.near_records.specs.Near.{KeyAnswer, answer_held, answer_to, has_key}
+use Rattle.near_records.specs.declared.near.Answer.{Answer}
+
+-- ---- an ascending list is no longer than what it is made of
+module _ {X : Type 0} (order : X → X → Ordering) where
+  put_by : (x y : X) (ys : List X) (found : Ordering) → length (put_in_order order x ys) ≤ length ys + 1
+      → length (match_ordering found (x ∷ y ∷ ys) (y ∷ ys) (y ∷ put_in_order order x ys)) ≤ length (y ∷ ys) + 1
+  put_by x y ys Less h = omega arith
+  put_by x y ys Equal h = omega arith
+  put_by x y ys Greater h = omega arith
+
+  one_put : (x : X) (ys : List X) → length (put_in_order order x ys) ≤ length ys + 1
+  one_put x [] = omega arith
+  one_put x (y ∷ ys) = put_by x y ys (order x y) (one_put x ys)
+
+  all_put : (sorted xs : List X) → length (fold (λ sorted x. put_in_order order x sorted) sorted xs) ≤ length sorted + length xs
+  all_put sorted [] = omega arith
+  all_put sorted (x ∷ xs) = omega (arith, one_put x sorted, all_put (put_in_order order x sorted) xs)
+
+  pub shorter_ascending : (xs : List X) → length (ascending order xs) ≤ length xs
+  shorter_ascending xs = omega (arith, all_put [] xs)
+
+-- ---- orders
+not_lt : (o : Ordering) → o ≡ Less → is_lt (ordering_reverse o) ≡ false
+not_lt Less e = refl
+not_lt Equal e = refl
+not_lt Greater e = absurd cc
+
+no_tie : (o : Ordering) → (o ≡ Less) ⊎ (o ≡ Greater) → is_eq (ordering_reverse o) ≡ false
+no_tie Less e = refl
+no_tie Equal (inl e) = absurd cc
+no_tie Equal (inr e) = absurd cc
+no_tie Greater e = refl
+
+side_of : (k i : ℕ) → (k < i) ⊎ (i ≤ k)
+side_of k zero = inr (omega arith)
+side_of k (suc i) = elim (side_of k i) [ inl h ↦ inl (omega (arith, h)) | inr h ↦ elim (eq-or-lt_of_le h) [ inl e ↦ inl (omega (arith, e)) | inr l ↦ inr (omega (arith, l)) ] ]
+
+-- ---- the keys of answers
+abbrev pub key_in : Answer → Key
+key_in a = a.key
+
+keys_held : (answers : List Answer) → map (λ (a : KeyAnswer). a.key) (map answer_held answers) ≡ map key_in answers
+keys_held [] = refl
+keys_held (a ∷ answers) = ap (λ keys. a.key ∷ keys) (keys_held answers)
+
+keys_asked : (c : Cell) (keys : List Key) → map (λ (a : KeyAnswer). a.key) (map (answer_to c) keys) ≡ keys
+keys_asked c [] = refl
+keys_asked c (key ∷ keys) = ap (λ rest. key ∷ rest) (keys_asked c keys)
+
+module _ (c : Cell) (keys : List Key) (answers : List Answer) (all : map answer_held answers ≡ map (answer_to c) (ascending key_order keys)) where
+  same_keys : map key_in answers ≡ ascending key_order keys
+  same_keys = sym (keys_held answers) ∙ ap (map (λ (a : KeyAnswer). a.key)) all ∙ keys_asked c (ascending key_order keys)
+
+  -- the answer whose key ties with a key is the cell's to it
+  pub answer_there : (key : Key) (k : ℕ) (a : Answer) → k < length answers → a ≡ get_or answers k a → key_order (get_or answers k a).key key ≡ Equal → answer_held a ≡ answer_to c key
+  answer_there key k a within is ties =
+      let asked = ascending key_order keys in
+      let there : k < length asked = omega (arith, within, length-map answers answer_held, ap length all, length-map asked (answer_to c)) in
+      let at : answer_held a ≡ answer_to c (get_or asked k a.key) =
+      ap answer_held is
+      ∙ sym (get_or-map answer_held answers k a (answer_held a) within)
+      ∙ ap (λ xs. get_or xs k (answer_held a)) all
+      ∙ get_or-map (answer_to c) asked k a.key (answer_held a) there in
+      let own : get_or asked k a.key ≡ key = sym (ap (λ (x : KeyAnswer). x.key) at) ∙ ap key_in is ∙ exact_keys (get_or answers k a).key key ties in
+      at ∙ ap (answer_to c) own
+
+  -- the answers ascend by their keys
+  pub answers_rise : IsSortedByKey key_in key_order answers
+  answers_rise = λ k d low within.
+      let rises : IsStrictlySortedBy key_order (map key_in answers) = subst (IsStrictlySortedBy key_order) (sym same_keys) (sorted-ascending key_order total_keys keys) in
+      let less = Less-from_sorted key_order (map key_in answers) k (k + 1) d.key rises (omega arith) (omega (arith, within, length-map answers key_in)) in
+      let first = get_or-map key_in answers k d d.key (omega (arith, within)) in
+      let next = get_or-map key_in answers (k + 1) d d.key within in
+      let below : key_order (get_or answers k d).key (get_or answers (k + 1) d).key ≡ Less = (λ i. key_order (sym first i) (sym next i)) ∙ less in
+      ap is_lt (total_keys.antisymm (get_or answers (k + 1) d).key (get_or answers k d).key) ∙ not_lt (key_order (get_or answers k d).key (get_or answers (k + 1) d).key) below
+
+  -- a key among the keys isn't missing from the answers
+  pub never_missing : (key : Key) (i : ℕ) → has_key keys key ≡ true
+      → IsPartitionPoint (λ (a : Answer). key_order a.key key ≡ Less) (λ (a : Answer). key_order a.key key ≡ Greater) answers i → ⊥
+  never_missing key i asked parts =
+      let none : has_key (map key_in answers) key ≡ false =
+      list_any_none (λ other. is_eq (key_order key other)) (map key_in answers) (All-map (λ other. is_eq (key_order key other) ≡ false) key_in answers (λ k d within.
+      let found = (get_or answers k d).key in
+      let either : (key_order found key ≡ Less) ⊎ (key_order found key ≡ Greater) =
+      elim (side_of k i) [ inl h ↦ inl (parts.0 k d (omega arith) h) | inr h ↦ inr (parts.1 k d h within) ] in
+      ap is_eq (total_keys.antisymm key found) ∙ no_tie (key_order found key) either)) in
+      true≢false (sym asked ∙ sym (holds-ascending key_order exact_keys key keys) ∙ ap (λ ks. has_key ks key) (sym same_keys) ∙ none)

@@ -1,0 +1,6 @@
+//! What a cell answers to the keys of a read set, each looked up once.
+#![tactic(auto)]
+
+mod near;
+
+pub use near::{NearRecords, gather};

@@ -1,0 +1,129 @@
+//! The answers to some keys, found again by their keys.
+
+ghost use Rattle.std.specs.Prelude.{◌≡◌, ◌+◌, ◌≤◌, IfOk, List, Some, length, map, nat_lt, option_map, true};
+ghost use Rattle.std.specs.Option.{option_copied};
+ghost use Rattle.s57_types.specs.declared.cell.Cell.{Cell as SpecCell};
+ghost use Rattle.cell_spec.specs.declared.key.Key.{Key as SpecKey};
+ghost use Rattle.cell_spec.specs.declared.key.Key.TheVariants.{Foid as KeyFoid, Name as KeyName};
+ghost use Rattle.cell_spec.specs.Ascending.{ascending};
+ghost use Rattle.cell_spec.specs.Names.{key_order};
+ghost use Rattle.cell_spec.specs.Lookup.{lookup_identity, lookup_record};
+ghost use Rattle.near_records.specs.Near.{IsNear, answer_held, answer_to as spec_answer, has_key};
+
+use cell_spec::{Key, Keys, orders_are_by_parts};
+use chain_topo::{Look, Steps};
+use read_sets::ascending_keys;
+use s57_types::{Lnam, Rec, RecName};
+use std::alloc::{AllocError, Global};
+use std::sync::ledger::Ledger;
+
+/// What a cell answers to a key: the record of a name, and whether a feature bears an identifier.
+#[derive(Drop)]
+pub(crate) struct Answer<'a> {
+    pub(crate) key: Key,
+    pub(crate) record: Option<&'a Rec>,
+    pub(crate) is_borne: bool,
+}
+
+/// What a cell answers to some keys: the record of each name, and whether a feature bears each identifier. Pointers to a
+/// record aren't kept. Each key was looked up once; to find its answer again takes no look-up.
+#[derive(Drop)]
+pub struct NearRecords<'a> {
+    pub(crate) answers: Vec<Answer<'a>>,
+}
+
+fn answer_to<'a, B: Look, L: Ledger>(look: &'a B, key: Key, steps: &mut Steps<L>) -> Answer<'a>
+    ensures answer { answer_held result ≡ spec_answer (B.cell look.now) key }
+    ensures steps { steps.new ≤ steps.old + 1 }
+{
+    match key {
+        Key::Name(name) => Answer {
+            key,
+            record: look.get(name, steps),
+            is_borne: false,
+        },
+        Key::Foid(foid) => Answer {
+            key,
+            record: None,
+            is_borne: !look.bearers(foid, steps).is_empty(),
+        },
+        Key::Refs(_) => Answer {
+            key,
+            record: None,
+            is_borne: false,
+        },
+    }
+}
+
+fn answers_to<'a, B: Look, L: Ledger>(
+    alloc: Global,
+    look: &'a B,
+    keys: &[Key],
+    steps: &mut Steps<L>,
+) -> Result<Vec<Answer<'a>>, AllocError>
+    ensures answers { IfOk result (λ answers. map answer_held answers.items ≡ map (spec_answer (B.cell look.now)) keys.now) }
+    ensures steps { steps.new ≤ steps.old + length keys.now }
+{
+    let mut answers = Vec::new(alloc);
+    for key in keys {
+        answers.push(answer_to(look, *key, steps))?;
+    }
+    Ok(answers)
+}
+
+fn ascending_copy(alloc: Global, keys: &[Key]) -> Result<Keys, AllocError>
+    ensures { IfOk result (λ held. held ≡ ascending key_order keys.now) }
+{
+    let mut held = Vec::new(alloc);
+    held.extend_from_slice(keys)?;
+    Ok(ascending_keys(held))
+}
+
+/// What the cell answers to the keys, each looked up once.
+///
+/// An `Err` is want of memory.
+pub fn gather<'a, B: Look, L: Ledger>(
+    alloc: Global,
+    look: &'a B,
+    keys: &[Key],
+    steps: &mut Steps<L>,
+) -> Result<NearRecords<'a>, AllocError>
+    ensures near { IfOk result (λ near. IsNear (B.cell look.now) keys.now near) }
+    ensures steps { steps.new ≤ steps.old + length keys.now }
+{
+    let held = ascending_copy(alloc, keys)?;
+    let answers = answers_to(alloc, look, held.as_slice(), steps)?;
+    Ok(NearRecords { answers })
+}
+
+fn find_answer<'a, 'b>(answers: &'b [Answer<'a>], key: Key) -> Option<&'b Answer<'a>>
+    ensures { (c : SpecCell) (keys : List SpecKey) → map answer_held answers.now ≡ map (spec_answer c) (ascending key_order keys) → has_key keys key ≡ true → option_map answer_held (option_copied result) ≡ Some (spec_answer c key) }
+{
+    orders_are_by_parts();
+    match answers.binary_search_by_key(&key, |answer| answer.key) {
+        Ok(k) => Some(&answers[k]),
+        Err(_) => None,
+    }
+}
+
+impl<'a> NearRecords<'a> {
+    /// The record of a name among the keys, or none.
+    pub fn record(&self, name: RecName) -> Option<&'a Rec>
+        ensures { (c : SpecCell) (keys : List SpecKey) → IsNear c keys self.now → has_key keys (KeyName name) ≡ true → option_copied result ≡ lookup_record c name }
+    {
+        match find_answer(&self.answers, Key::Name(name)) {
+            Some(answer) => answer.record,
+            None => None,
+        }
+    }
+
+    /// Whether a feature bears an identifier among the keys.
+    pub fn is_borne(&self, foid: Lnam) -> bool
+        ensures { (c : SpecCell) (keys : List SpecKey) → IsNear c keys self.now → has_key keys (KeyFoid foid) ≡ true → result ≡ nat_lt 0 (length (lookup_identity c foid)) }
+    {
+        match find_answer(&self.answers, Key::Foid(foid)) {
+            Some(answer) => answer.is_borne,
+            None => false,
+        }
+    }
+}
