@@ -12,3 +12,6 @@ pub use area::area_findings;
 pub use line::LineEnd;
 pub use part::Part;
 pub use sweep::LineSweep;
+
+#[cfg(test)]
+mod tests;
