@@ -56,8 +56,9 @@ const NODES: [Point; 8] = [
     (20, 20),
 ];
 
-// Edges 1 to 12, by their beginning node, their end node and their points: the sides of the square, the sides of the triangle, a
-// closed square at node 8, two ways from node 1 to node 3, a closed square at node 1, and an edge to a node that isn't there.
+// Edges 1 to 12, by their beginning node, their end node and their points: the sides of the square, the sides of the
+// triangle, a closed square at node 8, two ways from node 1 to node 3, a closed square at node 1, and an edge to a node
+// that isn't there.
 const EDGES: [(u32, u32, &[Point]); 12] = [
     (1, 2, &[]),
     (2, 3, &[]),
@@ -206,7 +207,8 @@ fn judged<L: Ledger>(
     area_findings(alloc, &near, feature)
 }
 
-// Checks what is found of the area with these places, each with the number of an edge, an orientation and a usage: the kinds and their numbers.
+// Checks the kinds and the numbers of what is found of the area with these places, each with the number of an edge, an
+// orientation and a usage.
 fn check(
     rt: &impl Abort,
     points: &[Point],
