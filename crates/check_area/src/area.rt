@@ -103,8 +103,8 @@ fn part_at(
     Ok(Some(part))
 }
 
-/// The parts of a boundary in the order of its spatial pointers, if each of these names an edge with points. An edge that is
-/// named more than once is summed once.
+/// The parts of a boundary in the order of its spatial pointers, if each of these names an edge with points. An edge
+/// that is named more than once is summed once.
 fn parts_of(
     alloc: Global,
     near: &NearRecords,
@@ -124,10 +124,10 @@ fn parts_of(
     Ok(Some(parts))
 }
 
-/// The findings about the boundary of an area: OpenRing, MixedRing, OuterCount and WrongTurn, in the order of their kinds and places
-/// (S-57 Part 3, 7.6.8; Appendix B.1). The feature is an area whose spatial pointers fit its primitive, name records
-/// of the cell and have their codes; where one of these isn't an edge with points, nothing is found. `near` holds what the
-/// cell answers to the feature's read set.
+/// The findings about the boundary of an area: OpenRing, MixedRing, OuterCount and WrongTurn, in the order of their
+/// kinds and places (S-57 Part 3, 7.6.8; Appendix B.1). The feature is an area whose spatial pointers fit its
+/// primitive, name records of the cell and have their codes; where one of these isn't an edge with points, nothing is
+/// found. `near` holds what the cell answers to the feature's read set.
 ///
 /// An `Err` is want of memory.
 pub fn area_findings(

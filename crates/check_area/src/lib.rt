@@ -9,6 +9,6 @@ mod ring;
 mod sweep;
 
 pub use area::area_findings;
-pub use line::LineEnd;
-pub use part::Part;
-pub use sweep::LineSweep;
+
+#[cfg(test)]
+mod tests;

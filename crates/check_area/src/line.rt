@@ -20,10 +20,10 @@ use s57_types::{End, Kind, Rec, RecName, Vector};
 use std::alloc::AllocError;
 
 /// A node at an end of a line, and its position.
-#[derive(Clone, Copy, Debug, PartialEq, Eq)]
-pub struct LineEnd {
-    pub node: RecName,
-    pub at: Point,
+#[derive(Clone, Copy)]
+pub(crate) struct LineEnd {
+    pub(crate) node: RecName,
+    pub(crate) at: Point,
 }
 
 fn the_only<T: Copy>(items: &[T]) -> Option<T>

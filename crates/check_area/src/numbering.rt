@@ -12,8 +12,9 @@ pub(crate) fn number(n: usize) -> Result<u32, AllocError>
     u32::try_from(n).map_err(|_| AllocError)
 }
 
-/// A sum of areas. A step between two points is at most 2^63, so 128 bits hold the sum of 2^64 steps; more of them, which
-/// take more pointers and points than there is memory for, are answered with want of memory.
+/// A sum of areas. A step between two points is at most 2^63, so 128 bits hold the sum of 2^64 steps. A boundary has
+/// fewer than 2^32 pointers, so a greater sum would need a line of 2^32 points, over 32 gigabytes in one record, and is
+/// answered with want of memory.
 pub(crate) fn plus(a: i128, b: i128) -> Result<i128, AllocError>
     ensures { IfOk result (λ sum. sum ≡ a +ℤ b) }
 {

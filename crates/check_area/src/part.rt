@@ -8,16 +8,17 @@ use crate::numbering::plus;
 use crate::sweep::{LineSweep, Way, way_to};
 use std::alloc::AllocError;
 
-/// The usage (USAG) of an interior boundary. Every other, also that of a boundary cut off by the data limit, is exterior.
+/// The usage (USAG) of an interior boundary. Every other, also that of a boundary cut off by the data limit, is
+/// exterior.
 const INTERIOR: u8 = 2;
 
-/// A part of an area's boundary: the place of its spatial pointer from 1, its usage indicator (USAG), and its line in the
-/// pointer's direction.
-#[derive(Clone, Copy, Debug, PartialEq, Eq)]
-pub struct Part {
-    pub place: u32,
-    pub usag: u8,
-    pub sweep: LineSweep,
+/// A part of an area's boundary: the place of its spatial pointer from 1, its usage indicator (USAG), and its line in
+/// the pointer's direction.
+#[derive(Clone, Copy)]
+pub(crate) struct Part {
+    pub(crate) place: u32,
+    pub(crate) usag: u8,
+    pub(crate) sweep: LineSweep,
 }
 
 /// Whether every part of a loop is interior.

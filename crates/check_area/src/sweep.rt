@@ -12,13 +12,13 @@ use std::alloc::AllocError;
 /// What the loops of a boundary need of a line: its beginning node and its end node, its first and its last point, and
 /// twice the signed area that the way from the one to the other sweeps, seen from the origin, in square coordinate
 /// units.
-#[derive(Clone, Copy, Debug, PartialEq, Eq)]
-pub struct LineSweep {
-    pub begins: RecName,
-    pub ends: RecName,
-    pub first: Point,
-    pub last: Point,
-    pub swept: i128,
+#[derive(Clone, Copy)]
+pub(crate) struct LineSweep {
+    pub(crate) begins: RecName,
+    pub(crate) ends: RecName,
+    pub(crate) first: Point,
+    pub(crate) last: Point,
+    pub(crate) swept: i128,
 }
 
 /// The same line from its end to its beginning.
