@@ -12,6 +12,7 @@ use Rattle.rule_spec.specs.Features.{bad_codes, dangling_feature, dangling_ref, 
 use Rattle.rule_spec.specs.Findings.{finding, numbered_findings}
 use Rattle.rule_spec.specs.Rule.{Found}
 use Rattle.rule_spec.specs.Rules.{feature_rules}
+use Rattle.check_area.proofs.Rows.{rules_unusable}
 use Rattle.check_feature.specs.FeatureKinds.{boundary_findings, feature_kinds, pointer_findings}
 
 -- ---- an area is judged where nothing is found about its spatial pointers
@@ -76,10 +77,7 @@ module _ (c : Cell) (f : Feature) (found : List Finding) (is : found ≡ pointer
   unfolding boundary_findings
   not_judged h =
       let rows = boundary_of c f in
-      λ i. map (finding 15) (cond (not_usable h i) (open_ring_of rows) [])
-      ++ (map (finding 16) (cond (not_usable h i && is_clean (open_ring_of rows)) (mixed_ring_of rows) [])
-      ++ (map (finding 17) (cond (not_usable h i && has_whole_loops rows) (outer_count_of rows) [])
-      ++ map (finding 18) (cond (not_usable h i && has_whole_loops rows) (wrong_turn_of rows) [])))
+      rules_unusable (has_usable_boundary c f) (open_ring_of rows) (mixed_ring_of rows) (outer_count_of rows) (wrong_turn_of rows) (not_usable h)
 
 -- ---- all kinds
 -- three rules' findings appended one after the other
