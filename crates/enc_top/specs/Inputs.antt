@@ -41,7 +41,7 @@ content_of limit name (Some content) = if nat_lt limit (length content) then Err
 abbrev pub FileIs : ℕ → List ℕ → Files → Result (List ℕ) Status → Type 0
 FileIs limit name files answer = content_of limit name (files name) ≡ answer
 
--- a cell with not too many findings of the kinds that are built
+-- a cell with not too many findings
 abbrev pub judged_cell : Cell → Result Cell Status
 judged_cell c = if nat_lt finding_limit (finding_total all_kinds c) then Err TooManyFindings else Ok c
 

@@ -13,7 +13,7 @@ use Rattle.report_text.specs.declared.seen.Seen.{Seen}
 abbrev pub seen_among : ℕ → List SubjectFinding → Seen
 seen_among limit findings = record { total = length findings; first = take limit findings }
 
--- of the findings of a cell, of the kinds that are built
+-- of the findings of a cell
 abbrev pub seen_of : ℕ → Cell → Seen
 seen_of limit c = seen_among limit (findings_of_rows (all_findings all_kinds c))
 

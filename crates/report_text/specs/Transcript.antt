@@ -23,7 +23,7 @@ local_lines at base drafted Drop = draft_line drafted
 local_lines at base drafted (Findings shown) = list_lines all_kinds base shown (at base)
 local_lines at base drafted (Push edit) = draft_line drafted
 
--- the lines of commands, with findings of the kinds that are built
+-- the lines of commands, with findings of all kinds
 unfoldable pub transcript : (ℕ → Cell) → ℕ → ℕ → List Command → List Reply → List ℕ
 transcript at base drafted commands replies = transcript_from all_kinds at base drafted commands replies
 
