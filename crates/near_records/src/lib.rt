@@ -4,3 +4,6 @@
 mod near;
 
 pub use near::{NearRecords, gather};
+
+#[cfg(test)]
+mod tests;
