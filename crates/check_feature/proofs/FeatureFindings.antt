@@ -1,5 +1,5 @@
 -- The findings about a feature, kind after kind.
-use Rattle.std.proofs.Common.{◌≡◌, Bool, true, false, ◌&&◌, List, [], ◌∷◌, ◌++◌, length, map, cond, refl, sym, ap, ◌∙◌, append_assoc, arith}
+use Rattle.std.proofs.Common.{◌≡◌, Bool, true, false, ◌&&◌, List, [], ◌∷◌, ◌++◌, length, map, refl, sym, ap, ◌∙◌, append_assoc, arith}
 use Rattle.std.specs.Prelude.{◌==◌}
 use Rattle.std.specs.List.{list_all}
 use Rattle.std.proofs.lemmas.Bool.Decides.{nat_tests}
@@ -7,7 +7,7 @@ use Rattle.std.proofs.lemmas.List.{append-nil}
 use Rattle.s57_types.specs.declared.record.Feature.{Feature}
 use Rattle.s57_types.specs.declared.cell.Cell.{Cell}
 use Rattle.cell_spec.specs.declared.finding.Finding.{Finding}
-use Rattle.rule_spec.specs.Boundary.{boundary_of, has_points, has_usable_boundary, has_whole_loops, is_clean, mixed_ring, mixed_ring_of, open_ring, open_ring_of, outer_count, outer_count_of, wrong_turn, wrong_turn_of}
+use Rattle.rule_spec.specs.Boundary.{boundary_of, has_points, has_usable_boundary, is_clean, mixed_ring, mixed_ring_of, open_ring, open_ring_of, outer_count, outer_count_of, wrong_turn, wrong_turn_of}
 use Rattle.rule_spec.specs.Features.{bad_codes, dangling_feature, dangling_ref, prim_refs, wrong_group}
 use Rattle.rule_spec.specs.Findings.{finding, numbered_findings}
 use Rattle.rule_spec.specs.Rule.{Found}

@@ -11,14 +11,12 @@ ghost use Rattle.rule_spec.specs.Reads.{read_set};
 ghost use Rattle.near_records.specs.Near.{IsNear};
 ghost use Rattle.check_feature.specs.FeatureKinds.{boundary_findings, pointer_findings};
 
+use crate::group::AREA;
 use cell_spec::Finding;
 use check_area::area_findings;
 use near_records::NearRecords;
 use s57_types::Feature;
 use std::alloc::{AllocError, Global};
-
-/// The geometric primitive PRIM of an area.
-const AREA: u8 = 3;
 
 /// Whether a feature is an area and nothing is found about its spatial pointers.
 fn may_be_judged(findings: &[Finding], feature: &Feature) -> bool

@@ -14,7 +14,7 @@ use std::alloc::AllocError;
 const WRONG_GROUP: u8 = 20;
 
 /// The geometric primitive PRIM of an area.
-const AREA: u8 = 3;
+pub(crate) const AREA: u8 = 3;
 
 /// The group GRUP of the skin of the earth.
 const SKIN: u8 = 1;
