@@ -94,7 +94,19 @@ fn push_wild_edge(alloc: Global, drawn: &mut Drawn, id: u32) -> Result<(), Fail>
     drawn.push("\n")
 }
 
-/// The edges: 20 closed ones, 20 twos between the same nodes, and others.
+/// Two edges on the same straight way, and one with a point twice.
+fn push_twins(alloc: Global, drawn: &mut Drawn, id: u32, node: u32) -> Result<(), Fail> {
+    let nodes = (node, node.saturating_add(1));
+    push_edge(alloc, drawn, id, nodes, 0)?;
+    push_edge(alloc, drawn, id.saturating_add(1), nodes, 0)?;
+    let (first, last) = nodes;
+    drawn.push(&format!(in alloc;
+        "add ve {} 1 e=vc:{first}:255:255:1:255 e=vc:{last}:255:255:2:255 p=5,5 p=5,5\n",
+        id.saturating_add(2)
+    )?)
+}
+
+/// The edges: 20 closed ones, 20 twos between the same nodes, twins, and others.
 fn push_edges(alloc: Global, drawn: &mut Drawn) -> Result<(), Fail> {
     for id in 1..21u32 {
         push_edge(alloc, drawn, id, (id, id), 2)?;
@@ -108,7 +120,11 @@ fn push_edges(alloc: Global, drawn: &mut Drawn) -> Result<(), Fail> {
         };
         push_edge(alloc, drawn, id, nodes, 1)?;
     }
-    for id in 61..301u32 {
+    for k in 0..3u32 {
+        let id = k.saturating_mul(3).saturating_add(61);
+        push_twins(alloc, drawn, id, k.saturating_mul(2).saturating_add(150))?;
+    }
+    for id in 70..301u32 {
         let nodes = (drawn.below(260), drawn.below(260));
         let points = drawn.below(3);
         match drawn.below(5) {
