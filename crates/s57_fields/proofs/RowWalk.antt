@@ -1,6 +1,6 @@
 -- Rows that are cut one after the other, as a loop does.
-use Rattle.std.proofs.Common.{◌≡◌, ℕ, suc, ◌<◌, ◌&&◌, Bool, true, false, List, [], ◌∷◌, ◌++◌, length, Option, Some, None, refl, sym, ap, ◌∙◌, append_assoc, arith}
-use Rattle.std.proofs.lemmas.List.{append-nil}
+use Rattle.std.proofs.Common.{◌≡◌, ℕ, suc, ◌+◌, ◌-◌, ◌<◌, ◌≤◌, ◌&&◌, Bool, true, false, List, [], ◌∷◌, ◌++◌, length, take, set, Option, Some, None, refl, sym, ap, ◌∙◌, append_assoc, arith}
+use Rattle.std.proofs.lemmas.List.{append-nil, take_more_set}
 use Rattle.s57_types.specs.Subfield.{Form, Subfield}
 use Rattle.s57_fields.specs.RowCutting.{take_row, with_front, rows_after, rows_from}
 
@@ -53,3 +53,20 @@ pub is_done : {X : Type 0} (forms : List Form) (good : List Subfield → Bool) (
 unfolding rows_from
 is_done forms good value front plain total k [] none so_far = sym so_far ∙ pair (front ++ []) front (plain && true) plain (append-nil front) (and_true plain)
 is_done forms good value front plain total k (c ∷ b) none so_far = absurd (omega arith)
+
+-- the next row is written over a place
+pub writes_on : {X : Type 0} (forms : List Form) (good : List Subfield → Bool) (value : List Subfield → X) (rows : List X) (place : ℕ) (plain : Bool) (total : Option (List X × Bool)) (size : ℕ) (rest : List ℕ)
+    (x : X) (is_plain : Bool) (after : List ℕ)
+    → place < length rows → length rest + place ≤ size → length after < length rest → take_row forms good value rest ≡ Some (x, is_plain, after)
+    → with_front (take place rows) plain (rows_from forms good value (size - place) rest) ≡ total
+    → with_front (take (place + 1) (set rows place x)) (plain && is_plain) (rows_from forms good value (size - (place + 1)) after) ≡ total
+writes_on forms good value rows place plain total size rest x is_plain after within room shorter taken so_far =
+    let left : size - place ≡ suc (size - (place + 1)) = omega (arith, room, shorter) in
+    let some : 0 < length rest = omega (arith, shorter) in
+    ap (λ front. with_front front (plain && is_plain) (rows_from forms good value (size - (place + 1)) after)) (take_more_set rows place x within)
+    ∙ goes_on forms good value (take place rows) plain total (size - place) (size - (place + 1)) rest x is_plain after some left taken so_far
+
+-- no row stands in front
+pub begins : {X : Type 0} (total : Option (List X × Bool)) → with_front [] true total ≡ total
+begins None = refl
+begins (Some rows) = refl

@@ -13,12 +13,12 @@ ghost use Rattle.s57_fields.specs.RowCutting.{take_row};
 
 use crate::cut::{field_body, take_text, take_u8, take_u16, take_u32};
 use crate::refusal::FieldRefusal;
-use crate::rows::{FieldRow, read_rows};
+use crate::rows::{FieldRow, read_many_rows, read_rows};
 use crate::spell::{Value, put_row};
 use crate::text::{WIDE_LEVEL, is_plain_level_text, is_plain_text, owned_text, take_level_text};
 use crate::vector::{rcnm_of, vector_kind};
 use crate::write::{write_row, write_rows};
-use s57_types::{Attr, Attrs, Frid, Lnam, Partner, Partners, Places, RecName, Spot};
+use s57_types::{Attr, Attrs, Frid, Kind, Lnam, Partner, Partners, Places, RecName, Spot};
 use std::alloc::{AllocError, Global};
 
 /// The record name RCNM of a feature record (S-57 Part 3, 2.2).
@@ -345,12 +345,23 @@ impl FieldRow for Spot {
     }
 }
 
+// A pointer over which pointers are written.
+const BLANK_SPOT: Spot = Spot {
+    to: RecName {
+        kind: Kind::Vi,
+        id: 0,
+    },
+    ornt: 0,
+    usag: 0,
+    mask: 0,
+};
+
 /// The pointers of a feature record to vector records, the field FSPT.
 #[tactic(auto, unfolding(field_spec::specs::Contents::place_content))]
 pub fn read_fspt(alloc: Global, bytes: &[u8]) -> Result<Places, FieldRefusal>
     ensures { Gives result (place_content bytes.now) }
 {
-    read_rows(alloc, 0, bytes)
+    read_many_rows(alloc, 0, bytes, BLANK_SPOT)
 }
 
 /// Appends the pointers of a feature record to vector records, the field FSPT.

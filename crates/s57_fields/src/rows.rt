@@ -1,11 +1,11 @@
 //! Fields whose row repeats.
 
-ghost use Rattle.std.specs.Prelude.{◌≡◌, ◌<◌, ◌≤◌, ◌++◌, Bool, List, ℕ, length, IfOk, IfSome, OnOk};
+ghost use Rattle.std.specs.Prelude.{◌≡◌, ◌+◌, ◌-◌, ◌<◌, ◌≤◌, ◌++◌, Bool, List, ℕ, length, IfOk, IfSome, OnOk};
 ghost use Rattle.std.specs.Option.{option_map};
 ghost use Rattle.s57_types.specs.Subfield.{Form, Subfield, row_bytes};
 ghost use Rattle.field_spec.specs.Contents.{rows_as};
 ghost use Rattle.s57_fields.specs.Gives.{Gives};
-ghost use Rattle.s57_fields.specs.RowCutting.{take_row, rows_from, content_of_rows};
+ghost use Rattle.s57_fields.specs.RowCutting.{take_row, rows_from, with_front, content_of_rows};
 
 use crate::cut::field_body_at;
 use crate::refusal::FieldRefusal;
@@ -45,6 +45,7 @@ pub trait FieldRow: Drop + Sized {
 }
 
 /// The rows of a field.
+#[tactic(auto, using(crate::proofs::RowWalk::begins))]
 pub fn read_rows<R: FieldRow>(
     alloc: Global,
     level: u8,
@@ -55,16 +56,66 @@ pub fn read_rows<R: FieldRow>(
     let Some(body) = field_body_at(level, bytes) else {
         return Err(FieldRefusal::BadField);
     };
-    body_rows(alloc, level, body)
+    other_rows(alloc, level, body, Items::make(alloc), true, body)
 }
 
-/// The rows of a field before its terminator. A text that isn't plain counts after all rows are whole.
-fn body_rows<R: FieldRow>(alloc: Global, level: u8, body: &[u8]) -> Result<Items<R>, FieldRefusal>
+/// The rows of a field, with the memory for all of them taken at once: it is filled with copies of `blank`, and the rows
+/// are written over them.
+pub fn read_many_rows<R: FieldRow + Copy>(
+    alloc: Global,
+    level: u8,
+    bytes: &[u8],
+    blank: R,
+) -> Result<Items<R>, FieldRefusal>
+    ensures { Gives result (rows_as R.value level (R.forms level) R.good bytes.now) }
+{
+    let Some(body) = field_body_at(level, bytes) else {
+        return Err(FieldRefusal::BadField);
+    };
+    let count = body.len().checked_div(R::least_size()).unwrap_or(0);
+    let mut rows = Vec::new(alloc);
+    rows.resize(count, blank)?;
+    written_rows(alloc, level, body, rows)
+}
+
+/// The rows of a field before its terminator, the first of which are written over a list.
+#[tactic(auto, using(crate::proofs::RowWalk::begins))]
+fn written_rows<R: FieldRow>(
+    alloc: Global,
+    level: u8,
+    body: &[u8],
+    mut rows: Vec<R>,
+) -> Result<Items<R>, FieldRefusal>
     ensures { Gives result (content_of_rows (rows_from (R.forms level) R.good R.value (length body.now) body.now)) }
 {
-    let mut rows = Items::make(alloc);
     let mut all_plain = true;
     let mut rest = body;
+    for place in 0..rows.len() {
+        let Some((row, is_plain, after)) = R::take_front(alloc, level, rest)? else {
+            rows.truncate(place);
+            return other_rows(alloc, level, body, Items::of_vec(rows), all_plain, rest);
+        };
+        rows[place] = row;
+        all_plain &= is_plain;
+        rest = after;
+    }
+    other_rows(alloc, level, body, Items::of_vec(rows), all_plain, rest)
+}
+
+/// The rows of a field before its terminator, of which the first are cut. A text that isn't plain counts after all rows
+/// are whole.
+fn other_rows<R: FieldRow>(
+    alloc: Global,
+    level: u8,
+    body: &[u8],
+    mut rows: Items<R>,
+    mut all_plain: bool,
+    mut rest: &[u8],
+) -> Result<Items<R>, FieldRefusal>
+    requires walk { with_front rows all_plain (rows_from (R.forms level) R.good R.value (length body.now - length rows) rest.now) ≡ rows_from (R.forms level) R.good R.value (length body.now) body.now }
+    requires room { length rest.now + length rows ≤ length body.now }
+    ensures { Gives result (content_of_rows (rows_from (R.forms level) R.good R.value (length body.now) body.now)) }
+{
     while !rest.is_empty() {
         let Some((row, is_plain, after)) = R::take_front(alloc, level, rest)? else {
             return Err(FieldRefusal::BadField);

@@ -12,7 +12,7 @@ ghost use Rattle.s57_fields.specs.RowCutting.{take_row};
 
 use crate::cut::{field_body, take_i32, take_u8, take_u16, take_u32};
 use crate::refusal::FieldRefusal;
-use crate::rows::{FieldRow, read_rows};
+use crate::rows::{FieldRow, read_many_rows, read_rows};
 use crate::spell::{Value, put_row, put_three_signed, put_two_signed};
 use crate::write::{write_row, write_rows};
 use s57_types::{Attrs, Deep, End, Ends, Kind, Plane, RecName, Vrid};
@@ -170,12 +170,24 @@ impl FieldRow for End {
     }
 }
 
+// A pointer over which pointers are written.
+const BLANK_END: End = End {
+    to: RecName {
+        kind: Kind::Vi,
+        id: 0,
+    },
+    ornt: 0,
+    usag: 0,
+    topi: 0,
+    mask: 0,
+};
+
 /// The pointers of a vector record, the field VRPT.
 #[tactic(auto, unfolding(field_spec::specs::Contents::end_content))]
 pub fn read_vrpt(alloc: Global, bytes: &[u8]) -> Result<Ends, FieldRefusal>
     ensures { Gives result (end_content bytes.now) }
 {
-    read_rows(alloc, 0, bytes)
+    read_many_rows(alloc, 0, bytes, BLANK_END)
 }
 
 /// Appends the pointers of a vector record, the field VRPT.
@@ -234,7 +246,7 @@ impl FieldRow for (i32, i32) {
 pub fn read_sg2d(alloc: Global, bytes: &[u8]) -> Result<Plane, FieldRefusal>
     ensures { Gives result (plane_content bytes.now) }
 {
-    read_rows(alloc, 0, bytes)
+    read_many_rows(alloc, 0, bytes, (0, 0))
 }
 
 /// Appends the 2-D coordinates of a vector record, the field SG2D.
@@ -294,7 +306,7 @@ impl FieldRow for (i32, i32, i32) {
 pub fn read_sg3d(alloc: Global, bytes: &[u8]) -> Result<Deep, FieldRefusal>
     ensures { Gives result (deep_content bytes.now) }
 {
-    read_rows(alloc, 0, bytes)
+    read_many_rows(alloc, 0, bytes, (0, 0, 0))
 }
 
 /// Appends the soundings of a vector record, the field SG3D.

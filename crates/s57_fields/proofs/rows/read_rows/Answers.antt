@@ -4,4 +4,4 @@ use Rattle.s57_fields.proofs.rows.read_rows.Goals as goal
 
 pub returns : goal.returns
 returns g c = let r = g.R.FieldRow in
-    rw (rows_as-body r.value c.args.level (r.forms c.args.level) r.good c.args.bytes.now c.in-Some.body.now (sym c.in-Some.ensures)) c.body_rows.ensures
+    rw (rows_as-body r.value c.args.level (r.forms c.args.level) r.good c.args.bytes.now c.in-Some.body.now (sym c.in-Some.ensures)) c.other_rows.ensures

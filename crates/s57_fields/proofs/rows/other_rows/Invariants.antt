@@ -1,6 +1,6 @@
 use Rattle.std.proofs.Common.{◌≡◌, ◌≤◌, ◌+◌, ◌-◌, length}
 use Rattle.s57_fields.specs.RowCutting.{rows_from, with_front}
-use Rattle.s57_fields.proofs.rows.body_rows.Given as goal
+use Rattle.s57_fields.proofs.rows.other_rows.Given as goal
 
 abbrev pub invariant-loop-rest : goal.invariant-loop-rest
 invariant-loop-rest g l = let r = g.R.FieldRow in record {

@@ -1,7 +1,7 @@
 use Rattle.std.proofs.Common.{◌≡◌, ◌-◌, ◌<◌, ◌++◌, ◌∷◌, [], suc, length, length-append, arith, None, Some, sym, ap, refl}
 use Rattle.s57_fields.specs.RowCutting.{rows_from, take_row, content_of_rows}
 use Rattle.s57_fields.proofs.RowWalk.{goes_on, stops, is_done}
-use Rattle.s57_fields.proofs.rows.body_rows.Goals as goal
+use Rattle.s57_fields.proofs.rows.other_rows.Goals as goal
 
 pub returns-in_default : goal.returns-in_default
 returns-in_default g c = let r = g.R.FieldRow in let forms = r.forms c.args.level in let body = c.args.body.now in let rows = c.loop-rest.rows in
