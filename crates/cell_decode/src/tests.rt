@@ -52,13 +52,14 @@ fn read(alloc: Global, file: &[u8]) -> Result<Cell, ReadRefusal> {
     read_cell(alloc, file)
 }
 
-/// The refusal of a file whose last records begin with that of a number, which is 2, 3 or 4, behind good ones.
+/// The refusal of a file whose last records begin with that of a number, from 1 to 4, behind good ones.
 fn fault_of_last(
     alloc: Global,
     number: u32,
     records: &[&[u8]],
 ) -> Result<Option<ReadRefusal>, AllocError> {
     let before: [&[u8]; 3] = match number {
+        1 => [NOTHING, NOTHING, NOTHING],
         2 => [DESCRIPTIVE, NOTHING, NOTHING],
         3 => [DESCRIPTIVE, GENERAL, NOTHING],
         _ => [DESCRIPTIVE, GENERAL, GEOGRAPHIC],

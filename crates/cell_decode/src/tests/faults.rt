@@ -34,6 +34,15 @@ const BAD_DIRECTORY_OF_OTHER: [&[u8]; 2] = [
     b"00032 D     00031   1104CATD10\x1e\x1e",
 ];
 
+/// Descriptive records: one that is cut short and whose directory has no end; such a directory.
+const CUT_SHORT_FIRST: [&[u8]; 2] = [
+    b"00041 L     00031   1104VRID90\x1fn\x01\x00\x00\x00\x01\x00\x01\x1e",
+    b"00040 L     00031   1104VRID90\x1fn\x01\x00\x00\x00\x01\x00\x01\x1e",
+];
+
+/// A descriptive record with no field but a record identifier.
+const NO_FIELD_FIRST: &[u8] = b"00034 L     00031   1104000130\x1e\x09\x00\x1e";
+
 /// No field but the record identifier where the general information stands; a vector record there.
 const NO_FIELD: [&[u8]; 2] = [
     b"00034 D     00031   1104000130\x1e\x09\x00\x1e",
@@ -189,6 +198,28 @@ fn faults_of_a_frame_come_in_order(rt: HostRuntime) -> Result<(), Fail> {
             assert_eq!(rt; fault, refused(number, offset, second), "{first} {second}");
         }
     }
+    Ok(())
+}
+
+#[test]
+fn a_descriptive_record_has_faults_of_its_frame_alone(rt: HostRuntime) -> Result<(), Fail> {
+    let alloc = rt.alloc();
+    let [no_leader, other_start] = NO_LEADER;
+    let [cut_short, data_record] = BAD_LEADER;
+    let [both, no_end] = CUT_SHORT_FIRST;
+    for (record, code) in [
+        (no_leader, 1),
+        (other_start, 2),
+        (data_record, 2),
+        (cut_short, 1),
+        (both, 1),
+        (no_end, 3),
+    ] {
+        let fault = fault_of_last(alloc, 1, &[record])?;
+        assert_eq!(rt; fault, refused(1, 0, code), "{code} {}", record.len());
+    }
+    let fault = fault_of_last(alloc, 1, &[NO_FIELD_FIRST])?;
+    assert_eq!(rt; fault, refused(2, 34, 1));
     Ok(())
 }
 
