@@ -1,3 +1,8 @@
+mod expected;
+mod faults;
+mod liberties;
+mod long_records;
+
 use super::*;
 use s57_types::{Cell, CellFault, Rec, Vector};
 use std::alloc::{AllocError, Global};
@@ -5,6 +10,8 @@ use std::test::Fail;
 
 /// A data descriptive record without a field.
 const DESCRIPTIVE: &[u8] = b"00025 L     00025   1104\x1e";
+
+const NOTHING: &[u8] = b"";
 
 const GENERAL: &[u8] =
     b"00139 D     00049   220400010300DSID5103DSSI3654\x1e\x01\x00\x1e\x0a\x01\x00\x00\x00\x01\x05MAKE.000\x1f1\x1f0\x1f202401012024010103.1\x01\x1f2.0\x1f\x01\x01\x00\x1f\x1e\x02\x00\x00\x01\x00\x00\x00\x00\x00\x00\x00\x01\x00\x00\x00\x00\x00\x00\x00\x00\x00\x00\x00\x04\x00\x00\x00\x04\x00\x00\x00\x00\x00\x00\x00\x1e";
@@ -43,6 +50,25 @@ fn read(alloc: Global, file: &[u8]) -> Result<Cell, ReadRefusal> {
         return Err(ReadRefusal::NoMemory);
     }
     read_cell(alloc, file)
+}
+
+/// The refusal of a file whose last records begin with that of a number, from 1 to 4, behind good ones.
+fn fault_of_last(
+    alloc: Global,
+    number: u32,
+    records: &[&[u8]],
+) -> Result<Option<ReadRefusal>, AllocError> {
+    let before: [&[u8]; 3] = match number {
+        1 => [NOTHING, NOTHING, NOTHING],
+        2 => [DESCRIPTIVE, NOTHING, NOTHING],
+        3 => [DESCRIPTIVE, GENERAL, NOTHING],
+        _ => [DESCRIPTIVE, GENERAL, GEOGRAPHIC],
+    };
+    let mut file = joined(alloc, &before)?;
+    for record in records {
+        file.extend_from_slice(record)?;
+    }
+    Ok(read(alloc, &file).err())
 }
 
 fn refused(number: u32, offset: u32, code: u8) -> Option<ReadRefusal> {

@@ -1,0 +1,3 @@
+pub mod MinimalFile
+pub mod LongRecords
+pub mod MinimalLaws
