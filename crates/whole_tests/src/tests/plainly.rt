@@ -65,9 +65,9 @@ fn subjects_of(alloc: Global, cell: &Cell) -> Result<Vec<Subject>, Fail> {
 }
 
 /// The pairs of a name with greater ones; names of isolated nodes and of features are in none. The plain bodies are
-/// slow, so only every sixteenth number is taken for the first.
+/// slow, so only every sixty-fourth number is taken for the first.
 fn push_pairs(subjects: &mut Vec<Subject>, first: RecName, names: &[RecName]) -> Result<(), Fail> {
-    if !matches!(first.kind, Kind::Vc | Kind::Ve) || first.id % 16 != 0 {
+    if !matches!(first.kind, Kind::Vc | Kind::Ve) || first.id % 64 != 0 {
         return Ok(());
     }
     for name in names {
@@ -142,7 +142,7 @@ fn is_judged(line: &str) -> bool {
         return true;
     }
     let id = words.nth(1).and_then(|word| word.parse::<u32>().ok());
-    id.is_some_and(|id| id % 16 == 0)
+    id.is_some_and(|id| id % 64 == 0)
 }
 
 /// The lines about these subjects among those of a report's part that tells of a cell.
