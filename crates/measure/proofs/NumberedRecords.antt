@@ -41,9 +41,12 @@ one_more_numbered kind rs r numbered named fits =
     }
 
 -- the head of the generated cell
-pub generated_level : (n : ℕ) → (generated_cell n).head.nall ≡ 0
+pub generated_level : (c : Cell) → c ≡ generated_cell 1 → c.head.nall ≡ 0
 unfolding generated_cell
-generated_level n = refl
+generated_level c made = ap (λ cell. cell.head.nall) made
+
+pub writable_head : (c : Cell) → IsWritable c → is_fit_head c.head ≡ true
+writable_head c writable = writable.head_fits
 
 pub numbered_writable : (head : Head) (vi vc ve fe : List Rec) → is_fit_head head ≡ true → head.nall ≡ 0 → vi ≡ [] → IsNumbered Vc vc → IsNumbered Ve ve → IsNumbered Fe fe
     → length vc + length ve + length fe ≤ 262144 → IsWritable (record { head = head; vi = vi; vc = vc; ve = ve; fe = fe })

@@ -1,7 +1,9 @@
 //! Cells of connected nodes, edges and features, each kind numbered from 1.
 
-ghost use Rattle.std.specs.Prelude.{◌≡◌, IsTrue, IfOk, IfSome};
-ghost use Rattle.cell_spec.specs.Writable.{IsWritable};
+ghost use Rattle.std.specs.Prelude.{◌≡◌, ◌+◌, ◌≤◌, true, length, None, IsTrue, IfOk, IfSome};
+ghost use Rattle.s57_types.specs.Fitness.{is_fit_head, unfitness};
+ghost use Rattle.cell_spec.specs.Lookup.{name_of as spec_name};
+ghost use Rattle.cell_spec.specs.Writable.{IsWritable, record_limit};
 ghost use Rattle.file_samples.specs.Parts.{name as numbered};
 ghost use Rattle.measure.specs.Numbered.{IsNumbered};
 
@@ -11,7 +13,7 @@ use geometry_spec::Point;
 use plain_lookups::name_of;
 use record_fit::fits;
 use s57_types::{
-    Attrs, Cell, End, Feature, Items, Kind, Lnam, Partners, Rec, RecName, Recs, Spot, Vector,
+    Attrs, Cell, End, Feature, Head, Items, Kind, Lnam, Partners, Rec, RecName, Recs, Spot, Vector,
 };
 use std::alloc::{AllocError, Global};
 use std::marker::Model;
@@ -54,23 +56,48 @@ fn has_number(name: RecName, kind: Kind, number: usize) -> bool
     name.kind == kind && name.id as usize == number
 }
 
+/// A record is under the number after those of a list.
+fn is_next(list: &Recs, kind: Kind, rec: &Rec) -> bool
+    ensures { IsTrue result → spec_name rec.now ≡ numbered kind (length list.now + 1) }
+{
+    match list.len().checked_add(1) {
+        Some(number) => has_number(name_of(rec), kind, number),
+        None => false,
+    }
+}
+
+fn is_fit(rec: &Rec) -> bool
+    ensures { IsTrue result → unfitness 0 rec.now ≡ None }
+{
+    fits(rec, 0).is_ok()
+}
+
 #[tactic(auto, using(crate::proofs::NumberedRecords::one_more_numbered))]
 fn push_next(list: &mut Recs, kind: Kind, rec: Rec) -> Result<(), AllocError>
     requires { IsNumbered kind list.old }
     ensures { IsNumbered kind list.new }
 {
-    let Some(number) = list.len().checked_add(1) else {
-        return Ok(());
-    };
-    if !has_number(name_of(&rec), kind, number) {
-        return Ok(());
+    if is_next(list, kind, &rec) && is_fit(&rec) {
+        list.push(rec)?;
     }
-    match fits(&rec, 0) {
-        Ok(()) => {}
-        Err(_) => return Ok(()),
-    }
-    list.push(rec)?;
     Ok(())
+}
+
+fn are_few(nodes: &Recs, edges: &Recs, features: &Recs) -> bool
+    ensures { IsTrue result → length nodes.now + length edges.now + length features.now ≤ record_limit }
+{
+    let count = nodes.len().saturating_add(edges.len());
+    count.saturating_add(features.len()) <= RECORD_LIMIT
+}
+
+/// The head of a generated cell.
+#[tactic(auto, using(crate::proofs::NumberedRecords::generated_level, crate::proofs::NumberedRecords::writable_head))]
+fn head(alloc: Global) -> Result<Head, AllocError>
+    ensures fits { IfOk result (λ head. is_fit_head head ≡ true) }
+    ensures level { IfOk result (λ head. head.nall ≡ 0) }
+{
+    let Cell { head, .. } = make_cell(alloc, 1)?;
+    Ok(head)
 }
 
 fn end_at(topi: u8, id: u32) -> End {
@@ -174,6 +201,7 @@ impl Sheet {
     }
 
     /// The cell of these records, unless they are more than a cell has.
+    #[tactic(auto, using(crate::proofs::NumberedRecords::numbered_writable))]
     pub fn into_cell(self, alloc: Global) -> Result<Option<Cell>, AllocError>
         ensures { IfOk result (λ cell. IfSome cell IsWritable) }
     {
@@ -182,13 +210,11 @@ impl Sheet {
             edges,
             features,
         } = self;
-        let count = nodes.len().saturating_add(edges.len());
-        if count.saturating_add(features.len()) > RECORD_LIMIT {
+        if !are_few(&nodes, &edges, &features) {
             return Ok(None);
         }
-        let Cell { head, .. } = make_cell(alloc, 1)?;
         Ok(Some(Cell {
-            head,
+            head: head(alloc)?,
             vi: Recs::make(alloc),
             vc: nodes,
             ve: edges,
