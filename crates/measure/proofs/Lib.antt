@@ -1,1 +1,2 @@
-pub mod NumberedFeatures
+mod NumberedFeatures
+mod NumberedRecords

@@ -4,13 +4,20 @@
 //! standard error. The scripts in `benches/` compare the times with plain Rust.
 #![tactic(auto)]
 
+mod areas;
 mod baseline;
 mod case;
 mod cells;
+mod counted;
+mod edges;
 mod fields;
+mod findings;
+mod lines;
 mod lookups;
+mod pairs;
 mod scripts;
 mod segments;
+mod sheets;
 mod table;
 mod turns;
 
@@ -39,6 +46,10 @@ fn outcome<R: Threads + Wait + Sync>(
         Case::Fields(work) => fields::outcome(alloc, work, size),
         Case::Cells(work) => cells::outcome(alloc, work, size),
         Case::Scripts(work) => scripts::outcome(alloc, work, size),
+        Case::Edges(work) => edges::outcome(alloc, work, size),
+        Case::Pairs(work) => pairs::outcome(alloc, work, size),
+        Case::Areas(work) => areas::outcome(alloc, work, size),
+        Case::Findings(work) => findings::outcome(alloc, work, size),
     }
 }
 
