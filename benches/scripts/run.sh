@@ -1,5 +1,5 @@
 #!/usr/bin/env bash
-# Times the reading of a script of 50,000 commands and of one of 1,020,220 bytes: benches/scripts/run.sh [ROUNDS] [RUNS]. The least user
+# Times the reading of a script of 50,000 commands and of one of 1,048,576 bytes: benches/scripts/run.sh [ROUNDS] [RUNS]. The least user
 # processor time of each counts, since other work may disturb the runs.
 set -eu
 here=$(cd "$(dirname "$0")" && pwd)

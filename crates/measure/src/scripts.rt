@@ -15,7 +15,7 @@ const BYTES: usize = 1_048_576;
 pub enum Work {
     /// A script of 50,000 deletions.
     Commands,
-    /// A script of nearly 1,048,576 bytes: edges of 3,000 points.
+    /// A script of 1,048,576 bytes: edges of 3,000 points, and a shorter one.
     Bytes,
 }
 
@@ -47,9 +47,9 @@ fn deletions(alloc: Global) -> Result<Vec<u8>, AllocError> {
     Ok(text)
 }
 
-fn line_of_points(alloc: Global) -> Result<Vec<u8>, AllocError> {
+fn line_of_points(alloc: Global, points: u32) -> Result<Vec<u8>, AllocError> {
     let mut line = Vec::from_slice(alloc, b"add ve 1 1")?;
-    for _ in 0..3_000 {
+    for _ in 0..points {
         line.extend_from_slice(b" p=-500000,400000")?;
     }
     line.push(b'\n')?;
@@ -57,11 +57,14 @@ fn line_of_points(alloc: Global) -> Result<Vec<u8>, AllocError> {
 }
 
 fn edges(alloc: Global) -> Result<Vec<u8>, AllocError> {
-    let line = line_of_points(alloc)?;
+    let line = line_of_points(alloc, 3_000)?;
     let mut text = Vec::new(alloc);
     for _ in 0..20 {
         text.extend_from_slice(&line)?;
     }
+    let last = line_of_points(alloc, 1_667)?;
+    text.extend_from_slice(&last)?;
+    text.extend_from_slice(b"#end.\n")?;
     Ok(text)
 }
 
