@@ -13,6 +13,6 @@ pub fn below(state: &mut u32, limit: u32) -> u32 {
 
 /// One of some numbers.
 pub fn one_of(state: &mut u32, numbers: &[u32]) -> u32 {
-    let place = below(state, numbers.len() as u32);
-    numbers.get(place as usize).copied().unwrap_or(0)
+    let place = (draw(state) as usize).checked_rem(numbers.len());
+    numbers.get(place.unwrap_or(0)).copied().unwrap_or(0)
 }
