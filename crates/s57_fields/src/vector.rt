@@ -263,6 +263,10 @@ fn cut_deep(bytes: &[u8]) -> Option<((i32, i32, i32), &[u8])>
     ensures cut { option_map (λ x. (x.0, true, x.1.now)) result ≡ take_row deep_forms any_row deep_value bytes.now }
     ensures shorter { IfSome result (λ x. length x.1.now < length bytes.now) }
 {
+    // one test for the three numbers
+    if bytes.len() < 12 {
+        return None;
+    }
     let (y, rest) = take_i32(bytes)?;
     let (x, rest) = take_i32(rest)?;
     let (depth, rest) = take_i32(rest)?;
