@@ -1,4 +1,5 @@
 pub mod Groups
 pub mod RowWalk
 pub mod JudgedRows
+pub mod MoreBytes
 pub mod UnitLemmas

@@ -361,7 +361,7 @@ const BLANK_SPOT: Spot = Spot {
 pub fn read_fspt(alloc: Global, bytes: &[u8]) -> Result<Places, FieldRefusal>
     ensures { Gives result (place_content bytes.now) }
 {
-    read_many_rows(alloc, 0, bytes, BLANK_SPOT)
+    read_many_rows::<Spot, 8>(alloc, 0, bytes, BLANK_SPOT)
 }
 
 /// Appends the pointers of a feature record to vector records, the field FSPT.

@@ -1,6 +1,7 @@
 //! Fields whose row repeats.
 
-ghost use Rattle.std.specs.Prelude.{◌≡◌, ◌+◌, ◌-◌, ◌<◌, ◌≤◌, ◌++◌, Bool, List, ℕ, length, IfOk, IfSome, OnOk};
+ghost use Rattle.std.specs.Prelude.{◌≡◌, ◌+◌, ◌-◌, ◌/◌, ◌<◌, ◌≤◌, ◌++◌, [], Bool, List, ℕ, Some, drop, length, take, IfOk, IfSome, OnOk};
+ghost use Rattle.std.specs.Simd.{first_chunks};
 ghost use Rattle.std.specs.Option.{option_map};
 ghost use Rattle.s57_types.specs.Subfield.{Form, Subfield, row_bytes};
 ghost use Rattle.field_spec.specs.Contents.{rows_as};
@@ -60,45 +61,84 @@ pub fn read_rows<R: FieldRow>(
 }
 
 /// The rows of a field, with the memory for all of them taken at once: it is filled with copies of `blank`, and the rows
-/// are written over them.
-pub fn read_many_rows<R: FieldRow + Copy>(
+/// are written over them. Rows are first cut by chunks of `N` bytes; the others follow from the first that doesn't fill
+/// its chunk.
+pub fn read_many_rows<R: FieldRow + Copy, const N: usize>(
     alloc: Global,
     level: u8,
     bytes: &[u8],
     blank: R,
 ) -> Result<Items<R>, FieldRefusal>
+    requires { (0 < N) × (N < 100) }
     ensures { Gives result (rows_as R.value level (R.forms level) R.good bytes.now) }
 {
     let Some(body) = field_body_at(level, bytes) else {
         return Err(FieldRefusal::BadField);
     };
-    let count = body.len().checked_div(R::least_size()).unwrap_or(0);
+    let (chunks, _) = body.as_chunks::<N>();
     let mut rows = Vec::new(alloc);
-    rows.resize(count, blank)?;
-    written_rows(alloc, level, body, rows)
+    rows.resize(chunks.len(), blank)?;
+    written_rows(alloc, level, body, chunks, rows)
 }
 
-/// The rows of a field before its terminator, the first of which are written over a list.
-#[tactic(auto, using(crate::proofs::RowWalk::begins))]
-fn written_rows<R: FieldRow>(
+/// The row that fills a chunk of bytes, and whether its texts are plain.
+fn row_of_chunk<R: FieldRow>(
+    alloc: Global,
+    level: u8,
+    chunk: &[u8],
+) -> Result<Option<(R, bool)>, AllocError>
+    ensures { IfOk result (λ row. IfSome row (λ x. take_row (R.forms level) R.good R.value chunk.now ≡ Some (x.0, x.1, []))) }
+{
+    match R::take_front(alloc, level, chunk)? {
+        Some((row, is_plain, [])) => Ok(Some((row, is_plain))),
+        _ => Ok(None),
+    }
+}
+
+/// The rows of a field before its terminator, those that fill their chunks written over a list.
+fn written_rows<R: FieldRow, const N: usize>(
+    alloc: Global,
+    level: u8,
+    body: &[u8],
+    chunks: &[[u8; N]],
+    mut rows: Vec<R>,
+) -> Result<Items<R>, FieldRefusal>
+    requires size { (0 < N) × (N < 100) }
+    requires chunks { chunks.now ≡ first_chunks N (length body.now / N) body.now }
+    requires count { length rows.items ≡ length body.now / N }
+    requires chunk_count { length chunks.now ≡ length body.now / N }
+    ensures { Gives result (content_of_rows (rows_from (R.forms level) R.good R.value (length body.now) body.now)) }
+{
+    let mut all_plain = true;
+    for place in 0..chunks.len() {
+        let Some((row, is_plain)) = row_of_chunk(alloc, level, &chunks[place])? else {
+            return rows_behind(alloc, level, body, rows, all_plain, place, place * N);
+        };
+        rows[place] = row;
+        all_plain &= is_plain;
+    }
+    let count = chunks.len();
+    rows_behind(alloc, level, body, rows, all_plain, count, count * N)
+}
+
+/// The rows of a field before its terminator, of which the first `count` are written and take `size` bytes.
+fn rows_behind<R: FieldRow>(
     alloc: Global,
     level: u8,
     body: &[u8],
     mut rows: Vec<R>,
+    all_plain: bool,
+    count: usize,
+    size: usize,
 ) -> Result<Items<R>, FieldRefusal>
+    requires walk { with_front (take count rows.items) all_plain (rows_from (R.forms level) R.good R.value (length body.now - count) (drop size body.now)) ≡ rows_from (R.forms level) R.good R.value (length body.now) body.now }
+    requires written { count ≤ length rows.items }
+    requires room { count ≤ size }
+    requires within { size ≤ length body.now }
     ensures { Gives result (content_of_rows (rows_from (R.forms level) R.good R.value (length body.now) body.now)) }
 {
-    let mut all_plain = true;
-    let mut rest = body;
-    for place in 0..rows.len() {
-        let Some((row, is_plain, after)) = R::take_front(alloc, level, rest)? else {
-            rows.truncate(place);
-            return other_rows(alloc, level, body, Items::of_vec(rows), all_plain, rest);
-        };
-        rows[place] = row;
-        all_plain &= is_plain;
-        rest = after;
-    }
+    rows.truncate(count);
+    let (_, rest) = body.split_at(size);
     other_rows(alloc, level, body, Items::of_vec(rows), all_plain, rest)
 }
 

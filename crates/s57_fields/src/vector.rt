@@ -187,7 +187,7 @@ const BLANK_END: End = End {
 pub fn read_vrpt(alloc: Global, bytes: &[u8]) -> Result<Ends, FieldRefusal>
     ensures { Gives result (end_content bytes.now) }
 {
-    read_many_rows(alloc, 0, bytes, BLANK_END)
+    read_many_rows::<End, 9>(alloc, 0, bytes, BLANK_END)
 }
 
 /// Appends the pointers of a vector record, the field VRPT.
@@ -246,7 +246,7 @@ impl FieldRow for (i32, i32) {
 pub fn read_sg2d(alloc: Global, bytes: &[u8]) -> Result<Plane, FieldRefusal>
     ensures { Gives result (plane_content bytes.now) }
 {
-    read_many_rows(alloc, 0, bytes, (0, 0))
+    read_many_rows::<(i32, i32), 8>(alloc, 0, bytes, (0, 0))
 }
 
 /// Appends the 2-D coordinates of a vector record, the field SG2D.
@@ -263,10 +263,6 @@ fn cut_deep(bytes: &[u8]) -> Option<((i32, i32, i32), &[u8])>
     ensures cut { option_map (λ x. (x.0, true, x.1.now)) result ≡ take_row deep_forms any_row deep_value bytes.now }
     ensures shorter { IfSome result (λ x. length x.1.now < length bytes.now) }
 {
-    // one test for the three numbers
-    if bytes.len() < 12 {
-        return None;
-    }
     let (y, rest) = take_i32(bytes)?;
     let (x, rest) = take_i32(rest)?;
     let (depth, rest) = take_i32(rest)?;
@@ -310,7 +306,7 @@ impl FieldRow for (i32, i32, i32) {
 pub fn read_sg3d(alloc: Global, bytes: &[u8]) -> Result<Deep, FieldRefusal>
     ensures { Gives result (deep_content bytes.now) }
 {
-    read_many_rows(alloc, 0, bytes, (0, 0, 0))
+    read_many_rows::<(i32, i32, i32), 12>(alloc, 0, bytes, (0, 0, 0))
 }
 
 /// Appends the soundings of a vector record, the field SG3D.
