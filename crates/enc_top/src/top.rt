@@ -15,7 +15,7 @@ ghost use Rattle.enc_top.specs.Words.{check_among, form_of, later_form, no_form,
 use crate::inputs::{Checked, quotas_of, read_cell, read_scripts, read_sessions};
 use crate::output::finish;
 use crate::status::Status;
-use crate::words::is_later_form;
+use crate::words::{SESSION_LIMIT, is_later_form};
 use crate::work::{Export, Work};
 use cell_findings::push_cell;
 use cell_write::write_cell;
@@ -25,9 +25,6 @@ use plain_replay::replay;
 use script_text::Script;
 use std::alloc::Global;
 use std::thread::Threads;
-
-/// The most sessions of a call.
-const SESSION_LIMIT: usize = 16;
 
 /// Does what the words say: `check CELL` puts the numbers of records and all findings of the cell, and
 /// `replay CELL OUT ORDER S1 .. Sk` puts the report of running k scripts on it in the order of the order file, and then

@@ -6,13 +6,14 @@ ghost use Rattle.enc_top.specs.Words.{is_number_up_to as is_number_up_to_lem, is
 
 use itoa::Buffer;
 
-/// The greatest size of a generated cell, and the greatest number of sessions.
-const GRID_LIMIT: u32 = 100;
+/// The greatest size of a generated cell.
+const GRID_LIMIT: usize = 100;
 
-const SESSION_LIMIT: u32 = 16;
+/// The most sessions of a call.
+pub(crate) const SESSION_LIMIT: usize = 16;
 
 /// Whether a word is a number, decimal without leading zeros.
-fn is_number(word: &str, number: u32) -> bool
+fn is_number(word: &str, number: usize) -> bool
     ensures { result ≡ pointwise nat_eq (decimal number) word.now }
 {
     let mut buffer = Buffer::new();
@@ -20,7 +21,7 @@ fn is_number(word: &str, number: u32) -> bool
 }
 
 /// Whether a word is a number from 1 to a limit, decimal without leading zeros.
-fn is_number_up_to(word: &str, limit: u32) -> bool
+fn is_number_up_to(word: &str, limit: usize) -> bool
     requires { limit < 1000 }
     ensures { result ≡ is_number_up_to_lem limit word.now }
 {
