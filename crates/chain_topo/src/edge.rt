@@ -1,10 +1,13 @@
 //! The points of an edge.
 
-ghost use Rattle.std.specs.Prelude.{◌≡◌, ◌≤◌, ◌+◌, ◌∷◌, ◌++◌, ◌==◌, [], IfOk, count_by, find, option_map};
+ghost use Rattle.std.specs.Prelude.{◌≡◌, ◌≤◌, ◌+◌, ◌∷◌, ◌++◌, ◌==◌, [], IfOk, count_by, find, option_and_then, option_map};
+ghost use Rattle.s57_types.specs.declared.name.Kind.TheVariants.{Vc};
 ghost use Rattle.s57_types.specs.declared.record.End.{End as SpecEnd};
+ghost use Rattle.s57_types.specs.declared.record.Vector.{Vector as SpecVector};
+ghost use Rattle.cell_spec.specs.Names.{is_of_kind};
 ghost use Rattle.std.specs.Option.{option_copied};
 ghost use Rattle.rule_spec.specs.EdgePoints.{node_at as spec_node_at, node_position as spec_position, line_of as spec_line_of, edge_line_of, edge_points_of};
-ghost use Rattle.rule_spec.specs.Records.{edge_named as spec_edge, node_named as spec_node, the_only as spec_the_only};
+ghost use Rattle.rule_spec.specs.Records.{edge_named as spec_edge, is_edge_name, the_only as spec_the_only, vector_of};
 
 use crate::answers::Look;
 use crate::counter::Steps;
@@ -35,8 +38,9 @@ fn first_at(topi: u8, ends: &[End]) -> Option<RecName>
     ends.iter().find(|end| end.topi == topi).map(|end| end.to)
 }
 
-// The node that an edge names at its one end with a topology indicator.
-fn node_at(topi: u8, edge: &Vector) -> Option<RecName>
+/// The node that an edge names at its one end with a topology indicator TOPI (S-57 Part 3, 7.7.1.4): 1 for the beginning
+/// node, 2 for the end node. There is none where no end has it, or more than one.
+pub fn node_at(topi: u8, edge: &Vector) -> Option<RecName>
     ensures { result ≡ spec_node_at topi edge.now }
 {
     let ends = edge.ends.as_slice();
@@ -44,6 +48,26 @@ fn node_at(topi: u8, edge: &Vector) -> Option<RecName>
         return None;
     }
     first_at(topi, ends)
+}
+
+/// The edge that a record is, if it is one.
+pub fn edge_of(rec: &Rec) -> Option<&Vector>
+    ensures { option_copied result ≡ vector_of is_edge_name rec.now }
+{
+    match rec {
+        Rec::V(edge) if edge.name.kind == Kind::Ve => Some(edge),
+        _ => None,
+    }
+}
+
+/// The position of a record that is a connected node with exactly one: latitude first, in integer coordinate units.
+pub fn position_of(rec: &Rec) -> Option<Point>
+    ensures { result ≡ option_and_then (λ (node : SpecVector). spec_the_only node.plane) (vector_of (is_of_kind Vc) rec.now) }
+{
+    match rec {
+        Rec::V(node) if node.name.kind == Kind::Vc => the_only(node.plane.as_slice()),
+        _ => None,
+    }
 }
 
 fn edge_named<'a, B: Look, L: Ledger>(
@@ -54,20 +78,14 @@ fn edge_named<'a, B: Look, L: Ledger>(
     ensures found { option_copied result ≡ spec_edge (B.cell look.now) name }
     ensures step { steps.new ≡ steps.old + 1 }
 {
-    match look.get(name, steps) {
-        Some(Rec::V(edge)) if edge.name.kind == Kind::Ve => Some(edge),
-        _ => None,
-    }
+    edge_of(look.get(name, steps)?)
 }
 
 fn node_position<B: Look, L: Ledger>(look: &B, name: RecName, steps: &mut Steps<L>) -> Option<Point>
     ensures found { result ≡ spec_position (B.cell look.now) name }
     ensures step { steps.new ≡ steps.old + 1 }
 {
-    match look.get(name, steps) {
-        Some(Rec::V(node)) if node.name.kind == Kind::Vc => the_only(node.plane.as_slice()),
-        _ => None,
-    }
+    position_of(look.get(name, steps)?)
 }
 
 fn points_between(

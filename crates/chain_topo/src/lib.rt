@@ -11,7 +11,7 @@ mod sorted;
 pub use answers::Look;
 pub use cell_spec::{Finding, Findings, Key, Keys, Names, Ref, Refs, Row, Rows, Subject, Subjects};
 pub use counter::Steps;
-pub use edge::{edge_line, edge_points};
+pub use edge::{edge_line, edge_of, edge_points, node_at, position_of};
 pub use sorted::ListLook;
 
 #[cfg(test)]

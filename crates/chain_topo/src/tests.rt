@@ -349,3 +349,49 @@ fn a_look_answers_as_the_cell_does(rt: HostRuntime) -> Result<(), Fail> {
     assert!(rt; !both_there_uncounted(&look, of(Kind::Vi, 5), of(Kind::Fe, 4)));
     Ok(())
 }
+
+// An edge with one beginning node and two end nodes.
+#[test]
+fn an_edge_names_one_node_at_an_end(rt: HostRuntime) -> Result<(), Fail> {
+    let alloc = rt.alloc();
+    let ends = vec![in alloc;
+        end(1, of(Kind::Vc, 1)),
+        end(2, of(Kind::Vc, 2)),
+        end(2, of(Kind::Vc, 3)),
+    ]?;
+    let rec = vector(alloc, of(Kind::Ve, 1), ends, vec![in alloc; (3, 3)]?);
+    let Some(edge) = edge_of(&rec) else {
+        panic!(rt; "the record is no edge");
+    };
+    assert_eq!(rt; node_at(1, edge), Some(of(Kind::Vc, 1)));
+    assert_eq!(rt; node_at(2, edge), None);
+    assert_eq!(rt; position_of(&rec), None);
+    Ok(())
+}
+
+fn point_record(alloc: Global, kind: Kind, plane: &[(i32, i32)]) -> Result<Rec, AllocError> {
+    Ok(Rec::V(Vector {
+        name: of(kind, 1),
+        rver: 1,
+        attrs: Attrs::make(alloc),
+        ends: Items::make(alloc),
+        plane: Items::of_vec(plane.to_vec(alloc)?),
+        deep: Deep::make(alloc),
+    }))
+}
+
+#[test]
+fn a_connected_node_has_one_position(rt: HostRuntime) -> Result<(), Fail> {
+    let alloc = rt.alloc();
+    for (kind, plane, expected) in [
+        (Kind::Vc, [(3, 4)].as_slice(), Some((3, 4))),
+        (Kind::Vc, [(3, 4), (5, 6)].as_slice(), None),
+        (Kind::Vc, [].as_slice(), None),
+        (Kind::Vi, [(3, 4)].as_slice(), None),
+    ] {
+        let node = point_record(alloc, kind, plane)?;
+        assert_eq!(rt; position_of(&node), expected);
+        assert!(rt; edge_of(&node).is_none());
+    }
+    Ok(())
+}
