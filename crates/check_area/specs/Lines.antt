@@ -1,36 +1,26 @@
 -- The parts of an area's boundary, by the lines of its edges (S-57 Part 3, 7.6.8).
-use Rattle.std.specs.Prelude.{◌≡◌, ℕ, true, List, Option, None, Some, filter_map, option_map, option_and_then, if◌then◌else◌}
+use Rattle.std.specs.Prelude.{◌≡◌, ℕ, true, List, Option, None, Some, filter_map, option_map, if◌then◌else◌}
 use Rattle.std.specs.BTreeMap.{BTreeMap, get}
 use Rattle.std.specs.List.{All, enumerate_from, list_all}
 use Rattle.std.specs.Ordering.{nat_cmp}
-use Rattle.s57_types.specs.declared.name.Kind.TheVariants.{Vc, Ve}
+use Rattle.s57_types.specs.declared.name.Kind.TheVariants.{Ve}
 use Rattle.s57_types.specs.declared.name.RecName.{RecName}
 use Rattle.s57_types.specs.declared.record.End.{End}
-use Rattle.s57_types.specs.declared.record.Rec.{Rec}
 use Rattle.s57_types.specs.declared.record.Spot.{Spot}
 use Rattle.s57_types.specs.declared.record.Vector.{Vector}
 use Rattle.s57_types.specs.declared.cell.Cell.{Cell}
 use Rattle.cell_spec.specs.declared.key.Key.{Key}
 use Rattle.cell_spec.specs.declared.key.Key.TheVariants.{Name}
-use Rattle.cell_spec.specs.Names.{is_of_kind}
 use Rattle.geometry_spec.specs.Points.{Point}
 use Rattle.near_records.specs.Near.{has_key}
 use Rattle.rule_spec.specs.Boundary.{has_points}
 use Rattle.rule_spec.specs.EdgePoints.{edge_line_of, node_position}
 use Rattle.rule_spec.specs.Features.{target}
-use Rattle.rule_spec.specs.Records.{edge_named, is_edge_name, the_only, vector_of}
+use Rattle.rule_spec.specs.Records.{edge_named}
 use Rattle.check_area.specs.declared.line.LineEnd.{LineEnd}
 use Rattle.check_area.specs.declared.part.Part.{Part}
 use Rattle.check_area.specs.declared.sweep.LineSweep.{LineSweep}
 use Rattle.check_area.specs.Sweeps.{sweep_along, sweep_of}
-
--- the position of a record that is a connected node with exactly one
-abbrev pub position_in : Option Rec → Option Point
-position_in found = option_and_then (λ (node : Vector). the_only node.plane) (option_and_then (vector_of (is_of_kind Vc)) found)
-
--- a record that is an edge
-abbrev pub edge_in : Option Rec → Option Vector
-edge_in found = option_and_then (vector_of is_edge_name) found
 
 -- a node with its position, if it has one
 abbrev pub line_end : Cell → Option RecName → Option LineEnd

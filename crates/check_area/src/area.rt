@@ -19,12 +19,12 @@ ghost use Rattle.rule_spec.specs.Reads.{read_set};
 ghost use Rattle.check_area.specs.Lines.{AsksForLine, HoldsSweeps, edge_name, part_along as spec_part_along, part_at as spec_part_at, parts_of as spec_parts_of, sweep_named as spec_sweep_named};
 
 use crate::line::sweep_named;
-use crate::numbering::number;
 use crate::part::Part;
 use crate::ring::ring_findings;
 use crate::sweep::{LineSweep, sweep_along};
 use cell_spec::Finding;
 use near_records::NearRecords;
+use plain_lookups::number;
 use s57_types::{Feature, Kind, RecName, Spot};
 use std::alloc::{AllocError, Global};
 use std::collections::BTreeMap;

@@ -3,9 +3,9 @@
 
 mod area;
 mod line;
-mod numbering;
 mod part;
 mod ring;
+mod sums;
 mod sweep;
 
 pub use area::area_findings;

@@ -1,6 +1,6 @@
 //! What the edges of a boundary sweep.
 
-ghost use Rattle.std.specs.Prelude.{◌≡◌, ◌==◌, ◌∷◌, ◌++◌, [], IfOk, List, Some, count_by, find, option_map, true};
+ghost use Rattle.std.specs.Prelude.{◌≡◌, ◌==◌, ◌∷◌, ◌++◌, [], IfOk, List, Some, option_map, true};
 ghost use Rattle.std.specs.List.{All};
 ghost use Rattle.std.specs.Option.{option_copied};
 ghost use Rattle.s57_types.specs.declared.cell.Cell.{Cell as SpecCell};
@@ -9,14 +9,15 @@ ghost use Rattle.cell_spec.specs.declared.key.Key.{Key as SpecKey};
 ghost use Rattle.cell_spec.specs.declared.key.Key.TheVariants.{Name as KeyName};
 ghost use Rattle.near_records.specs.Near.{IsNear, has_key};
 ghost use Rattle.rule_spec.specs.EdgePoints.{line_of, node_at as spec_node_at, node_position as spec_position};
-ghost use Rattle.rule_spec.specs.Records.{the_only as spec_the_only};
-ghost use Rattle.check_area.specs.Lines.{AsksForLine, edge_in as spec_edge_in, line_end as spec_line_end, position_in, sweep_named as spec_sweep_named};
+ghost use Rattle.rule_spec.specs.Records.{edge_named as spec_edge};
+ghost use Rattle.check_area.specs.Lines.{AsksForLine, line_end as spec_line_end, sweep_named as spec_sweep_named};
 ghost use Rattle.check_area.specs.Sweeps.{sweep_between as spec_sweep_between, sweep_of};
 
 use crate::sweep::{LineSweep, way_along, way_to};
+use chain_topo::{edge_of, node_at, position_of};
 use geo_exact::Point;
 use near_records::NearRecords;
-use s57_types::{End, Kind, Rec, RecName, Vector};
+use s57_types::{RecName, Vector};
 use std::alloc::AllocError;
 
 /// A node at an end of a line, and its position.
@@ -26,52 +27,10 @@ pub(crate) struct LineEnd {
     pub(crate) at: Point,
 }
 
-fn the_only<T: Copy>(items: &[T]) -> Option<T>
-    ensures { result ≡ spec_the_only items.now }
-{
-    match items {
-        [item] => Some(*item),
-        _ => None,
-    }
-}
-
-fn count_at(topi: u8, ends: &[End]) -> usize
-    ensures { result ≡ count_by (λ (e : SpecEnd). e.topi == topi) ends.now }
-{
-    ends.iter().filter(|end| end.topi == topi).count()
-}
-
-fn first_at(topi: u8, ends: &[End]) -> Option<RecName>
-    ensures { result ≡ option_map (λ (e : SpecEnd). e.to) (find (λ (e : SpecEnd). e.topi == topi) ends.now) }
-{
-    ends.iter().find(|end| end.topi == topi).map(|end| end.to)
-}
-
-/// The node that an edge names at its one end with a topology indicator.
-fn node_at(topi: u8, edge: &Vector) -> Option<RecName>
-    ensures { result ≡ spec_node_at topi edge.now }
-{
-    let ends = edge.ends.as_slice();
-    if count_at(topi, ends) != 1 {
-        return None;
-    }
-    first_at(topi, ends)
-}
-
-/// The position of a record that is a connected node with exactly one.
-fn position_of(found: Option<&Rec>) -> Option<Point>
-    ensures { result ≡ position_in (option_copied found.entry) }
-{
-    match found {
-        Some(Rec::V(node)) if node.name.kind == Kind::Vc => the_only(node.plane.as_slice()),
-        _ => None,
-    }
-}
-
 fn node_position(near: &NearRecords, node: RecName) -> Option<Point>
     ensures { (c : SpecCell) (keys : List SpecKey) → IsNear c keys near.now → has_key keys (KeyName node) ≡ true → result ≡ spec_position c node }
 {
-    position_of(near.record(node))
+    position_of(near.record(node)?)
 }
 
 /// A node and its position, if it is a connected node with exactly one.
@@ -124,13 +83,10 @@ fn sweep_of_edge(near: &NearRecords, edge: &Vector) -> Result<Option<LineSweep>,
     }
 }
 
-fn edge_in(found: Option<&Rec>) -> Option<&Vector>
-    ensures { option_copied result ≡ spec_edge_in (option_copied found.entry) }
+fn edge_named<'a>(near: &NearRecords<'a>, name: RecName) -> Option<&'a Vector>
+    ensures { (c : SpecCell) (keys : List SpecKey) → IsNear c keys near.now → has_key keys (KeyName name) ≡ true → option_copied result ≡ spec_edge c name }
 {
-    match found {
-        Some(Rec::V(edge)) if edge.name.kind == Kind::Ve => Some(edge),
-        _ => None,
-    }
+    edge_of(near.record(name)?)
 }
 
 /// What the edge of a name sweeps. There is nothing where the name isn't an edge's, where the edge hasn't exactly one
@@ -142,7 +98,7 @@ pub(crate) fn sweep_named(
 ) -> Result<Option<LineSweep>, AllocError>
     ensures { (c : SpecCell) (keys : List SpecKey) → IsNear c keys near.now → AsksForLine c keys name → IfOk result (λ sweep. sweep ≡ spec_sweep_named c name) }
 {
-    match edge_in(near.record(name)) {
+    match edge_named(near, name) {
         Some(edge) => sweep_of_edge(near, edge),
         None => Ok(None),
     }

@@ -4,7 +4,7 @@ ghost use Rattle.std.specs.Prelude.{◌≡◌, ◌+ℤ◌, IfOk};
 ghost use Rattle.geometry_spec.specs.Areas.{twice_area_step as twice_area_step_of};
 ghost use Rattle.check_area.specs.Parts.{is_exterior_loop, is_interior_loop, is_mixed_loop, turn_of_parts, turns_against_usage};
 
-use crate::numbering::plus;
+use crate::sums::plus;
 use crate::sweep::{LineSweep, Way, way_to};
 use std::alloc::AllocError;
 

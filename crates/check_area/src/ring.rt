@@ -5,9 +5,9 @@ ghost use Rattle.rule_spec.specs.Findings.{finding};
 ghost use Rattle.rule_spec.specs.Loops.{blocks_of};
 ghost use Rattle.check_area.specs.Parts.{arc_of_part, exterior_count as spec_exterior_count, findings_of_loops, findings_of_parts, is_exterior_loop, length_of_block, mixed_loops, place_of_loop, wrong_loops};
 
-use crate::numbering::number;
 use crate::part::{Part, is_exterior, is_mixed, turns_wrongly};
 use cell_spec::Finding;
+use plain_lookups::number;
 use ring_build::{Block, RingCut, cut};
 use s57_types::RecName;
 use std::alloc::{AllocError, Global};

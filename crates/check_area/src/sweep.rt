@@ -4,7 +4,7 @@ ghost use Rattle.std.specs.Prelude.{◌≡◌, ◌∷◌, ◌+ℤ◌, IfOk};
 ghost use Rattle.geometry_spec.specs.Areas.{twice_area_along, twice_area_step as twice_area_step_of};
 ghost use Rattle.check_area.specs.Sweeps.{last_point, sweep_along as spec_sweep_along, turned_sweep as spec_turned_sweep};
 
-use crate::numbering::plus;
+use crate::sums::plus;
 use geo_exact::{Point, twice_area_step};
 use s57_types::RecName;
 use std::alloc::AllocError;

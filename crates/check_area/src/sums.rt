@@ -1,16 +1,8 @@
-//! Numbers of findings and sums of areas.
+//! Sums of areas.
 
 ghost use Rattle.std.specs.Prelude.{◌≡◌, ◌+ℤ◌, IfOk};
 
 use std::alloc::AllocError;
-
-/// A number of a finding. A greater one would belong to a record of billions of rows, and is answered with want of
-/// memory.
-pub(crate) fn number(n: usize) -> Result<u32, AllocError>
-    ensures { IfOk result (λ k. k ≡ n) }
-{
-    u32::try_from(n).map_err(|_| AllocError)
-}
 
 /// A sum of areas. A step between two points is at most 2^63, so 128 bits hold the sum of 2^64 steps. A boundary has
 /// fewer than 2^32 pointers, so a greater sum would need a line of 2^32 points, over 32 gigabytes in one record, and is
