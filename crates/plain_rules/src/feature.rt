@@ -3,10 +3,11 @@
 ghost use Rattle.std.specs.Prelude.{◌≡◌, IfOk, map};
 ghost use Rattle.std.specs.List.{list_any};
 ghost use Rattle.rule_spec.specs.Records.{is_node_name as spec_is_node, is_edge_name as spec_is_edge};
-ghost use Rattle.rule_spec.specs.Features.{target as spec_target, is_one_of as spec_is_one_of, fits_primitive as spec_fits, prim_refs as spec_prim_refs, dangling_ref as spec_dangling_ref, has_its_codes as spec_has_codes, bad_codes as spec_bad_codes, dangling_feature as spec_dangling_feature, is_group1_area as spec_group1, says_covered as spec_covered, is_coverage_area as spec_coverage, wrong_group as spec_wrong_group};
+ghost use Rattle.rule_spec.specs.Features.{target as spec_target, is_one_of as spec_is_one_of, fits_primitive as spec_fits, prim_refs as spec_prim_refs, dangling_ref as spec_dangling_ref, has_its_codes as spec_has_codes, bad_codes as spec_bad_codes, dangling_feature as spec_dangling_feature, says_covered as spec_covered, is_coverage_area as spec_coverage, wrong_group as spec_wrong_group};
 
 use plain_lookups::{
-    Found, add_place, bearers, found_if, is_edge_name, is_node_name, number, record_named,
+    AREA, Found, add_place, bearers, found_if, is_edge_name, is_group1_area, is_node_name, number,
+    record_named,
 };
 use s57_types::{Attr, Cell, Feature, Spot};
 use std::alloc::{AllocError, Global};
@@ -145,13 +146,6 @@ pub fn dangling_feature(alloc: Global, cell: &Cell, feature: &Feature) -> Result
     Ok(found)
 }
 
-/// Whether a feature is an area of Group 1.
-pub fn is_group1_area(feature: &Feature) -> bool
-    ensures { result ≡ spec_group1 feature.now }
-{
-    feature.prim == 3 && is_one_of(&[42, 46, 57, 65, 71, 95, 154], feature.objl)
-}
-
 fn says_covered(attr: &Attr) -> bool
     ensures { result ≡ spec_covered attr.now }
 {
@@ -179,7 +173,7 @@ fn one_says_covered(attrs: &[Attr]) -> bool
 pub fn is_coverage_area(feature: &Feature) -> bool
     ensures { result ≡ spec_coverage feature.now }
 {
-    feature.prim == 3 && feature.objl == 302 && one_says_covered(feature.attf.as_slice())
+    feature.prim == AREA && feature.objl == 302 && one_says_covered(feature.attf.as_slice())
 }
 
 /// WrongGroup.

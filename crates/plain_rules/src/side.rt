@@ -4,9 +4,11 @@ ghost use Rattle.std.specs.Prelude.{◌≡◌, IfOk, find};
 ghost use Rattle.rule_spec.specs.Sides.{use_of_row as spec_use_of_row, use_by as spec_use_by, uses_of as spec_uses_of, side_count, side_counts as spec_side_counts, numbers_of, orphan as spec_orphan, overlaps as spec_overlaps, side_overlap as spec_side_overlap, is_balanced as spec_is_balanced, side_unbalanced as spec_side_unbalanced, is_truncated as spec_truncated, found_use as spec_found_use, false_truncation as spec_false_truncation, twice_foid as spec_twice_foid};
 ghost use Rattle.rule_spec.specs.Rule.{found_if as spec_found_if};
 
-use crate::feature::{is_coverage_area, is_group1_area};
+use crate::feature::is_coverage_area;
 use cell_spec::Ref;
-use plain_lookups::{Found, bearers, feature_named, found_if, number, nums, pointers_to};
+use plain_lookups::{
+    Found, bearers, feature_named, found_if, is_group1_area, number, nums, pointers_to,
+};
 use rule_spec::{EdgeSideCounts, EdgeUse};
 use s57_types::{Cell, Feature, Lnam, RecName, Spot};
 use std::alloc::{AllocError, Global};
