@@ -1,0 +1,2 @@
+pub mod DisjointBoxes
+pub mod ApartLines

@@ -1,0 +1,68 @@
+//! Boxes of segments, and whether two boxes have a point in common.
+
+ghost use Rattle.std.specs.Prelude.{◌≡◌};
+ghost use Rattle.geometry_spec.specs.Boxes.{are_disjoint as spec_are_disjoint, are_disjoint_ranges};
+ghost use Rattle.line_boxes.specs.LineBoxes.{box_of_segment as spec_box_of_segment, box_with, line_box, united as spec_united};
+
+use geo_exact::box_of;
+use geometry_spec::Box4;
+use plain_lookups::Numbered;
+
+fn share_no_latitude(a: Box4, b: Box4) -> bool
+    ensures { result ≡ are_disjoint_ranges a.south a.north b.south b.north }
+{
+    a.north < b.south || b.north < a.south
+}
+
+fn share_no_longitude(a: Box4, b: Box4) -> bool
+    ensures { result ≡ are_disjoint_ranges a.west a.east b.west b.east }
+{
+    a.east < b.west || b.east < a.west
+}
+
+/// Whether two boxes have no point in common. Boxes that share an edge or a corner have one.
+pub fn are_disjoint(a: Box4, b: Box4) -> bool
+    ensures { result ≡ spec_are_disjoint a b }
+{
+    share_no_latitude(a, b) || share_no_longitude(a, b)
+}
+
+fn united(a: Box4, b: Box4) -> Box4
+    ensures { result ≡ spec_united a b }
+{
+    Box4 {
+        south: a.south.min(b.south),
+        west: a.west.min(b.west),
+        north: a.north.max(b.north),
+        east: a.east.max(b.east),
+    }
+}
+
+/// The least box that holds both ends of a segment, which are latitude and longitude in integer coordinate units. The
+/// segment's number doesn't matter.
+pub fn box_of_segment(segment: Numbered) -> Box4
+    ensures { result ≡ spec_box_of_segment segment }
+{
+    box_of(segment.1.0, segment.1.1)
+}
+
+/// The least box that holds a box and the boxes of segments.
+fn box_around(start: Box4, segments: &[Numbered]) -> Box4
+    ensures { result ≡ box_with start segments.now }
+{
+    let mut around = start;
+    for segment in segments {
+        around = united(around, box_of_segment(*segment));
+    }
+    around
+}
+
+/// The least box that holds the segments of a line. A line without segments has none.
+pub fn box_of_line(segments: &[Numbered]) -> Option<Box4>
+    ensures { result ≡ line_box segments.now }
+{
+    match segments {
+        [first, ..] => Some(box_around(box_of_segment(*first), segments)),
+        [] => None,
+    }
+}

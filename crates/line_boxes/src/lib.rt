@@ -1,0 +1,12 @@
+//! Boxes around the segments of a line.
+//!
+//! A box is a range of latitudes and a range of longitudes in integer coordinate units: its south, west, north and east
+//! side, each of which belongs to it.
+#![tactic(auto)]
+
+mod boxes;
+
+pub use boxes::{are_disjoint, box_of_line, box_of_segment};
+
+#[cfg(test)]
+mod tests;
