@@ -1,10 +1,10 @@
 //! What read sets are made of: the keys that the findings about a record depend on, ascending, each once.
 #![tactic(auto)]
 
-mod distinct;
+mod ascending;
 mod keys;
 
-pub use distinct::{ascending_keys, ascending_names};
+pub use ascending::{ascending_keys, ascending_names, distinct};
 pub use keys::{push_end_keys, push_vector_keys};
 
 #[cfg(test)]

@@ -1,7 +1,7 @@
 use Rattle.std.proofs.Common.{◌∙◌}
 use Rattle.std.proofs.lemmas.List.Filters.{dedup_is}
 use Rattle.chain_topo.proofs.Parts.{dedup-ascending}
-use Rattle.read_sets.proofs.distinct.distinct.Goals as goal
+use Rattle.read_sets.proofs.ascending.distinct.Goals as goal
 
 pub returns : goal.returns
 returns g c =

@@ -1,4 +1,4 @@
-//! Keys and names in ascending order, each once.
+//! Lists in ascending order, each item once.
 
 ghost use Rattle.std.specs.Prelude.{◌≡◌};
 ghost use Rattle.std.specs.declared.cmp.Ordering.TheVariants.{Equal};
@@ -8,7 +8,8 @@ ghost use Rattle.cell_spec.specs.Names.{key_order, name_order};
 use cell_spec::{Key, Keys, Names, orders_are_by_parts};
 use s57_types::{Items, RecName};
 
-fn distinct<T: Ord + Copy>(mut items: Vec<T>) -> Vec<T>
+/// The items in ascending order, each once. It takes no memory.
+pub fn distinct<T: Ord + Copy>(mut items: Vec<T>) -> Vec<T>
     requires exact { (a b : T) → T.cmp a b ≡ Equal → a ≡ b }
     ensures { result.items ≡ ascending T.cmp items.items }
 {
