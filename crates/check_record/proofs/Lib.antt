@@ -1,6 +1,6 @@
 pub mod AscendingLists
 pub mod FoundRecords
-pub mod Blocks
+pub mod BlockRows
 pub mod Nodes
 pub mod Findings
 pub mod ReadSets

@@ -1,5 +1,5 @@
 pub mod EndKeys
-pub mod Boxes
+pub mod Blocks
 pub mod Nodes
 pub mod RecordKinds
 pub mod RecordRow

@@ -12,9 +12,9 @@ ghost use Rattle.rule_spec.specs.Records.{node_named};
 ghost use Rattle.rule_spec.specs.Rule.{places_where};
 ghost use Rattle.check_record.specs.Nodes.{is_node_key, names_node, names_node_of};
 
-use crate::numbering::number;
 use cell_spec::{Finding, Key};
 use chain_topo::{Look, Steps};
+use plain_lookups::number;
 use s57_types::{Kind, Rec, RecName, Vector};
 use std::alloc::{AllocError, Global};
 use std::collections::BTreeSet;

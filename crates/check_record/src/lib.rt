@@ -1,10 +1,9 @@
 //! The rules on a single record of a chart cell: its findings, and the read set that they depend on.
 #![tactic(auto)]
 
-mod boxes;
+mod blocks;
 mod ends;
 mod line;
-mod numbering;
 mod reads;
 mod self_meet;
 mod shape;

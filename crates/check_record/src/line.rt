@@ -9,11 +9,10 @@ ghost use Rattle.rule_spec.specs.Findings.{finding};
 ghost use Rattle.rule_spec.specs.Rule.{found_at};
 ghost use Rattle.rule_spec.specs.Vectors.{stacked_segment as spec_stacked_segment, self_meet_of};
 
-use crate::numbering::number;
 use crate::self_meet::push_self_meet;
 use cell_spec::Finding;
 use geometry_spec::Point;
-use plain_lookups::{Segment, same_point, segments_of};
+use plain_lookups::{Segment, number, same_point, segments_of};
 use rule_spec::EdgeLine;
 use std::alloc::{AllocError, Global};
 

@@ -3,15 +3,15 @@
 ghost use Rattle.std.specs.Prelude.{◌≡◌, ◌++◌, All, OnOk, find, map};
 ghost use Rattle.rule_spec.specs.Findings.{finding};
 ghost use Rattle.rule_spec.specs.Vectors.{is_bad_meeting as spec_bad_meeting, is_closed_line as spec_closed, meets_wrongly as spec_meets_wrongly, first_wrong_meeting as spec_first_wrong, found_pair as spec_found_pair, self_meet_of};
-ghost use Rattle.check_record.specs.Boxes.{IsBoxed, segments_in};
+ghost use Rattle.check_record.specs.Blocks.{IsBoxed, segments_in};
 
-use crate::boxes::{Block, are_disjoint, blocks_of, box_of_segment};
+use crate::blocks::{Block, blocks_of};
 use crate::line::stacked_segment;
-use crate::numbering::number;
 use cell_spec::Finding;
 use geo_exact::meeting;
 use geometry_spec::{MeetCase, Point};
-use plain_lookups::{Numbered, numbered, same_point, segments_of};
+use line_boxes::{are_disjoint, box_of_segment};
+use plain_lookups::{Numbered, number, numbered, same_point, segments_of};
 use std::alloc::{AllocError, Global};
 
 /// The number of the kind of an edge that meets itself.

@@ -1,6 +1,6 @@
 use Rattle.std.proofs.Common.{sym, ◌∙◌}
 use Rattle.rule_spec.specs.Vectors.{meets_wrongly}
-use Rattle.check_record.proofs.Blocks.{block_hit, block_missed}
+use Rattle.check_record.proofs.BlockRows.{block_hit, block_missed}
 use Rattle.check_record.proofs.self_meet.first_in_blocks.Goals as goal
 
 pub returns-in-Some : goal.returns-in-Some

@@ -1,6 +1,6 @@
 use Rattle.std.proofs.Common.{◌≡◌, drop, find, map}
 use Rattle.rule_spec.specs.Vectors.{meets_wrongly}
-use Rattle.check_record.specs.Boxes.{segments_in}
+use Rattle.check_record.specs.Blocks.{segments_in}
 use Rattle.check_record.proofs.self_meet.first_in_blocks.Given as goal
 
 abbrev pub invariant-loop-block : goal.invariant-loop-block

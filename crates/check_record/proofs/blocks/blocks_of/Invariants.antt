@@ -1,6 +1,6 @@
 use Rattle.std.proofs.Common.{◌≡◌, ◌++◌, All, length}
-use Rattle.check_record.specs.Boxes.{IsBoxed, segments_in}
-use Rattle.check_record.proofs.boxes.blocks_of.Given as goal
+use Rattle.check_record.specs.Blocks.{IsBoxed, segments_in}
+use Rattle.check_record.proofs.blocks.blocks_of.Given as goal
 
 abbrev pub invariant-loop-rest : goal.invariant-loop-rest
 invariant-loop-rest l = (All IsBoxed l.blocks.items) × (segments_in l.blocks.items ++ l.rest ≡ l.segments)
