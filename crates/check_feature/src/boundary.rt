@@ -11,10 +11,10 @@ ghost use Rattle.rule_spec.specs.Reads.{read_set};
 ghost use Rattle.near_records.specs.Near.{IsNear};
 ghost use Rattle.check_feature.specs.FeatureKinds.{boundary_findings, pointer_findings};
 
-use crate::group::AREA;
 use cell_spec::Finding;
 use check_area::area_findings;
 use near_records::NearRecords;
+use plain_lookups::AREA;
 use s57_types::Feature;
 use std::alloc::{AllocError, Global};
 
