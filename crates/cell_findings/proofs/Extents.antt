@@ -1,8 +1,7 @@
 -- Two connected nodes or edges whose extents have no point in common have no finding.
 use Rattle.std.proofs.Common.{◌≡◌, ℕ, ◌+◌, Bool, true, false, ◌&&◌, ◌||◌, List, [], ◌∷◌, ◌++◌, Option, None, Some, cond, find, is_some, map, refl, sym, ap, ◌∙◌, subst, arith, ℤ}
-use Rattle.std.proofs.Math.Bool.{or_comm}
 use Rattle.std.proofs.Math.IntN.{zero-*ℤ, +ℤ_idr}
-use Rattle.std.specs.Prelude.{◌==◌, ◌*ℤ◌, ◌+ℤ◌, ◌-ℤ◌, pos, int_lt, option_and_then}
+use Rattle.std.specs.Prelude.{◌==◌, ◌*ℤ◌, ◌+ℤ◌, ◌-ℤ◌, pos, option_and_then}
 use Rattle.std.specs.Int.{int_min, int_max}
 use Rattle.std.specs.List.{enumerate_from, position_from}
 use Rattle.std.specs.Option.{option_map_or}
@@ -35,21 +34,16 @@ use Rattle.rule_spec.specs.Findings.{finding, findings_about, findings_of_subjec
 use Rattle.rule_spec.specs.Records.{edge_named, is_edge_name, the_only, vector_of}
 use Rattle.rule_spec.specs.Rule.{Found, found_at, found_if}
 use Rattle.rule_spec.specs.Vectors.{Numbered, each_with_each}
-use Rattle.check_pairs.specs.Bounds.{box_of_segment, box_with, line_box, united}
-use Rattle.check_pairs.proofs.Boxes.{disjoint_first, disjoint_second, none_by_boxes, none_first, none_second}
+use Rattle.line_boxes.specs.LineBoxes.{box_with, line_box, united}
+use Rattle.line_boxes.proofs.ApartLines.{none_by_boxes, none_first, none_second}
+use Rattle.line_boxes.proofs.DisjointBoxes.{disjoint_first, disjoint_next, either_way}
+use Rattle.check_pairs.proofs.NoContact.{contact_needs_meeting}
 use Rattle.cell_findings.specs.Extents.{are_apart, extent_of, segments_at}
 use Rattle.cell_findings.specs.Judged.{subject_findings}
 use Rattle.rule_spec.specs.Kinds.{all_kinds}
 use Rattle.cell_findings.specs.Rows.{with_subject}
 
 -- ---- boxes
-either_way : (a b : Box4) → are_disjoint a b ≡ are_disjoint b a
-either_way a b = λ i. or_comm (int_lt a.north b.south) (int_lt b.north a.south) i || or_comm (int_lt a.east b.west) (int_lt b.east a.west) i
-
-disjoint_start : (x start : Box4) (line : List Numbered) → are_disjoint x (box_with start line) ≡ true → are_disjoint x start ≡ true
-disjoint_start x start [] h = h
-disjoint_start x start (s ∷ line) h = disjoint_first x start (box_of_segment s) (disjoint_start x (united start (box_of_segment s)) line h)
-
 -- the box of one point
 abbrev point_box : Point → Box4
 point_box w = box_of w w
@@ -89,7 +83,7 @@ none_under : (w : Point) (k first : ℕ) (start : Box4) (segments : List Segment
 none_under w k first start [] h = refl
 none_under w k first start (s ∷ segments) h =
     ap (λ t. cond t (Some first) (position_from (λ s. is_on s w) (first + 1) segments))
-    (off w s (disjoint_second (point_box w) start (box_of s.0 s.1) (disjoint_start (point_box w) (united start (box_of s.0 s.1)) (enumerate_from (k + 1) segments) h)))
+    (off w s (disjoint_next (point_box w) start (k, s) (enumerate_from (k + 1) segments) h))
     ∙ none_under w (k + 1) (first + 1) (united start (box_of s.0 s.1)) segments h
 
 none_under_line : (w : Point) (segments : List Segment) → are_apart (line_box ((1, (w, w)) ∷ [])) (line_box (enumerate_from 1 segments)) ≡ true → position_from (λ s. is_on s w) 1 segments ≡ None
@@ -112,9 +106,9 @@ not_same p q h = not_both _ _ (int_eq p.0 q.0) (int_eq p.1 q.1) (not_same_by p.0
 
 -- ---- two lines
 no_contact_by : (places : List Point) (first second : List Numbered) (a b : Option Box4) → line_box first ≡ a → line_box second ≡ b → are_apart a b ≡ true → find (have_illegal_contact places) (each_with_each first second) ≡ None
-no_contact_by places first second None b e f h = none_first places first second e
-no_contact_by places first second (Some a) None e f h = none_second places first second f
-no_contact_by places first second (Some a) (Some b) e f h = none_by_boxes places a b first second e f h
+no_contact_by places first second None b e f h = none_first (have_illegal_contact places) first second e
+no_contact_by places first second (Some a) None e f h = none_second (have_illegal_contact places) first second f
+no_contact_by places first second (Some a) (Some b) e f h = none_by_boxes (have_illegal_contact places) (contact_needs_meeting places) a b first second e f h
 
 no_contact : (places : List Point) (first second : List Numbered) → are_apart (line_box first) (line_box second) ≡ true → find (have_illegal_contact places) (each_with_each first second) ≡ None
 no_contact places first second h = no_contact_by places first second (line_box first) (line_box second) refl refl h

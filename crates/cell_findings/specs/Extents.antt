@@ -9,7 +9,7 @@ use Rattle.geometry_spec.specs.declared.tile.Box4.{Box4}
 use Rattle.rule_spec.specs.declared.line.EdgeLine.{EdgeLine}
 use Rattle.rule_spec.specs.EdgePoints.{edge_line_of, node_position, segments_of}
 use Rattle.rule_spec.specs.Vectors.{Numbered}
-use Rattle.check_pairs.specs.Bounds.{line_box}
+use Rattle.line_boxes.specs.LineBoxes.{line_box}
 use Rattle.cell_findings.specs.declared.part.Part.{Part}
 
 -- the segments of an edge's line, or the one position of a connected node as a segment

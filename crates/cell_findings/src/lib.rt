@@ -1,7 +1,6 @@
 //! The findings of a chart cell and their text.
 #![tactic(auto)]
 
-mod boxes;
 mod findings;
 mod gather;
 mod list;

@@ -2,7 +2,6 @@
 
 ghost use Rattle.std.specs.Prelude.{◌≡◌, ◌++◌, IfOk, OnOk, filter, map};
 ghost use Rattle.std.specs.List.{flat_map};
-ghost use Rattle.std.specs.declared.cmp.Ordering.TheVariants.{Equal};
 ghost use Rattle.cell_spec.specs.Ascending.{ascending, order_by};
 ghost use Rattle.cell_spec.specs.Lookup.{identities_of, name_of as spec_name};
 ghost use Rattle.cell_spec.specs.Names.{identity_parts};
@@ -12,7 +11,7 @@ ghost use Rattle.cell_findings.specs.Judged.{identities_in as spec_identities_in
 
 use cell_spec::Names;
 use plain_lookups::{is_edge_name, name_of};
-use read_sets::ascending_names;
+use read_sets::{ascending_names, distinct};
 use s57_types::{Cell, Kind, Lnam, Rec, RecName};
 use std::alloc::{AllocError, Global};
 
@@ -79,15 +78,6 @@ fn push_identities(identities: &mut Vec<Lnam>, recs: &[Rec]) -> Result<(), Alloc
         }
     }
     Ok(())
-}
-
-fn distinct<T: Ord + Copy>(mut items: Vec<T>) -> Vec<T>
-    requires exact { (a b : T) → T.cmp a b ≡ Equal → a ≡ b }
-    ensures { result.items ≡ ascending T.cmp items.items }
-{
-    items.sort_unstable();
-    items.dedup();
-    items
 }
 
 fn ascending_identities(identities: Vec<Lnam>) -> Vec<Lnam>

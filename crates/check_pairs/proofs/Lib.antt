@@ -1,4 +1,4 @@
-pub mod Boxes
+pub mod NoContact
 pub mod Keys
 pub mod Parts
 pub mod Places

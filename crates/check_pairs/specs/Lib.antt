@@ -1,4 +1,3 @@
-pub mod Bounds
 pub mod Contacts
 pub mod PairKinds
 pub mod SharedPlaces

@@ -6,12 +6,12 @@ ghost use Rattle.std.specs.Option.{option_copied};
 ghost use Rattle.rule_spec.specs.EdgePoints.{segments_of as spec_segments};
 ghost use Rattle.rule_spec.specs.Vectors.{each_with_each, meeting_of_segments as spec_meeting};
 ghost use Rattle.rule_spec.specs.Contacts.{is_on as spec_is_on, meet_at_one_of as spec_meet_at, is_illegal as spec_illegal, have_illegal_contact as spec_have_illegal};
-ghost use Rattle.check_pairs.specs.Bounds.{line_box};
+ghost use Rattle.line_boxes.specs.LineBoxes.{line_box};
 ghost use Rattle.check_pairs.specs.SharedPlaces.{is_end_of as spec_is_end_of, place_if, shared_places as spec_shared_places, first_contact as spec_first_contact};
 
-use crate::bounds::{are_disjoint, box_of_line, box_of_segment};
 use geo_exact::{meeting, on_segment};
 use geometry_spec::{Box4, MeetCase, Point};
+use line_boxes::{are_disjoint, box_of_line, box_of_segment};
 use plain_lookups::{Numbered, Segment, numbered, segments_of};
 use rule_spec::EdgeLine;
 use s57_types::RecName;

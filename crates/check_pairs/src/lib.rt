@@ -1,7 +1,6 @@
 //! The rules on two connected nodes or edges of a chart cell: how they may meet.
 #![tactic(auto)]
 
-mod bounds;
 mod contact;
 mod finding;
 mod part;

@@ -1,6 +1,0 @@
-use Rattle.std.proofs.Common.{◌≡◌, drop}
-use Rattle.check_pairs.specs.Bounds.{box_with}
-use Rattle.cell_findings.proofs.boxes.box_around.Given as goal
-
-abbrev pub invariant-loop-segment : goal.invariant-loop-segment
-invariant-loop-segment l = box_with l.around (drop l.segment-index l.segments) ≡ box_with l.fn.start l.segments
