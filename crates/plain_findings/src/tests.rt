@@ -1,27 +1,46 @@
-use super::*;
-use cell_spec::{Finding, Subject};
-use plain_lookups::number;
+//! Small cells, on which each rule is called.
+
+mod areas;
+mod features;
+mod pairs;
+mod sides;
+mod subjects;
+mod vectors;
+
+use plain_lookups::{Found, number};
 use s57_types::{
     Attrs, Cell, Deep, End, Feature, Head, Items, Kind, Lnam, Partners, Rec, RecName, Recs, Spot,
     Text, Vector,
 };
 use std::alloc::{AllocError, Global};
-use std::test::Fail;
+use std::process::Abort;
 
-const ALL_KINDS: [u8; 25] = [
-    1, 2, 3, 4, 5, 6, 7, 8, 9, 10, 11, 12, 13, 14, 15, 16, 17, 18, 19, 20, 21, 22, 23, 24, 25,
-];
+/// An edge: its beginning node, its end node and the positions between them.
+type Course<'a> = (u32, u32, &'a [(i32, i32)]);
+
+/// The primitive, group and object label of a feature.
+type Class = (u8, u8, u16);
+
+const DEPTH_AREA: Class = (3, 1, 42);
+
+/// An area, and a feature without geometry, both outside Group 1.
+const AREA: Class = (3, 2, 30);
+
+const COLLECTION: Class = (255, 2, 400);
 
 fn name(kind: Kind, id: u32) -> RecName {
     RecName { kind, id }
 }
 
-fn found(kind: u8, nums: [u32; 4]) -> Finding {
-    Finding { kind, nums }
-}
-
-fn vector(alloc: Global, name: RecName, ends: Vec<End>, plane: Vec<(i32, i32)>) -> Rec {
-    Rec::V(Vector {
+fn vector(
+    alloc: Global,
+    name: RecName,
+    ends: &[End],
+    plane: &[(i32, i32)],
+) -> Result<Vector, AllocError> {
+    let ends = ends.to_vec(alloc)?;
+    let plane = plane.to_vec(alloc)?;
+    Ok(Vector {
         name,
         rver: 1,
         attrs: Attrs::make(alloc),
@@ -29,11 +48,6 @@ fn vector(alloc: Global, name: RecName, ends: Vec<End>, plane: Vec<(i32, i32)>) 
         plane: Items::of_vec(plane),
         deep: Deep::make(alloc),
     })
-}
-
-fn node(alloc: Global, id: u32, place: (i32, i32)) -> Result<Rec, AllocError> {
-    let plane = vec![in alloc; place]?;
-    Ok(vector(alloc, name(Kind::Vc, id), Vec::new(alloc), plane))
 }
 
 fn end(topi: u8, id: u32) -> End {
@@ -46,32 +60,43 @@ fn end(topi: u8, id: u32) -> End {
     }
 }
 
-fn edge(alloc: Global, id: u32, first: u32, last: u32) -> Result<Rec, AllocError> {
-    let ends = vec![in alloc; end(1, first), end(2, last)]?;
-    Ok(vector(alloc, name(Kind::Ve, id), ends, Vec::new(alloc)))
+fn edge(alloc: Global, id: u32, course: Course) -> Result<Vector, AllocError> {
+    let ends = [end(1, course.0), end(2, course.1)];
+    vector(alloc, name(Kind::Ve, id), &ends, course.2)
 }
 
-fn outer(id: u32, ornt: u8) -> Spot {
+/// A pointer to an edge with an orientation and a usage.
+fn spot(id: u32, ornt: u8, usag: u8) -> Spot {
     Spot {
         to: name(Kind::Ve, id),
         ornt,
-        usag: 1,
+        usag,
         mask: 255,
     }
 }
 
-fn depth_area(alloc: Global, id: u32, places: Vec<Spot>) -> Rec {
-    Rec::F(Feature {
+/// The boundary of the square, clockwise.
+fn clockwise() -> [Spot; 4] {
+    [spot(3, 1, 1), spot(2, 1, 1), spot(4, 2, 1), spot(1, 2, 1)]
+}
+
+fn lnam(fidn: u32) -> Lnam {
+    Lnam {
+        agen: 1,
+        fidn,
+        fids: 1,
+    }
+}
+
+fn feature(alloc: Global, id: u32, class: Class, places: &[Spot]) -> Result<Feature, AllocError> {
+    let places = places.to_vec(alloc)?;
+    Ok(Feature {
         name: name(Kind::Fe, id),
-        prim: 3,
-        grup: 1,
-        objl: 42,
+        prim: class.0,
+        grup: class.1,
+        objl: class.2,
         rver: 1,
-        foid: Lnam {
-            agen: 1,
-            fidn: id,
-            fids: 1,
-        },
+        foid: lnam(id),
         attf: Attrs::make(alloc),
         natf: Attrs::make(alloc),
         partners: Partners::make(alloc),
@@ -112,84 +137,66 @@ fn head(alloc: Global) -> Head {
     }
 }
 
-fn nodes(alloc: Global, places: &[(i32, i32)]) -> Result<Vec<Rec>, AllocError> {
-    let mut recs = Vec::new(alloc);
+fn nodes(alloc: Global, places: &[(i32, i32)]) -> Result<Recs, AllocError> {
+    let mut recs = Recs::make(alloc);
     for (k, place) in places.iter().enumerate() {
-        recs.push(node(alloc, number(k + 1)?, *place)?)?;
+        let id = number(k + 1)?;
+        let node = vector(alloc, name(Kind::Vc, id), &[], &[*place])?;
+        recs.push(Rec::V(node))?;
     }
     Ok(recs)
 }
 
-fn edges(alloc: Global, ends: &[(u32, u32)]) -> Result<Vec<Rec>, AllocError> {
-    let mut recs = Vec::new(alloc);
-    for (k, (first, last)) in ends.iter().enumerate() {
-        recs.push(edge(alloc, number(k + 1)?, *first, *last)?)?;
+fn edges(alloc: Global, courses: &[Course]) -> Result<Recs, AllocError> {
+    let mut recs = Recs::make(alloc);
+    for (k, course) in courses.iter().enumerate() {
+        let id = number(k + 1)?;
+        recs.push(Rec::V(edge(alloc, id, *course)?))?;
     }
     Ok(recs)
 }
 
-/// A cell of nodes at these places, edges between these nodes, and depth areas with these boundaries.
-fn cell(
-    alloc: Global,
-    places: &[(i32, i32)],
-    ends: &[(u32, u32)],
-    area: &[Spot],
-) -> Result<Cell, AllocError> {
+/// A cell of connected nodes at these places and of edges, each numbered from 1.
+fn cell(alloc: Global, places: &[(i32, i32)], courses: &[Course]) -> Result<Cell, AllocError> {
     let vc = nodes(alloc, places)?;
-    let ve = edges(alloc, ends)?;
-    let mut fe = Recs::make(alloc);
-    if !area.is_empty() {
-        fe.push(depth_area(alloc, 1, area.to_vec(alloc)?))?;
-    }
+    let ve = edges(alloc, courses)?;
     Ok(Cell {
         head: head(alloc),
         vi: Recs::make(alloc),
-        vc: Items::of_vec(vc),
-        ve: Items::of_vec(ve),
-        fe,
+        vc,
+        ve,
+        fe: Recs::make(alloc),
     })
 }
 
-#[test]
-fn edge_to_a_missing_node_dangles(rt: HostRuntime) -> Result<(), Fail> {
-    let alloc = rt.alloc();
-    let cell = cell(alloc, &[(0, 0), (0, 100)], &[(1, 2), (1, 9)], &[])?;
-    let rows = all_findings(alloc, &[2, 3], &cell)?;
-    assert_eq!(rt; rows.len(), 1);
-    assert_eq!(rt; rows[0].0, Subject::Rec(name(Kind::Ve, 2)));
-    assert_eq!(rt; rows[0].1.as_slice(), [found(3, [2, 0, 0, 0])].as_slice());
-    Ok(())
+/// The cell of a square whose first corner is at this place: its edges lead from node 1 to 2, from 3 to 4, from 1 to 3
+/// and from 2 to 4.
+fn square_from(alloc: Global, corner: (i32, i32)) -> Result<Cell, AllocError> {
+    let places = [corner, (0, 40_000), (40_000, 0), (40_000, 40_000)];
+    let courses: [Course; 4] = [(1, 2, &[]), (3, 4, &[]), (1, 3, &[]), (2, 4, &[])];
+    cell(alloc, &places, &courses)
 }
 
-#[test]
-fn full_range_diagonals_cross(rt: HostRuntime) -> Result<(), Fail> {
-    let alloc = rt.alloc();
-    let (low, high) = (i32::MIN, i32::MAX);
-    let cell = cell(
-        alloc,
-        &[(low, low), (high, high), (low, high), (high, low)],
-        &[(1, 2), (3, 4)],
-        &[],
-    )?;
-    let rows = all_findings(alloc, &ALL_KINDS, &cell)?;
-    assert_eq!(rt; rows.len(), 3);
-    assert_eq!(rt;
-        rows[2].0,
-        Subject::Pair(name(Kind::Ve, 1), name(Kind::Ve, 2))
-    );
-    assert_eq!(rt; rows[2].1.as_slice(), [found(7, [1, 1, 0, 0])].as_slice());
-    Ok(())
+fn square(alloc: Global) -> Result<Cell, AllocError> {
+    square_from(alloc, (0, 0))
 }
 
-#[test]
-fn moved_node_turns_the_area(rt: HostRuntime) -> Result<(), Fail> {
-    let alloc = rt.alloc();
-    let places = [(50_000, 50_000), (0, 40_000), (40_000, 0), (40_000, 40_000)];
-    let area = [outer(3, 1), outer(2, 1), outer(4, 2), outer(1, 2)];
-    let cell = cell(alloc, &places, &[(1, 2), (3, 4), (1, 3), (2, 4)], &area)?;
-    let rows = all_findings(alloc, &ALL_KINDS, &cell)?;
-    assert_eq!(rt; rows.len(), 5);
-    assert_eq!(rt; rows[0].1.as_slice(), [found(18, [1, 0, 0, 0])].as_slice());
-    assert_eq!(rt; rows[1].1.as_slice(), [found(23, [0, 1, 0, 0])].as_slice());
-    Ok(())
+/// Adds a feature of this class with these pointers.
+fn add(
+    alloc: Global,
+    cell: &mut Cell,
+    id: u32,
+    class: Class,
+    places: &[Spot],
+) -> Result<(), AllocError> {
+    let added = feature(alloc, id, class, places)?;
+    cell.fe.push(Rec::F(added))
+}
+
+/// Checks the numbers of each finding of a rule.
+fn check(rt: &impl Abort, found: &Found, wanted: &[&[u32]]) {
+    assert_eq!(rt; found.len(), wanted.len());
+    for (nums, numbers) in found.as_slice().iter().zip(wanted) {
+        assert_eq!(rt; nums.as_slice(), *numbers);
+    }
 }
