@@ -1,7 +1,7 @@
 use Rattle.std.proofs.Common.{◌∙◌, [], ◌∷◌}
 use Rattle.s57_types.specs.Fitness.{is_fit_head}
 use Rattle.cell_findings.proofs.SmallCells.{plain_head_fits}
-use Rattle.cell_findings.proofs.tests.head.Goals as goal
+use Rattle.finding_tests.proofs.findings.head.Goals as goal
 
 pub returns : goal.returns
 returns c =

@@ -1,5 +1,5 @@
 use Rattle.chain_topo.proofs.SmallRecords.{vector-fits-with}
-use Rattle.check_pairs.proofs.tests.vector.Goals as goal
+use Rattle.finding_tests.proofs.pairs.vector.Goals as goal
 
 pub returns-clause-fits : goal.returns-clause-fits
 returns-clause-fits c =

@@ -7,7 +7,7 @@ ghost use Rattle.cell_spec.specs.Lookup.{name_of as spec_name};
 ghost use Rattle.cell_spec.specs.Names.{name_parts};
 ghost use Rattle.chain_topo.specs.Readable.{IsReadable};
 
-use super::*;
+use check_pairs::verdict_pair;
 use cell_spec::{Finding, Key, Row, Subject};
 use chain_topo::{ListLook, Steps};
 use geometry_spec::Point;

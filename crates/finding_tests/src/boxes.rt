@@ -1,4 +1,4 @@
-use super::*;
+use line_boxes::{are_disjoint, box_of_line, box_of_segment};
 use geometry_spec::Box4;
 use plain_lookups::Numbered;
 

@@ -6,7 +6,7 @@ use Rattle.cell_spec.specs.Lookup.{name_of}
 use Rattle.cell_spec.specs.Writable.{AreOfKind}
 use Rattle.chain_topo.proofs.SmallRecords.{FitsAnywhere, parts_of}
 use Rattle.cell_findings.proofs.SmallCells.{writable-from_parts}
-use Rattle.cell_findings.proofs.tests.cell_of.Goals as goal
+use Rattle.finding_tests.proofs.findings.cell_of.Goals as goal
 
 pub returns : goal.returns
 returns g c =

@@ -2,7 +2,7 @@ use Rattle.std.proofs.Common.{[], ◌∷◌, map, refl, sym, ap, subst, ◌∙�
 use Rattle.std.specs.List.{All}
 use Rattle.std.proofs.lemmas.List.Elements.{All-nil}
 use Rattle.chain_topo.proofs.SmallRecords.{FitsAnywhere, parts_of, readable-from_parts}
-use Rattle.check_pairs.proofs.tests.cell_of.Goals as goal
+use Rattle.finding_tests.proofs.pairs.cell_of.Goals as goal
 
 pub returns : goal.returns
 returns c =

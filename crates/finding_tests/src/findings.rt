@@ -8,7 +8,7 @@ ghost use Rattle.cell_spec.specs.Lookup.{name_of as spec_name};
 ghost use Rattle.cell_spec.specs.Names.{name_parts};
 ghost use Rattle.cell_spec.specs.Writable.{AreOfKind, IsWritable};
 
-use super::*;
+use cell_findings::{FindingRefusal, SubjectFinding, find_all, push_cell};
 use cell_spec::{Finding, Subject};
 use geometry_spec::Point;
 use record_fit::fits;
