@@ -8,8 +8,8 @@ ghost use Rattle.cell_spec.specs.Lookup.{name_of as spec_name, lookup_record};
 ghost use Rattle.cell_spec.specs.Names.{name_parts};
 ghost use Rattle.chain_topo.specs.Readable.{IsReadable};
 
-use super::*;
-use crate::listed::name_of;
+use chain_topo::{ListLook, Look, Steps, edge_of, edge_points, node_at, position_of};
+use plain_lookups::name_of;
 use s57_types::{
     Attrs, Cell, Deep, End, Feature, Head, Items, Kind, Lnam, Partners, Rec, RecName, Spot, Text,
     Vector,

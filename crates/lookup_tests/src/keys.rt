@@ -1,5 +1,5 @@
-use super::*;
 use cell_spec::Key;
+use read_sets::{ascending_keys, ascending_names, push_vector_keys};
 use s57_types::{Attrs, Deep, End, Items, Kind, Lnam, Plane, RecName, Vector};
 use std::alloc::{AllocError, Global};
 use std::test::Fail;

@@ -1,7 +1,7 @@
 use Rattle.std.proofs.Common.{[], ◌∷◌, map, refl, sym, ap, subst, ◌∙◌, arith}
 use Rattle.std.specs.List.{All}
 use Rattle.chain_topo.proofs.SmallRecords.{FitsAnywhere, parts_of, readable-from_parts}
-use Rattle.near_records.proofs.tests.small_chart.Goals as goal
+use Rattle.lookup_tests.proofs.near.small_chart.Goals as goal
 
 pub returns : goal.returns
 returns c =

@@ -5,9 +5,9 @@ ghost use Rattle.cell_spec.specs.Lookup.{name_of as spec_name};
 ghost use Rattle.cell_spec.specs.Names.{name_parts};
 ghost use Rattle.chain_topo.specs.Readable.{IsReadable};
 
-use super::*;
 use cell_spec::{Key, Ref};
 use chain_topo::{ListLook, Look, Steps};
+use near_records::gather;
 use s57_types::{
     Attrs, Cell as Chart, Deep, Feature, Head, Items, Kind, Lnam, Partners, Rec, RecName, Text,
     Vector,

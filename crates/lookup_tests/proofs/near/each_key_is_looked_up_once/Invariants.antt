@@ -1,4 +1,4 @@
-use Rattle.near_records.proofs.tests.each_key_is_looked_up_once.Given as goal
+use Rattle.lookup_tests.proofs.near.each_key_is_looked_up_once.Given as goal
 
 -- the counter's ledger is the one that the blank becomes
 abbrev pub ghosts-check : goal.ghosts-check

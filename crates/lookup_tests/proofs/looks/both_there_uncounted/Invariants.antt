@@ -1,4 +1,4 @@
-use Rattle.chain_topo.proofs.tests.both_there_uncounted.Given as goal
+use Rattle.lookup_tests.proofs.looks.both_there_uncounted.Given as goal
 
 -- the counter's ledger is the one that the blank becomes
 abbrev pub ghosts-both_there_from : goal.ghosts-both_there_from

@@ -1,7 +1,7 @@
 use Rattle.std.proofs.Common.{[], refl, ap, ◌∙◌, arith}
 use Rattle.chain_topo.proofs.SmallRecords.{vector-fits-with}
 use Rattle.s57_types.specs.Fitness.{is_feature_kind}
-use Rattle.near_records.proofs.tests.node.Goals as goal
+use Rattle.lookup_tests.proofs.near.node.Goals as goal
 
 pub returns-clause-fits : goal.returns-clause-fits
 returns-clause-fits c =

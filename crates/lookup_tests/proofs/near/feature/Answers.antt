@@ -1,7 +1,7 @@
 use Rattle.std.proofs.Common.{[], refl, ◌∙◌, arith}
 use Rattle.s57_types.specs.Fitness.{unfitness}
 use Rattle.chain_topo.proofs.SmallRecords.{feature-fits-with}
-use Rattle.near_records.proofs.tests.feature.Goals as goal
+use Rattle.lookup_tests.proofs.near.feature.Goals as goal
 
 pub returns-clause-fits : goal.returns-clause-fits
 unfolding unfitness
