@@ -7,3 +7,5 @@ mod keys;
 mod looks;
 #[cfg(test)]
 mod near;
+#[cfg(test)]
+mod sample;

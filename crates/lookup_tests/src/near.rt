@@ -1,17 +1,11 @@
-ghost use Rattle.std.specs.Prelude.{◌≡◌, ◌<◌, ℕ, None, All, IfOk, map, [], ◌∷◌};
-ghost use Rattle.s57_types.specs.declared.record.Rec.{Rec as SpecRec};
-ghost use Rattle.s57_types.specs.Fitness.{unfitness};
-ghost use Rattle.cell_spec.specs.Lookup.{name_of as spec_name};
-ghost use Rattle.cell_spec.specs.Names.{name_parts};
+ghost use Rattle.std.specs.Prelude.{◌≡◌, ◌<◌};
 ghost use Rattle.chain_topo.specs.Readable.{IsReadable};
 
+use crate::sample::{SHARED, of, sample};
 use cell_spec::{Key, Ref};
 use chain_topo::{ListLook, Look, Steps};
 use near_records::gather;
-use s57_types::{
-    Attrs, Cell as Chart, Deep, Feature, Head, Items, Kind, Lnam, Partners, Rec, RecName, Text,
-    Vector,
-};
+use s57_types::{Cell as Chart, Kind, Lnam, Rec, RecName};
 use std::alloc::{AllocError, Global};
 use std::cell::Cell;
 use std::marker::Brand;
@@ -55,116 +49,8 @@ impl<'a> Look for CountedLook<'a> {
     }
 }
 
-fn of(kind: Kind, id: u32) -> RecName
-    ensures kind { result.kind ≡ kind }
-    ensures id { result.id ≡ id }
-{
-    RecName { kind, id }
-}
-
 fn foid(fidn: u32) -> Lnam {
-    Lnam {
-        agen: 550,
-        fidn,
-        fids: 1,
-    }
-}
-
-// Connected node 1.
-fn nodes(alloc: Global) -> Result<Vec<Rec>, AllocError>
-    ensures names { IfOk result (λ v. map (λ (r : SpecRec). name_parts (spec_name r)) v.items ≡ (1 ∷ 1 ∷ []) ∷ []) }
-    ensures fits { IfOk result (λ v. All (λ r. (nall : ℕ) → unfitness nall r ≡ None) v.items) }
-{
-    let one = node(alloc);
-    Ok(vec![in alloc; one]?)
-}
-
-fn node(alloc: Global) -> Rec
-    ensures name { name_parts (spec_name result) ≡ 1 ∷ 1 ∷ [] }
-    ensures fits { (nall : ℕ) → unfitness nall result ≡ None }
-{
-    Rec::V(Vector {
-        name: of(Kind::Vc, 1),
-        rver: 1,
-        attrs: Attrs::make(alloc),
-        ends: Items::of_vec(Vec::new(alloc)),
-        plane: Items::of_vec(Vec::new(alloc)),
-        deep: Deep::make(alloc),
-    })
-}
-
-fn feature(alloc: Global) -> Rec
-    ensures name { name_parts (spec_name result) ≡ 3 ∷ 7 ∷ [] }
-    ensures fits { (nall : ℕ) → unfitness nall result ≡ None }
-{
-    Rec::F(Feature {
-        name: of(Kind::Fe, 7),
-        prim: 255,
-        grup: 2,
-        objl: 1,
-        rver: 1,
-        foid: foid(1),
-        attf: Attrs::make(alloc),
-        natf: Attrs::make(alloc),
-        partners: Partners::make(alloc),
-        places: Items::of_vec(Vec::new(alloc)),
-    })
-}
-
-// Feature 7, which bears identifier 1.
-fn features(alloc: Global) -> Result<Vec<Rec>, AllocError>
-    ensures names { IfOk result (λ v. map (λ (r : SpecRec). name_parts (spec_name r)) v.items ≡ (3 ∷ 7 ∷ []) ∷ []) }
-    ensures fits { IfOk result (λ v. All (λ r. (nall : ℕ) → unfitness nall r ≡ None) v.items) }
-{
-    let seven = feature(alloc);
-    Ok(vec![in alloc; seven]?)
-}
-
-fn head(alloc: Global) -> Head {
-    Head {
-        dsid_rcid: 1,
-        intu: 5,
-        dsnm: Text::make(alloc),
-        edtn: Text::make(alloc),
-        updn: Text::make(alloc),
-        uadt: [48; 8],
-        isdt: [48; 8],
-        sted: [48; 4],
-        prsp: 1,
-        psdn: Text::make(alloc),
-        pred: Text::make(alloc),
-        prof: 1,
-        agen: 1,
-        dsid_comt: Text::make(alloc),
-        aall: 0,
-        nall: 0,
-        dspm_rcid: 1,
-        hdat: 2,
-        vdat: 23,
-        sdat: 23,
-        cscl: 10_000,
-        duni: 1,
-        huni: 1,
-        puni: 1,
-        coun: 1,
-        comf: 10_000_000,
-        somf: 10,
-        dspm_comt: Text::make(alloc),
-    }
-}
-
-fn small_chart(alloc: Global) -> Result<Chart, AllocError>
-    ensures { IfOk result (λ chart. IsReadable chart) }
-{
-    let vc = nodes(alloc)?;
-    let fe = features(alloc)?;
-    Ok(Chart {
-        head: head(alloc),
-        vi: Items::of_vec(Vec::new(alloc)),
-        vc: Items::of_vec(vc),
-        ve: Items::of_vec(Vec::new(alloc)),
-        fe: Items::of_vec(fe),
-    })
+    Lnam { fidn, ..SHARED }
 }
 
 // Checks what is near some keys, and how many answers that took.
@@ -185,7 +71,7 @@ fn check<L: Ledger>(
     };
     let mut steps = Steps::<L>::start(blank);
     let there = of(Kind::Vc, 1);
-    let absent = of(Kind::Vc, 2);
+    let absent = of(Kind::Vc, 3);
     let keys = [
         Key::Foid(foid(2)),
         Key::Name(absent),
@@ -209,7 +95,7 @@ fn check<L: Ledger>(
 #[test]
 fn each_key_is_looked_up_once(rt: HostRuntime) -> Result<(), Fail> {
     let alloc = rt.alloc();
-    let chart = small_chart(alloc)?;
+    let chart = sample(alloc)?;
     check::<Brand>(&rt, alloc, &chart, Blank::new(1))?;
     Ok(())
 }

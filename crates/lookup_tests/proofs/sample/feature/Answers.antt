@@ -1,5 +1,5 @@
 use Rattle.chain_topo.proofs.SmallRecords.{feature-fits-with}
-use Rattle.lookup_tests.proofs.looks.feature.Goals as goal
+use Rattle.lookup_tests.proofs.sample.feature.Goals as goal
 
 pub returns-clause-fits : goal.returns-clause-fits
 returns-clause-fits c =

@@ -1,5 +1,5 @@
 use Rattle.chain_topo.proofs.SmallRecords.{vector-fits-with}
-use Rattle.lookup_tests.proofs.looks.vector.Goals as goal
+use Rattle.lookup_tests.proofs.sample.vector.Goals as goal
 
 pub returns-clause-fits : goal.returns-clause-fits
 returns-clause-fits c =

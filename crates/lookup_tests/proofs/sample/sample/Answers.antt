@@ -1,7 +1,7 @@
 use Rattle.std.proofs.Common.{[], ◌∷◌, map, refl, sym, ap, subst, ◌∙◌, arith}
 use Rattle.std.specs.List.{All}
 use Rattle.chain_topo.proofs.SmallRecords.{FitsAnywhere, parts_of, readable-from_parts}
-use Rattle.lookup_tests.proofs.looks.sample.Goals as goal
+use Rattle.lookup_tests.proofs.sample.sample.Goals as goal
 
 pub returns : goal.returns
 returns c =
