@@ -1,5 +1,5 @@
-use line_boxes::{are_disjoint, box_of_line, box_of_segment};
 use geometry_spec::Box4;
+use line_boxes::{are_disjoint, box_of_line, box_of_segment};
 use plain_lookups::Numbered;
 
 fn sides(south: i32, west: i32, north: i32, east: i32) -> Box4 {

@@ -7,3 +7,5 @@ mod boxes;
 mod findings;
 #[cfg(test)]
 mod pairs;
+#[cfg(test)]
+mod sheet;

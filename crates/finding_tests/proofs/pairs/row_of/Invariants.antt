@@ -1,4 +1,4 @@
-use Rattle.finding_tests.proofs.pairs.a_pair_reads_both_records.Given as goal
+use Rattle.finding_tests.proofs.pairs.row_of.Given as goal
 
 -- the counter's ledger is the one that the blank becomes
 abbrev pub ghosts-judged : goal.ghosts-judged
