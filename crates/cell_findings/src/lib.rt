@@ -15,6 +15,3 @@ pub use findings::find_all;
 pub use list::{Findings, SubjectFinding};
 pub use refusal::FindingRefusal;
 pub use text::{push_cell, push_findings};
-
-#[cfg(test)]
-mod tests;

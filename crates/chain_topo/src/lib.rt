@@ -13,6 +13,3 @@ pub use cell_spec::{Finding, Findings, Key, Keys, Names, Ref, Refs, Row, Rows, S
 pub use counter::Steps;
 pub use edge::{edge_line, edge_of, edge_points, node_at, position_of};
 pub use sorted::ListLook;
-
-#[cfg(test)]
-mod tests;

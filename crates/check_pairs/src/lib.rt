@@ -7,6 +7,3 @@ mod part;
 mod verdict;
 
 pub use verdict::verdict_pair;
-
-#[cfg(test)]
-mod tests;

@@ -7,6 +7,3 @@
 mod boxes;
 
 pub use boxes::{are_disjoint, box_of_line, box_of_segment};
-
-#[cfg(test)]
-mod tests;

@@ -4,6 +4,3 @@
 mod near;
 
 pub use near::{NearRecords, gather};
-
-#[cfg(test)]
-mod tests;

@@ -6,6 +6,3 @@ mod keys;
 
 pub use ascending::{ascending_keys, ascending_names, distinct};
 pub use keys::{push_end_keys, push_vector_keys};
-
-#[cfg(test)]
-mod tests;
