@@ -13,6 +13,3 @@ mod values;
 
 pub use file::read_cell;
 pub use refusal::ReadRefusal;
-
-#[cfg(test)]
-mod tests;

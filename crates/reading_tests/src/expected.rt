@@ -174,28 +174,43 @@ pub fn counts(cell: &Cell) -> [usize; 4] {
     [cell.vi.len(), cell.vc.len(), cell.ve.len(), cell.fe.len()]
 }
 
-/// Whether a cell has the head of the files and the isolated node 1 with these coordinates alone.
-pub fn is_node_alone(cell: &Cell, plane: &[(i32, i32)]) -> bool {
+/// A record of the number 1: an isolated node of coordinates alone, an edge or a feature.
+#[derive(Drop)]
+pub enum Record<'a> {
+    Node(&'a [(i32, i32)]),
+    Edge(VectorValues<'a>),
+    Feature(FeatureValues<'a>),
+}
+
+fn is_node_alone(cell: &Cell, plane: &[(i32, i32)]) -> bool {
     let [node] = cell.vi.as_slice() else {
         return false;
     };
-    is_head(&cell.head)
-        && counts(cell) == [1, 0, 0, 0]
-        && is_vector(node, Kind::Vi, 1, &points(plane))
+    counts(cell) == [1, 0, 0, 0] && is_vector(node, Kind::Vi, 1, &points(plane))
 }
 
-/// Whether a cell has the head of the files and the edge 1 with these values alone.
-pub fn is_edge_alone(cell: &Cell, values: &VectorValues) -> bool {
+fn is_edge_alone(cell: &Cell, values: &VectorValues) -> bool {
     let [edge] = cell.ve.as_slice() else {
         return false;
     };
-    is_head(&cell.head) && counts(cell) == [0, 0, 1, 0] && is_vector(edge, Kind::Ve, 1, values)
+    counts(cell) == [0, 0, 1, 0] && is_vector(edge, Kind::Ve, 1, values)
 }
 
-/// Whether a cell has the head of the files and the feature 1 with these values alone.
-pub fn is_feature_alone(cell: &Cell, values: &FeatureValues) -> bool {
+fn is_feature_alone(cell: &Cell, values: &FeatureValues) -> bool {
     let [feature] = cell.fe.as_slice() else {
         return false;
     };
-    is_head(&cell.head) && counts(cell) == [0, 0, 0, 1] && is_feature(feature, 1, values)
+    counts(cell) == [0, 0, 0, 1] && is_feature(feature, 1, values)
+}
+
+/// Whether a cell has the head of the files and this record alone.
+pub fn is_alone(cell: &Cell, record: &Record) -> bool {
+    if !is_head(&cell.head) {
+        return false;
+    }
+    match record {
+        Record::Node(plane) => is_node_alone(cell, plane),
+        Record::Edge(values) => is_edge_alone(cell, values),
+        Record::Feature(values) => is_feature_alone(cell, values),
+    }
 }

@@ -1,10 +1,10 @@
 //! One file for each liberty that a producer of cell files has, and the cell that it stands for.
 
-use super::expected::{
-    FeatureValues, VectorValues, end, is_edge_alone, is_feature, is_feature_alone, is_head,
-    is_node_alone, is_vector, place, points,
+use crate::expected::{
+    FeatureValues, Record, VectorValues, end, is_alone, is_feature, is_head, is_vector, place,
+    points,
 };
-use super::{DESCRIPTIVE, GENERAL, GEOGRAPHIC, NODE, joined, read};
+use crate::files::{DESCRIPTIVE, GENERAL, GEOGRAPHIC, NODE, joined, read_parts};
 use s57_types::{Cell, Kind, Rec};
 use std::alloc::{AllocError, Global};
 use std::test::Fail;
@@ -90,18 +90,29 @@ const MIXED: [&[u8]; 8] = [
     b"00040 D     00031   1104VRID90\x1en\xff\xff\xff\xff\x01\x00\x01\x1e",
 ];
 
-/// The cell of a file of these parts.
-fn cell_of(alloc: Global, parts: &[&[u8]]) -> Result<Cell, Fail> {
-    let file = joined(alloc, parts)?;
-    Ok(read(alloc, &file).ok().ok_or("it is a cell file")?)
+/// Whether a file of these parts stands for a cell with the head of the files and this record alone.
+fn file_is(alloc: Global, parts: &[&[u8]], record: &Record) -> Result<bool, AllocError> {
+    let answer = read_parts(alloc, parts)?;
+    Ok(matches!(&answer, Ok(cell) if is_alone(cell, record)))
+}
+
+/// Whether a record behind the good head stands for this one.
+fn record_is(alloc: Global, bytes: &[u8], record: &Record) -> Result<bool, AllocError> {
+    file_is(alloc, &[DESCRIPTIVE, GENERAL, GEOGRAPHIC, bytes], record)
+}
+
+/// Whether a record behind the good head stands for the isolated node 1 at these places.
+fn is_node(alloc: Global, bytes: &[u8], plane: &[(i32, i32)]) -> Result<bool, AllocError> {
+    record_is(alloc, bytes, &Record::Node(plane))
 }
 
 #[test]
 fn any_descriptive_record_may_stand_first(rt: HostRuntime) -> Result<(), Fail> {
     let alloc = rt.alloc();
     for descriptive in DESCRIPTIVES {
-        let cell = cell_of(alloc, &[descriptive, GENERAL, GEOGRAPHIC, NODE])?;
-        assert!(rt; is_node_alone(&cell, &[]), "{}", descriptive.len());
+        let parts = [descriptive, GENERAL, GEOGRAPHIC, NODE];
+        let good = file_is(alloc, &parts, &Record::Node(&[]))?;
+        assert!(rt; good, "{}", descriptive.len());
     }
     Ok(())
 }
@@ -111,13 +122,9 @@ fn head_records_need_no_number(rt: HostRuntime) -> Result<(), Fail> {
     let alloc = rt.alloc();
     for general in GENERALS {
         for geographic in GEOGRAPHICS {
-            let cell = cell_of(alloc, &[DESCRIPTIVE, general, geographic, NODE])?;
-            assert!(rt;
-                is_node_alone(&cell, &[]),
-                "{} {}",
-                general.len(),
-                geographic.len()
-            );
+            let parts = [DESCRIPTIVE, general, geographic, NODE];
+            let good = file_is(alloc, &parts, &Record::Node(&[]))?;
+            assert!(rt; good, "{} {}", general.len(), geographic.len());
         }
     }
     Ok(())
@@ -127,51 +134,56 @@ fn head_records_need_no_number(rt: HostRuntime) -> Result<(), Fail> {
 fn records_have_any_numbers(rt: HostRuntime) -> Result<(), Fail> {
     let alloc = rt.alloc();
     for record in NUMBERED {
-        let cell = cell_of(alloc, &[DESCRIPTIVE, GENERAL, GEOGRAPHIC, record])?;
-        assert!(rt; is_node_alone(&cell, &[(1, -1)]), "{}", record.len());
+        let good = is_node(alloc, record, &[(1, -1)])?;
+        assert!(rt; good, "{}", record.len());
     }
     Ok(())
 }
 
-/// Appends a number of one digit with zeros before it.
-fn push_digits(record: &mut Vec<u8>, width: u8, digit: u8) -> Result<(), AllocError> {
-    for _ in 1..width {
-        record.push(b'0')?;
-    }
-    record.push(digit)?;
-    Ok(())
+/// The last digits of a number.
+fn last_digits(digits: &[u8], width: usize) -> &[u8] {
+    digits
+        .get(digits.len().saturating_sub(width)..)
+        .unwrap_or(digits)
 }
 
 /// The isolated node 1 at (1, -1), whose entries have so many digits for a length and for a position.
-fn node_of_sizes(alloc: Global, m: u8, n: u8) -> Result<Vec<u8>, AllocError> {
+fn node_of_sizes(alloc: Global, m: usize, n: usize) -> Result<Vec<u8>, AllocError> {
     // a leader of 24 bytes, two entries, a terminator and two fields of nine bytes
-    let base = u32::from(m)
-        .saturating_add(u32::from(n))
-        .saturating_mul(2)
-        .saturating_add(33);
+    let base = m.saturating_add(n).saturating_mul(2).saturating_add(33);
     let length = base.saturating_add(18);
-    let mut record = Vec::from_slice(
+    let front = format!(in alloc; "000{length} D     000{base}   {m}{n}04VRID")?;
+    let size = last_digits(b"000000009", m);
+    let begin = last_digits(b"000000000", n);
+    let second = last_digits(b"000000009", n);
+    joined(
         alloc,
-        format!(in alloc; "000{length} D     000{base}   {m}{n}04VRID")?.as_bytes(),
-    )?;
-    push_digits(&mut record, m, b'9')?;
-    push_digits(&mut record, n, b'0')?;
-    record.extend_from_slice(b"SG2D")?;
-    push_digits(&mut record, m, b'9')?;
-    push_digits(&mut record, n, b'9')?;
-    record.extend_from_slice(b"\x1en\x01\x00\x00\x00\x01\x00\x01\x1e")?;
-    record.extend_from_slice(b"\x01\x00\x00\x00\xff\xff\xff\xff\x1e")?;
-    Ok(record)
+        &[
+            front.as_bytes(),
+            size,
+            begin,
+            b"SG2D",
+            size,
+            second,
+            b"\x1en\x01\x00\x00\x00\x01\x00\x01\x1e",
+            b"\x01\x00\x00\x00\xff\xff\xff\xff\x1e",
+        ],
+    )
+}
+
+/// Whether the node with entries of these sizes is read.
+fn is_node_of_sizes(alloc: Global, m: usize, n: usize) -> Result<bool, AllocError> {
+    let record = node_of_sizes(alloc, m, n)?;
+    is_node(alloc, &record, &[(1, -1)])
 }
 
 #[test]
 fn entries_have_one_to_nine_digits(rt: HostRuntime) -> Result<(), Fail> {
     let alloc = rt.alloc();
-    for m in 1..10u8 {
-        for n in 1..10u8 {
-            let record = node_of_sizes(alloc, m, n)?;
-            let cell = cell_of(alloc, &[DESCRIPTIVE, GENERAL, GEOGRAPHIC, &record])?;
-            assert!(rt; is_node_alone(&cell, &[(1, -1)]), "{m} {n}");
+    for m in 1..10usize {
+        for n in 1..10usize {
+            let good = is_node_of_sizes(alloc, m, n)?;
+            assert!(rt; good, "{m} {n}");
         }
     }
     Ok(())
@@ -180,47 +192,44 @@ fn entries_have_one_to_nine_digits(rt: HostRuntime) -> Result<(), Fail> {
 #[test]
 fn repeated_fields_join_in_order(rt: HostRuntime) -> Result<(), Fail> {
     let alloc = rt.alloc();
-    let cell = cell_of(alloc, &[DESCRIPTIVE, GENERAL, GEOGRAPHIC, JOINED_EDGE])?;
-    let values = VectorValues {
+    let edge = Record::Edge(VectorValues {
         attrs: &[],
         ends: &[end(8, 2), end(7, 1), end(6, 9)],
         plane: &[(3, -4), (1, 2), (-2_147_483_648, 2_147_483_647)],
         deep: &[(5, -6, 7), (-8, 9, -10), (1, 2, 3)],
-    };
-    assert!(rt; is_edge_alone(&cell, &values));
-    let cell = cell_of(alloc, &[DESCRIPTIVE, GENERAL, GEOGRAPHIC, JOINED_FEATURE])?;
-    let values = FeatureValues {
+    });
+    assert!(rt; record_is(alloc, JOINED_EDGE, &edge)?);
+    let feature = Record::Feature(FeatureValues {
         attf: &[],
         natf: &[],
         partners: &[(9, b"a"), (8, b""), (7, b"bc")],
         places: &[place(2, 2), place(1, 1), place(3, 255)],
-    };
-    assert!(rt; is_feature_alone(&cell, &values));
+    });
+    assert!(rt; record_is(alloc, JOINED_FEATURE, &feature)?);
     Ok(())
 }
 
 #[test]
 fn fields_stand_in_any_order(rt: HostRuntime) -> Result<(), Fail> {
     let alloc = rt.alloc();
-    for record in EDGES {
-        let cell = cell_of(alloc, &[DESCRIPTIVE, GENERAL, GEOGRAPHIC, record])?;
-        let values = VectorValues {
-            attrs: &[(300, b"v")],
-            ends: &[end(8, 2)],
-            plane: &[(3, -4)],
-            deep: &[(5, -6, 7)],
-        };
-        assert!(rt; is_edge_alone(&cell, &values), "{}", record.len());
+    let edge = Record::Edge(VectorValues {
+        attrs: &[(300, b"v")],
+        ends: &[end(8, 2)],
+        plane: &[(3, -4)],
+        deep: &[(5, -6, 7)],
+    });
+    for bytes in EDGES {
+        let good = record_is(alloc, bytes, &edge)?;
+        assert!(rt; good, "{}", bytes.len());
     }
-    for record in FEATURES {
-        let cell = cell_of(alloc, &[DESCRIPTIVE, GENERAL, GEOGRAPHIC, record])?;
-        let values = FeatureValues {
-            attf: &[(1, b"f")],
-            natf: &[(2, b"n")],
-            partners: &[(9, b"a")],
-            places: &[place(2, 2)],
-        };
-        assert!(rt; is_feature_alone(&cell, &values));
+    let feature = Record::Feature(FeatureValues {
+        attf: &[(1, b"f")],
+        natf: &[(2, b"n")],
+        partners: &[(9, b"a")],
+        places: &[place(2, 2)],
+    });
+    for bytes in FEATURES {
+        assert!(rt; record_is(alloc, bytes, &feature)?);
     }
     Ok(())
 }
@@ -229,22 +238,19 @@ fn fields_stand_in_any_order(rt: HostRuntime) -> Result<(), Fail> {
 fn fields_overlap_or_leave_gaps(rt: HostRuntime) -> Result<(), Fail> {
     let alloc = rt.alloc();
     let [twice, begun] = OVERLAPPING;
-    let cell = cell_of(alloc, &[DESCRIPTIVE, GENERAL, GEOGRAPHIC, twice])?;
-    assert!(rt; is_node_alone(&cell, &[(1, -1), (1, -1)]));
-    let cell = cell_of(alloc, &[DESCRIPTIVE, GENERAL, GEOGRAPHIC, begun])?;
-    assert!(rt; is_node_alone(&cell, &[(1, -1), (1, -1), (30, 0)]));
-    for record in SPREAD {
-        let cell = cell_of(alloc, &[DESCRIPTIVE, GENERAL, GEOGRAPHIC, record])?;
-        assert!(rt; is_node_alone(&cell, &[(1, -1)]), "{}", record.len());
+    assert!(rt; is_node(alloc, twice, &[(1, -1), (1, -1)])?);
+    assert!(rt; is_node(alloc, begun, &[(1, -1), (1, -1), (30, 0)])?);
+    for bytes in SPREAD {
+        let good = is_node(alloc, bytes, &[(1, -1)])?;
+        assert!(rt; good, "{}", bytes.len());
     }
-    let cell = cell_of(alloc, &[DESCRIPTIVE, GENERAL, GEOGRAPHIC, SHARED])?;
-    let values = VectorValues {
+    let edge = Record::Edge(VectorValues {
         attrs: &[],
         ends: &[end(7, 1)],
         plane: &[(7, -16_646_145)],
         deep: &[],
-    };
-    assert!(rt; is_edge_alone(&cell, &values));
+    });
+    assert!(rt; record_is(alloc, SHARED, &edge)?);
     Ok(())
 }
 
@@ -257,17 +263,10 @@ fn are_bare(recs: &[Rec], kind: Kind, ids: [u32; 2]) -> bool {
     is_vector(first, kind, one, &points(&[])) && is_vector(second, kind, two, &points(&[]))
 }
 
-#[test]
-fn vector_and_feature_records_mix(rt: HostRuntime) -> Result<(), Fail> {
-    let alloc = rt.alloc();
-    let records = joined(alloc, &MIXED)?;
-    let cell = cell_of(alloc, &[DESCRIPTIVE, GENERAL, GEOGRAPHIC, &records])?;
-    assert!(rt; is_head(&cell.head));
-    assert!(rt; are_bare(cell.vi.as_slice(), Kind::Vi, [1, 4_294_967_295]));
-    assert!(rt; are_bare(cell.vc.as_slice(), Kind::Vc, [9, 1]));
-    assert!(rt; are_bare(cell.ve.as_slice(), Kind::Ve, [1, 4]));
-    let [first, second] = cell.fe.as_slice() else {
-        return Err("it has two features".into());
+/// Whether two records are the features 2 and 1 without a row.
+fn are_bare_features(recs: &[Rec]) -> bool {
+    let [first, second] = recs else {
+        return false;
     };
     let values = FeatureValues {
         attf: &[],
@@ -275,6 +274,27 @@ fn vector_and_feature_records_mix(rt: HostRuntime) -> Result<(), Fail> {
         partners: &[],
         places: &[],
     };
-    assert!(rt; is_feature(first, 2, &values) && is_feature(second, 1, &values));
+    is_feature(first, 2, &values) && is_feature(second, 1, &values)
+}
+
+/// Whether a cell has the head of the files and the mixed records alone.
+fn is_mixed(cell: &Cell) -> bool {
+    is_head(&cell.head)
+        && are_bare(cell.vi.as_slice(), Kind::Vi, [1, 4_294_967_295])
+        && are_bare(cell.vc.as_slice(), Kind::Vc, [9, 1])
+        && are_bare(cell.ve.as_slice(), Kind::Ve, [1, 4])
+        && are_bare_features(cell.fe.as_slice())
+}
+
+/// Whether the mixed records are read.
+fn mixed_records_are_read(alloc: Global) -> Result<bool, AllocError> {
+    let records = joined(alloc, &MIXED)?;
+    let answer = read_parts(alloc, &[DESCRIPTIVE, GENERAL, GEOGRAPHIC, &records])?;
+    Ok(matches!(&answer, Ok(cell) if is_mixed(cell)))
+}
+
+#[test]
+fn vector_and_feature_records_mix(rt: HostRuntime) -> Result<(), Fail> {
+    assert!(rt; mixed_records_are_read(rt.alloc())?);
     Ok(())
 }
