@@ -8,6 +8,3 @@ mod sessions;
 
 pub use law::order_lines_are_read;
 pub use order::{Order, OrderRefusal, read_order};
-
-#[cfg(test)]
-mod tests;

@@ -18,6 +18,3 @@ pub use reading::{read_command, read_script};
 pub use refusal::ScriptRefusal;
 pub use script::Script;
 pub use text_spec::Command;
-
-#[cfg(test)]
-mod tests;
