@@ -9,6 +9,3 @@ mod sums;
 mod sweep;
 
 pub use area::area_findings;
-
-#[cfg(test)]
-mod tests;

@@ -10,6 +10,3 @@ mod partners;
 mod places;
 
 pub use feature::feature_findings;
-
-#[cfg(test)]
-mod tests;

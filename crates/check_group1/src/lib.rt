@@ -11,6 +11,3 @@ mod uses;
 
 pub use identity::verdict_ident;
 pub use side::verdict_side;
-
-#[cfg(test)]
-mod tests;

@@ -11,6 +11,3 @@ mod vector;
 mod verdict;
 
 pub use verdict::verdict_rec;
-
-#[cfg(test)]
-mod tests;

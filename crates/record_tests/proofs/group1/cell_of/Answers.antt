@@ -1,0 +1,15 @@
+use Rattle.std.proofs.Common.{[], ◌∷◌, map, refl, sym, ap, subst, ◌∙◌, arith}
+use Rattle.std.specs.List.{All}
+use Rattle.std.proofs.lemmas.List.Elements.{All-nil}
+use Rattle.chain_topo.proofs.SmallRecords.{FitsAnywhere, parts_of, readable-from_parts}
+use Rattle.record_tests.proofs.group1.cell_of.Goals as goal
+
+pub returns : goal.returns
+returns g c =
+    readable-from_parts (record { head = c.head.result; vi = c.of_vec.result; vc = c.of_vec-2.result; ve = c.of_vec-3.result; fe = c.of_vec-4.result })
+    [] [] ((2 ∷ 1 ∷ []) ∷ []) ((3 ∷ 1 ∷ []) ∷ (3 ∷ 2 ∷ []) ∷ (3 ∷ 3 ∷ []) ∷ [])
+    (ap (map parts_of) (c.of_vec.ensures ∙ c.new.ensures.items)) (ap (map parts_of) (c.of_vec-2.ensures ∙ c.new-2.ensures.items))
+    (ap (map parts_of) c.of_vec-3.ensures ∙ c.in_ok-ve.ensures.names) (ap (map parts_of) c.of_vec-4.ensures ∙ c.in_ok-fe.ensures.names)
+    refl (omega arith)
+    (subst (All FitsAnywhere) (sym (c.of_vec.ensures ∙ c.new.ensures.items)) (All-nil FitsAnywhere)) (subst (All FitsAnywhere) (sym (c.of_vec-2.ensures ∙ c.new-2.ensures.items)) (All-nil FitsAnywhere))
+    (subst (All FitsAnywhere) (sym c.of_vec-3.ensures) c.in_ok-ve.ensures.fits) (subst (All FitsAnywhere) (sym c.of_vec-4.ensures) c.in_ok-fe.ensures.fits)
