@@ -12,6 +12,3 @@ pub use fit::fits;
 pub use head::head_fits;
 pub use head_record::{is_general_information_short, is_geographic_reference_short};
 pub use length::is_short;
-
-#[cfg(test)]
-mod tests;

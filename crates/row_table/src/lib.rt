@@ -6,8 +6,6 @@ mod flat;
 mod laws;
 mod run;
 mod table;
-#[cfg(test)]
-mod tests;
 
 pub use flat::FlatTable;
 pub use laws::{

@@ -7,8 +7,6 @@ mod lock;
 mod operation;
 mod outcomes;
 mod steps;
-#[cfg(test)]
-mod tests;
 mod view;
 
 pub use chronicle::Chronicle;
