@@ -1,4 +1,3 @@
 pub mod FitLists
 pub mod RecordBytes
-pub mod SampleCells
 pub mod ShortRecords

@@ -9,6 +9,3 @@ mod number;
 mod vector;
 
 pub use cell::write_cell;
-
-#[cfg(test)]
-mod tests;

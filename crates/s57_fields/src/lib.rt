@@ -25,6 +25,3 @@ pub use vector::{
     read_attv, read_sg2d, read_sg3d, read_vrid, read_vrpt, write_attv, write_sg2d, write_sg3d,
     write_vrid, write_vrpt,
 };
-
-#[cfg(test)]
-mod tests;

@@ -1,8 +1,8 @@
 use Rattle.std.proofs.Common.{◌∙◌, ◌∷◌, [], ap}
 use Rattle.s57_types.specs.declared.record.Rec.{Rec}
 use Rattle.file_samples.specs.WrittenFiles.{full_cell}
-use Rattle.cell_write.proofs.SampleCells.{writable_as, full_good}
-use Rattle.cell_write.proofs.tests.samples.full_cell.Goals as goal
+use Rattle.writing_tests.proofs.SampleCells.{writable_as, full_good}
+use Rattle.writing_tests.proofs.samples.full_cell.Goals as goal
 
 pub returns : goal.returns
 returns c =

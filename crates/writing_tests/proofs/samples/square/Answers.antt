@@ -1,6 +1,6 @@
 use Rattle.file_samples.specs.Square.{square}
-use Rattle.cell_write.proofs.SampleCells.{writable_as, square_good}
-use Rattle.cell_write.proofs.tests.samples.square.Goals as goal
+use Rattle.writing_tests.proofs.SampleCells.{writable_as, square_good}
+use Rattle.writing_tests.proofs.samples.square.Goals as goal
 
 pub returns : goal.returns
 returns c =

@@ -1,6 +1,6 @@
 use Rattle.file_samples.specs.SquareFile.{no_records}
-use Rattle.cell_write.proofs.SampleCells.{writable_as, no_records_good}
-use Rattle.cell_write.proofs.tests.samples.no_records.Goals as goal
+use Rattle.writing_tests.proofs.SampleCells.{writable_as, no_records_good}
+use Rattle.writing_tests.proofs.samples.no_records.Goals as goal
 
 pub returns : goal.returns
 returns c =
