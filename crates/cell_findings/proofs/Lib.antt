@@ -10,6 +10,5 @@ pub mod AllFindings
 pub mod Gathering
 pub mod KindsAgree
 pub mod KnownKinds
-pub mod SmallCells
 pub mod Extents
 mod Unplaced
