@@ -9,6 +9,3 @@ pub use law::{
     boundaries_partition, changes_are_judged, codes_fit_the_table, samples_are_judged,
     tiles_decide_candidates,
 };
-
-#[cfg(test)]
-mod tests;

@@ -1,11 +1,4 @@
-//! Small cells, on which each rule is called.
-
-mod areas;
-mod features;
-mod pairs;
-mod sides;
-mod subjects;
-mod vectors;
+//! Small cells, and what a rule finds in them.
 
 use plain_lookups::{Found, number};
 use s57_types::{
@@ -16,23 +9,23 @@ use std::alloc::{AllocError, Global};
 use std::process::Abort;
 
 /// An edge: its beginning node, its end node and the positions between them.
-type Course<'a> = (u32, u32, &'a [(i32, i32)]);
+pub type Course<'a> = (u32, u32, &'a [(i32, i32)]);
 
 /// The primitive, group and object label of a feature.
-type Class = (u8, u8, u16);
+pub type Class = (u8, u8, u16);
 
-const DEPTH_AREA: Class = (3, 1, 42);
+pub const DEPTH_AREA: Class = (3, 1, 42);
 
 /// An area, and a feature without geometry, both outside Group 1.
-const AREA: Class = (3, 2, 30);
+pub const AREA: Class = (3, 2, 30);
 
-const COLLECTION: Class = (255, 2, 400);
+pub const COLLECTION: Class = (255, 2, 400);
 
-fn name(kind: Kind, id: u32) -> RecName {
+pub fn name(kind: Kind, id: u32) -> RecName {
     RecName { kind, id }
 }
 
-fn vector(
+pub fn vector(
     alloc: Global,
     name: RecName,
     ends: &[End],
@@ -50,7 +43,7 @@ fn vector(
     })
 }
 
-fn end(topi: u8, id: u32) -> End {
+pub fn end(topi: u8, id: u32) -> End {
     End {
         to: name(Kind::Vc, id),
         ornt: 255,
@@ -60,13 +53,13 @@ fn end(topi: u8, id: u32) -> End {
     }
 }
 
-fn edge(alloc: Global, id: u32, course: Course) -> Result<Vector, AllocError> {
+pub fn edge(alloc: Global, id: u32, course: Course) -> Result<Vector, AllocError> {
     let ends = [end(1, course.0), end(2, course.1)];
     vector(alloc, name(Kind::Ve, id), &ends, course.2)
 }
 
 /// A pointer to an edge with an orientation and a usage.
-fn spot(id: u32, ornt: u8, usag: u8) -> Spot {
+pub fn spot(id: u32, ornt: u8, usag: u8) -> Spot {
     Spot {
         to: name(Kind::Ve, id),
         ornt,
@@ -76,11 +69,11 @@ fn spot(id: u32, ornt: u8, usag: u8) -> Spot {
 }
 
 /// The boundary of the square, clockwise.
-fn clockwise() -> [Spot; 4] {
+pub fn clockwise() -> [Spot; 4] {
     [spot(3, 1, 1), spot(2, 1, 1), spot(4, 2, 1), spot(1, 2, 1)]
 }
 
-fn lnam(fidn: u32) -> Lnam {
+pub fn lnam(fidn: u32) -> Lnam {
     Lnam {
         agen: 1,
         fidn,
@@ -88,7 +81,12 @@ fn lnam(fidn: u32) -> Lnam {
     }
 }
 
-fn feature(alloc: Global, id: u32, class: Class, places: &[Spot]) -> Result<Feature, AllocError> {
+pub fn feature(
+    alloc: Global,
+    id: u32,
+    class: Class,
+    places: &[Spot],
+) -> Result<Feature, AllocError> {
     let places = places.to_vec(alloc)?;
     Ok(Feature {
         name: name(Kind::Fe, id),
@@ -157,7 +155,7 @@ fn edges(alloc: Global, courses: &[Course]) -> Result<Recs, AllocError> {
 }
 
 /// A cell of connected nodes at these places and of edges, each numbered from 1.
-fn cell(alloc: Global, places: &[(i32, i32)], courses: &[Course]) -> Result<Cell, AllocError> {
+pub fn cell(alloc: Global, places: &[(i32, i32)], courses: &[Course]) -> Result<Cell, AllocError> {
     let vc = nodes(alloc, places)?;
     let ve = edges(alloc, courses)?;
     Ok(Cell {
@@ -171,18 +169,18 @@ fn cell(alloc: Global, places: &[(i32, i32)], courses: &[Course]) -> Result<Cell
 
 /// The cell of a square whose first corner is at this place: its edges lead from node 1 to 2, from 3 to 4, from 1 to 3
 /// and from 2 to 4.
-fn square_from(alloc: Global, corner: (i32, i32)) -> Result<Cell, AllocError> {
+pub fn square_from(alloc: Global, corner: (i32, i32)) -> Result<Cell, AllocError> {
     let places = [corner, (0, 40_000), (40_000, 0), (40_000, 40_000)];
     let courses: [Course; 4] = [(1, 2, &[]), (3, 4, &[]), (1, 3, &[]), (2, 4, &[])];
     cell(alloc, &places, &courses)
 }
 
-fn square(alloc: Global) -> Result<Cell, AllocError> {
+pub fn square(alloc: Global) -> Result<Cell, AllocError> {
     square_from(alloc, (0, 0))
 }
 
 /// Adds a feature of this class with these pointers.
-fn add(
+pub fn add(
     alloc: Global,
     cell: &mut Cell,
     id: u32,
@@ -194,7 +192,7 @@ fn add(
 }
 
 /// Checks the numbers of each finding of a rule.
-fn check(rt: &impl Abort, found: &Found, wanted: &[&[u32]]) {
+pub fn check(rt: &impl Abort, found: &Found, wanted: &[&[u32]]) {
     assert_eq!(rt; found.len(), wanted.len());
     for (nums, numbers) in found.as_slice().iter().zip(wanted) {
         assert_eq!(rt; nums.as_slice(), *numbers);

@@ -1,8 +1,8 @@
 //! The subjects of whole cells, with what is found of them.
 
-use super::{DEPTH_AREA, add, cell, clockwise, name, square_from};
-use crate::{all_findings, findings_of_subject, subjects};
+use crate::cells::{DEPTH_AREA, add, cell, clockwise, name, square_from};
 use cell_spec::{Finding, Subject};
+use plain_findings::{all_findings, findings_of_subject, subjects};
 use s57_types::Kind;
 use std::test::Fail;
 

@@ -1,6 +1,6 @@
 //! Rules on two nodes or edges.
 
-use super::{Course, cell, check, name};
+use crate::cells::{Course, cell, check, name};
 use plain_rules::{contact_of_kind, node_on_edge, same_place};
 use s57_types::Kind;
 use std::test::Fail;
