@@ -4,6 +4,8 @@
 #[cfg(test)]
 mod areas;
 #[cfg(test)]
+mod charts;
+#[cfg(test)]
 mod features;
 #[cfg(test)]
 mod group1;
