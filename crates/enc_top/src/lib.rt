@@ -11,6 +11,3 @@ mod work;
 
 pub use status::{Status, print_status};
 pub use top::{run, run_plain};
-
-#[cfg(test)]
-mod tests;
