@@ -1,5 +1,5 @@
 //! Handles that sign in threads.
-ghost use Rattle.std.specs.Prelude.{◌≡◌, ◌≤◌, ◌+◌, ◌<◌, All, IfOk, [], length};
+ghost use Rattle.std.specs.Prelude.{◌≡◌, ◌<◌, All, IfOk, length};
 
 use std::alloc::{AllocError, Global};
 use std::snapshot::Snapshot;
