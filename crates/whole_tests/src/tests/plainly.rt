@@ -64,10 +64,9 @@ fn subjects_of(alloc: Global, cell: &Cell) -> Result<Vec<Subject>, Fail> {
     Ok(subjects)
 }
 
-/// The pairs of a name with greater ones; names of isolated nodes and of features are in none. The plain bodies are
-/// slow, so only every sixty-fourth number is taken for the first.
+/// The pairs of a name with greater ones; names of isolated nodes and of features are in none.
 fn push_pairs(subjects: &mut Vec<Subject>, first: RecName, names: &[RecName]) -> Result<(), Fail> {
-    if !matches!(first.kind, Kind::Vc | Kind::Ve) || first.id % 64 != 0 {
+    if !matches!(first.kind, Kind::Vc | Kind::Ve) {
         return Ok(());
     }
     for name in names {
@@ -135,21 +134,11 @@ fn plain_lines(alloc: Global, cell: &Cell) -> Result<String, Fail> {
     Ok(text)
 }
 
-/// Whether a line tells of one of these subjects.
-fn is_judged(line: &str) -> bool {
-    let mut words = line.split_whitespace();
-    if words.next() != Some("pair") {
-        return true;
-    }
-    let id = words.nth(1).and_then(|word| word.parse::<u32>().ok());
-    id.is_some_and(|id| id % 64 == 0)
-}
-
-/// The lines about these subjects among those of a report's part that tells of a cell.
-fn judged_lines(alloc: Global, report: &str) -> Result<String, Fail> {
+/// The lines of findings in a report's part that tells of a cell.
+fn finding_lines(alloc: Global, report: &str) -> Result<String, Fail> {
     let mut text = String::new(alloc);
     for line in report.lines().skip(2) {
-        if line != "end" && is_judged(line) {
+        if line != "end" {
             text.push_str(line)?;
             text.push_str("\n")?;
         }
@@ -180,7 +169,7 @@ fn findings_of_every_kind_are_those_of_the_plain_bodies(rt: HostRuntime) -> Resu
         return Err("it is short".into());
     }
     let cell = read_cell(alloc, &file).ok().ok_or("it is a cell file")?;
-    let judged = judged_lines(alloc, report)?;
-    assert!(rt; plain_lines(alloc, &cell)? == judged);
+    let found = finding_lines(alloc, report)?;
+    assert!(rt; plain_lines(alloc, &cell)? == found);
     Ok(())
 }
