@@ -1,2 +1,1 @@
 mod NumberedFeatures
-mod NumberedRecords

@@ -1,6 +1,6 @@
 //! The cases by their names.
 
-use crate::{areas, cells, edges, fields, findings, lookups, pairs, scripts, table};
+use crate::{cells, fields, lookups, table};
 use std::fmt;
 
 /// What is timed.
@@ -20,16 +20,6 @@ pub enum Case {
     Fields(fields::Work),
     /// A generated cell read or written; the size is how often.
     Cells(cells::Work),
-    /// Scripts at their limits read; the size is how often.
-    Scripts(scripts::Work),
-    /// The rules on an edge; the size is how many points or ends it has.
-    Edges(edges::Work),
-    /// The rules on two edges; the size is how many points each has.
-    Pairs(pairs::Work),
-    /// The rules on an area; the size is how many pointers it has.
-    Areas(areas::Work),
-    /// All findings of a cell; the size is how many nodes it has.
-    Findings(findings::Work),
 }
 
 impl Case {
@@ -43,12 +33,7 @@ impl Case {
                 .map(Case::Table)
                 .or_else(|| lookups::Work::of(name).map(Case::Lookups))
                 .or_else(|| fields::Work::of(name).map(Case::Fields))
-                .or_else(|| cells::Work::of(name).map(Case::Cells))
-                .or_else(|| scripts::Work::of(name).map(Case::Scripts))
-                .or_else(|| edges::Work::of(name).map(Case::Edges))
-                .or_else(|| pairs::Work::of(name).map(Case::Pairs))
-                .or_else(|| areas::Work::of(name).map(Case::Areas))
-                .or_else(|| findings::Work::of(name).map(Case::Findings)),
+                .or_else(|| cells::Work::of(name).map(Case::Cells)),
         }
     }
 }
@@ -63,11 +48,6 @@ impl fmt::Display for Case {
             Case::Lookups(work) => work.fmt(f),
             Case::Fields(work) => work.fmt(f),
             Case::Cells(work) => work.fmt(f),
-            Case::Scripts(work) => work.fmt(f),
-            Case::Edges(work) => work.fmt(f),
-            Case::Pairs(work) => work.fmt(f),
-            Case::Areas(work) => work.fmt(f),
-            Case::Findings(work) => work.fmt(f),
         }
     }
 }

@@ -4,20 +4,12 @@
 //! standard error. The scripts in `benches/` compare the times with plain Rust.
 #![tactic(auto)]
 
-mod areas;
 mod baseline;
 mod case;
 mod cells;
-mod counted;
-mod edges;
 mod fields;
-mod findings;
-mod lines;
 mod lookups;
-mod pairs;
-mod scripts;
 mod segments;
-mod sheets;
 mod table;
 mod turns;
 
@@ -45,11 +37,6 @@ fn outcome<R: Threads + Wait + Sync>(
         Case::Lookups(work) => lookups::outcome(alloc, work, size),
         Case::Fields(work) => fields::outcome(alloc, work, size),
         Case::Cells(work) => cells::outcome(alloc, work, size),
-        Case::Scripts(work) => scripts::outcome(alloc, work, size),
-        Case::Edges(work) => edges::outcome(alloc, work, size),
-        Case::Pairs(work) => pairs::outcome(alloc, work, size),
-        Case::Areas(work) => areas::outcome(alloc, work, size),
-        Case::Findings(work) => findings::outcome(alloc, work, size),
     }
 }
 

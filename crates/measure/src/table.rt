@@ -1,6 +1,6 @@
 //! The sorted table: filled in ascending order or by random puts, looked up and changed at random keys.
 
-use row_table::{FlatTable, RowTable, is_ascending};
+use row_table::{RowTable, is_ascending};
 use std::alloc::{AllocError, Global};
 use std::fmt;
 
@@ -18,8 +18,6 @@ pub enum Work {
     Gets,
     /// Filled as `Ascending`, then a million random removals, each followed by a put.
     Changes,
-    /// The look-ups of `Gets` in the body of one vector.
-    FlatGets,
 }
 
 impl Work {
@@ -30,7 +28,6 @@ impl Work {
             "table_puts" => Some(Work::Puts),
             "table_gets" => Some(Work::Gets),
             "table_changes" => Some(Work::Changes),
-            "table_flat_gets" => Some(Work::FlatGets),
             _ => None,
         }
     }
@@ -43,7 +40,6 @@ impl fmt::Display for Work {
             Work::Puts => "table_puts",
             Work::Gets => "table_gets",
             Work::Changes => "table_changes",
-            Work::FlatGets => "table_flat_gets",
         })
     }
 }
@@ -77,14 +73,6 @@ fn ascending_table(alloc: Global, size: u32) -> Result<RowTable<u32, u64>, Alloc
     RowTable::from_ascending(alloc, rows)
 }
 
-fn flat_table(alloc: Global, size: u32) -> Result<FlatTable<u32, u64>, AllocError> {
-    let rows = ascending_rows(alloc, size)?;
-    if !is_ascending(&rows) {
-        return Ok(FlatTable::make(alloc));
-    }
-    FlatTable::from_ascending(alloc, rows)
-}
-
 fn sum_of_rows(table: &RowTable<u32, u64>) -> u64 {
     let mut sum = 0u64;
     for place in 0..table.len() {
@@ -116,16 +104,6 @@ fn sum_of_gets(table: &RowTable<u32, u64>, size: u32) -> u64 {
     sum
 }
 
-fn sum_of_flat_gets(table: &FlatTable<u32, u64>, size: u32) -> u64 {
-    let mut sum = 0u64;
-    let mut seed = 2;
-    for _ in 0..ROUNDS {
-        seed = next_number(seed);
-        sum = sum.wrapping_add(table.get(&random_key(seed, size)).copied().unwrap_or(7));
-    }
-    sum
-}
-
 fn sum_of_changes(table: &mut RowTable<u32, u64>, size: u32) -> Result<u64, AllocError> {
     let mut sum = 0u64;
     let mut seed = 3;
@@ -146,6 +124,5 @@ pub fn outcome(alloc: Global, work: Work, size: u32) -> Result<u64, AllocError> 
         Work::Puts => Ok(sum_of_rows(&random_puts(alloc, size)?)),
         Work::Gets => Ok(sum_of_gets(&ascending_table(alloc, size)?, size)),
         Work::Changes => sum_of_changes(&mut ascending_table(alloc, size)?, size),
-        Work::FlatGets => Ok(sum_of_flat_gets(&flat_table(alloc, size)?, size)),
     }
 }

@@ -2,12 +2,10 @@
 #![tactic(auto)]
 
 mod blocks;
-mod flat;
 mod laws;
 mod run;
 mod table;
 
-pub use flat::FlatTable;
 pub use laws::{
     changes_count_rows, changes_keep_order, copies_are_same, each_row_is_found, lower_bound_parts,
     put_sets_one_key, take_clears_one_key,

@@ -1,12 +1,10 @@
 mod calls;
-mod crowd;
 mod drawn;
 mod draws;
 mod every_rule;
 mod export;
 mod faults;
 mod liberties;
-mod plainly;
 mod rows;
 mod sessions;
 mod square;

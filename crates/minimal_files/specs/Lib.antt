@@ -1,3 +1,0 @@
-pub mod MinimalFile
-pub mod LongRecords
-pub mod MinimalLaws

@@ -1,6 +1,0 @@
-use Rattle.std.proofs.Common.{◌≡◌, drop}
-use Rattle.rule_spec.specs.Features.{is_one_of}
-use Rattle.plain_rules.proofs.feature.is_one_of.Given as goal
-
-abbrev pub invariant-loop-other : goal.invariant-loop-other
-invariant-loop-other l = is_one_of (drop l.other-index l.codes) l.code ≡ is_one_of l.codes l.code

@@ -1,8 +1,0 @@
-use Rattle.std.proofs.Common.{◌≡◌, drop, map}
-use Rattle.std.specs.List.{list_any}
-use Rattle.rule_spec.specs.Features.{target}
-use Rattle.rule_spec.specs.Records.{is_edge_name}
-use Rattle.plain_rules.proofs.feature.names_an_edge.Given as goal
-
-abbrev pub invariant-loop-spot : goal.invariant-loop-spot
-invariant-loop-spot l = list_any is_edge_name (map target (drop l.spot-index l.places)) ≡ list_any is_edge_name (map target l.places)

@@ -1,6 +1,0 @@
-use Rattle.std.proofs.Common.{◌≡◌, drop, find}
-use Rattle.rule_spec.specs.Sides.{is_truncated}
-use Rattle.plain_rules.proofs.side.first_truncated.Given as goal
-
-abbrev pub invariant-loop-found : goal.invariant-loop-found
-invariant-loop-found l = find is_truncated (drop l.found-index l.uses) ≡ find is_truncated l.uses
