@@ -14,7 +14,6 @@ use Rattle.cell_findings.specs.declared.refusal.FindingRefusal.TheVariants.{TooM
 use Rattle.cell_findings.specs.AllFindings.{IsAllOf, IsFindingRefusal}
 use Rattle.cell_findings.specs.Gathered.{IsGathered, IsOver}
 use Rattle.cell_findings.specs.Judged.{judged_subjects, subject_findings}
-use Rattle.rule_spec.specs.Kinds.{all_kinds}
 use Rattle.cell_findings.specs.Rows.{with_subject, findings_of_rows}
 use Rattle.cell_findings.proofs.Judged.{subjects_are}
 use Rattle.cell_findings.proofs.RowTexts.{row_counts}
@@ -26,23 +25,23 @@ one_row s (f ∷ fs) rest =
     let some : nat_lt 0 (length (f ∷ fs)) ≡ true = grind (arith, nat_tests) in
     ap (λ b. findings_of_rows (cond b ((s, f ∷ fs) ∷ rest) rest)) some
 
-rows_among : (c : Cell) (ss : List Subject) → findings_of_rows (findings_among all_kinds c ss) ≡ flat_map (subject_findings c) ss
+rows_among : (c : Cell) (ss : List Subject) → findings_of_rows (findings_among c ss) ≡ flat_map (subject_findings c) ss
 rows_among c [] = refl
 rows_among c (s ∷ ss) =
-    one_row s (findings_of_subject all_kinds c s) (findings_among all_kinds c ss)
+    one_row s (findings_of_subject c s) (findings_among c ss)
     ∙ ap (λ rest. subject_findings c s ++ rest) (rows_among c ss)
 
-rows_of_all : (c : Cell) → findings_of_rows (all_findings all_kinds c) ≡ flat_map (subject_findings c) (subjects c)
+rows_of_all : (c : Cell) → findings_of_rows (all_findings c) ≡ flat_map (subject_findings c) (subjects c)
 unfolding all_findings
 rows_of_all c = rows_among c (subjects c)
 
 module _ (c : Cell) (w : IsWritable c) where
-  pub all_are_judged : findings_of_rows (all_findings all_kinds c) ≡ flat_map (subject_findings c) (judged_subjects c)
+  pub all_are_judged : findings_of_rows (all_findings c) ≡ flat_map (subject_findings c) (judged_subjects c)
   all_are_judged =
       rows_of_all c ∙ ap (flat_map (subject_findings c)) (subjects_are c w)
 
-  total : length (flat_map (subject_findings c) (judged_subjects c)) ≡ finding_total all_kinds c
-  total = ap (λ rows. length rows) (sym all_are_judged) ∙ row_counts (all_findings all_kinds c)
+  total : length (flat_map (subject_findings c) (judged_subjects c)) ≡ finding_total c
+  total = ap (λ rows. length rows) (sym all_are_judged) ∙ row_counts (all_findings c)
 
   -- what was gathered is all
   pub gathered_is_all : (limit : ℕ) (found : List SubjectFinding) → IsGathered limit (flat_map (subject_findings c) (judged_subjects c)) found → IsAllOf c limit found

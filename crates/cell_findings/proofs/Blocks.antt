@@ -9,7 +9,7 @@ use Rattle.cell_spec.specs.declared.key.Subject.{Subject}
 use Rattle.cell_spec.specs.declared.key.Subject.TheVariants.{Rec, Side, Pair, Ident}
 use Rattle.cell_spec.specs.Names.{subject_order}
 use Rattle.cell_findings.specs.Judged.{pairs_among}
-use Rattle.chain_topo.proofs.Ascending.{holds}
+use Rattle.cell_spec.proofs.Ascending.{holds}
 use Rattle.cell_findings.proofs.Ascending.{any-map, any_same, never}
 
 -- the block of a subject

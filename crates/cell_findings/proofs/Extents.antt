@@ -27,6 +27,7 @@ use Rattle.geometry_spec.specs.Signs.{lies_on}
 use Rattle.geometry_spec.proofs.DisjointBoxes.{apart_by_boxes}
 use Rattle.geometry_spec.proofs.LyingOn.{lying_on_decided}
 use Rattle.geometry_spec.proofs.MeetingCases.{meeting_is}
+use Rattle.rule_spec.specs.declared.kind.TheConstants.{COINCIDE, CROSS, NODE_ON_EDGE, SAME_PLACE, TOUCH}
 use Rattle.rule_spec.specs.declared.line.EdgeLine.{EdgeLine}
 use Rattle.rule_spec.specs.Contacts.{are_same_place, contact_of_lines, found_contact, have_illegal_contact, is_on, names_node, node_on_edge, same_place, segment_under}
 use Rattle.rule_spec.specs.EdgePoints.{Segment, edge_line_of, line_of, node_position, same_point, segments_of}
@@ -40,7 +41,6 @@ use Rattle.line_boxes.proofs.DisjointBoxes.{disjoint_first, disjoint_next, eithe
 use Rattle.check_pairs.proofs.NoContact.{contact_needs_meeting}
 use Rattle.cell_findings.specs.Extents.{are_apart, extent_of, segments_at}
 use Rattle.cell_findings.specs.Judged.{subject_findings}
-use Rattle.rule_spec.specs.Kinds.{all_kinds}
 use Rattle.cell_findings.specs.Rows.{with_subject}
 
 -- ---- boxes
@@ -170,7 +170,7 @@ if_same true x = refl
 if_same false x = refl
 
 abbrev all_five : Found → Found → Found → Found → Found → List Finding
-all_five x7 x8 x9 x10 x11 = map (finding 7) x7 ++ (map (finding 8) x8 ++ (map (finding 9) x9 ++ (map (finding 10) x10 ++ (map (finding 11) x11 ++ []))))
+all_five x7 x8 x9 x10 x11 = map (finding CROSS) x7 ++ (map (finding TOUCH) x8 ++ (map (finding COINCIDE) x9 ++ (map (finding SAME_PLACE) x10 ++ (map (finding NODE_ON_EDGE) x11 ++ []))))
 
 module _ (c : Cell) (a b : RecName) (apart : are_apart (extent_of c a) (extent_of c b) ≡ true) where
   no_contacts : (kind : ℕ) → contact_of_lines kind c (edge_line_of c a) (edge_line_of c b) ≡ []
@@ -184,7 +184,7 @@ module _ (c : Cell) (a b : RecName) (apart : are_apart (extent_of c a) (extent_o
       either_none (option_map_or (λ e. names_node e a) (edge_named c b) true) (segment_under (node_position c a) (edge_line_of c b))
       (no_segment (edge_line_of c a) (edge_line_of c b) (node_position c a) (node_position c b) (is_one c a) apart)
 
-  nothing_about : findings_about all_kinds c (Pair a b) ≡ []
+  nothing_about : findings_about c (Pair a b) ≡ []
   nothing_about = λ i. all_five (no_contacts 7 i) (no_contacts 8 i) (no_contacts 9 i) (not_same_place i) (not_on_edge i)
 
   pub apart_is_clean : subject_findings c (Pair a b) ≡ []

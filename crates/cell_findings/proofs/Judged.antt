@@ -23,14 +23,14 @@ use Rattle.cell_spec.specs.Writable.{IsWritable}
 use Rattle.rule_spec.specs.Findings.{is_below, is_subject, possible_subjects, record_names, subjects}
 use Rattle.rule_spec.specs.Records.{edge_named, is_chain_part, is_edge_name, node_named, vector_of}
 use Rattle.cell_findings.specs.Judged.{identities_in, is_part_name, judged_subjects, names_in, part_pairs, records_and_sides}
-use Rattle.chain_topo.proofs.Ascending.{holds, holds-ascending, same_when_sorted, sorted-ascending}
-use Rattle.chain_topo.proofs.Orders.{exact_identities, exact_names, one_when_same, total_identities, total_names}
+use Rattle.cell_spec.proofs.Ascending.{holds, holds-ascending, same_when_sorted, sorted-ascending}
+use Rattle.cell_spec.proofs.Orders.{exact_identities, exact_names, names_tie, one_when_same, same_from_either, total_identities, total_names}
 use Rattle.cell_findings.proofs.Ascending.{all_append, any_and, any-map, any_same, holds-filter, holds-item, sorted-append}
 use Rattle.cell_findings.proofs.Blocks.{block, each_before, in_first, in_four, in_fourth, in_second, in_third, in_two_and_two, no_pairs, none_mapped}
 use Rattle.cell_findings.proofs.Gathering.{all_before, all_behind}
 use Rattle.cell_findings.proofs.Identities.{borne_is}
 use Rattle.cell_findings.proofs.Pairs.{has, held_pairs, mapped_all, mapped_sorted, pairs_all, pairs_sorted}
-use Rattle.cell_findings.proofs.SubjectOrder.{exact_subjects, names_tie, pairs_tie, total_subjects}
+use Rattle.cell_spec.proofs.SubjectOrder.{exact_subjects, pairs_tie, total_subjects}
 use Rattle.cell_findings.proofs.WritableLists.{AreWellNamed, all_well_named}
 
 -- ---- tests
@@ -75,7 +75,7 @@ found_any p [] = refl
 found_any p (x ∷ xs) = found_by p (p x) x xs (found_any p xs)
 
 has_records : (n : RecName) (rs : List Record) → has n (map name_of rs) ≡ list_any (is_named n) rs
-has_records n rs = any-map (λ m. is_eq (name_order n m)) name_of rs ∙ any_same (λ r. is_eq (name_order n (name_of r))) (is_named n) (λ r. names_tie n (name_of r)) rs
+has_records n rs = any-map (λ m. is_eq (name_order n m)) name_of rs ∙ any_same (λ r. is_eq (name_order n (name_of r))) (is_named n) (λ r. names_tie n (name_of r) ∙ same_from_either (name_of r) n) rs
 
 some_if : {X : Type 0} (b : Bool) (x : X) → is_some (cond b (Some x) None) ≡ b
 some_if true x = refl

@@ -1,6 +1,5 @@
 pub mod RowTexts
 pub mod Ascending
-pub mod SubjectOrder
 pub mod WritableLists
 pub mod Pairs
 pub mod Blocks
@@ -8,7 +7,5 @@ pub mod Identities
 pub mod Judged
 pub mod AllFindings
 pub mod Gathering
-pub mod KindsAgree
-pub mod KnownKinds
 pub mod Extents
 mod Unplaced

@@ -12,10 +12,10 @@ use Rattle.cell_spec.specs.declared.key.Subject.TheVariants.{Pair}
 use Rattle.cell_spec.specs.Names.{name_order, subject_order}
 use Rattle.rule_spec.specs.Findings.{is_below}
 use Rattle.cell_findings.specs.Judged.{pairs_among}
-use Rattle.chain_topo.proofs.Ascending.{holds}
-use Rattle.chain_topo.proofs.Orders.{exact_names, total_names}
+use Rattle.cell_spec.proofs.Ascending.{holds}
+use Rattle.cell_spec.proofs.Orders.{exact_names, total_names}
 use Rattle.cell_findings.proofs.Ascending.{all_append, any_and, any-map, any_same, sorted-append, tied, ties_itself}
-use Rattle.cell_findings.proofs.SubjectOrder.{pairs_by_first, pairs_by_second, pairs_tie}
+use Rattle.cell_spec.proofs.SubjectOrder.{pairs_by_first, pairs_by_second, pairs_tie}
 
 -- a name is among some names
 abbrev pub has : RecName → List RecName → Bool

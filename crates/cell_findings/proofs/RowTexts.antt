@@ -1,28 +1,15 @@
 -- The text of findings, by rows or one after the other.
-use Rattle.std.proofs.Common.{◌≡◌, ◌≤◌, ℕ, ◌+◌, ◌-◌, List, [], ◌∷◌, ◌++◌, length, map, nat_le, refl, sym, ap, subst, lit≤, ◌∙◌, append_assoc, length-append, inl, inr, arith}
+use Rattle.std.proofs.Common.{◌≡◌, ℕ, ◌+◌, List, [], ◌∷◌, ◌++◌, length, map, refl, ap, ◌∙◌, append_assoc, length-append, arith}
 use Rattle.std.specs.List.{flat_map}
 use Rattle.std.specs.Prelude.{codes}
-use Rattle.std.proofs.lemmas.Bool.{cases_lt}
-use Rattle.std.proofs.lemmas.Bool.Decides.{nat_tests}
-use Rattle.std.proofs.lemmas.List.{get_or_past}
-use Rattle.std.proofs.lemmas.List.Sums.{AllPass-from_list_all}
 use Rattle.std.proofs.lemmas.List.Sums.{sum_by-cons}
 use Rattle.std.proofs.lemmas.List.Concat.{flat_map-append}
 use Rattle.s57_types.specs.declared.cell.Cell.{Cell}
 use Rattle.cell_spec.specs.declared.finding.Finding.{Finding}
 use Rattle.cell_spec.specs.declared.key.Subject.{Subject}
-use Rattle.rule_spec.specs.Kinds.{kinds, number_count}
 use Rattle.text_spec.specs.CellText.{finding_line, row_lines, count_line, total_line, total_of, text_with}
 use Rattle.cell_findings.specs.Rows.{with_subject, findings_of_row, findings_of_rows, line_of}
 use Rattle.cell_findings.specs.declared.list.SubjectFinding.{SubjectFinding}
-
--- a finding has four numbers at most
-pub number_count-within : (kind : ℕ) → number_count kind ≤ 4
-number_count-within kind =
-    elim (cases_lt (kind - 1) (length kinds)) [
-      | inl within ↦ let test = AllPass-from_list_all (λ (row : List ℕ × ℕ). nat_le row.1 4) kinds refl (kind - 1) (codes "", 0) within in grind (arith, nat_tests)
-      | inr past ↦ subst (λ (row : List ℕ × ℕ). row.1 ≤ 4) (sym (get_or_past kinds (kind - 1) (codes "", 0) past)) (lit≤ tt)
-    ]
 
 row_texts : (s : Subject) (fs : List Finding) → flat_map line_of (map (with_subject s) fs) ≡ flat_map (finding_line s) fs
 row_texts s [] = refl

@@ -2,7 +2,6 @@
 use Rattle.std.specs.Prelude.{◌≡◌, ℕ, ◌≤◌, ◌<◌, List, length}
 use Rattle.s57_types.specs.declared.cell.Cell.{Cell}
 use Rattle.rule_spec.specs.Findings.{all_findings, finding_total}
-use Rattle.rule_spec.specs.Kinds.{all_kinds}
 use Rattle.cell_findings.specs.Rows.{findings_of_rows}
 use Rattle.cell_findings.specs.declared.list.SubjectFinding.{SubjectFinding}
 use Rattle.cell_findings.specs.declared.refusal.FindingRefusal.{FindingRefusal}
@@ -10,10 +9,10 @@ use Rattle.cell_findings.specs.declared.refusal.FindingRefusal.TheVariants.{TooM
 
 -- these are the findings of all kinds, and not more than the limit
 pub record IsAllOf (c : Cell) (limit : ℕ) (found : List SubjectFinding) : Type 0 where
-  pub all : found ≡ findings_of_rows (all_findings all_kinds c)
-  pub count : length found ≡ finding_total all_kinds c
-  pub within : finding_total all_kinds c ≤ limit
+  pub all : found ≡ findings_of_rows (all_findings c)
+  pub count : length found ≡ finding_total c
+  pub within : finding_total c ≤ limit
 
 abbrev pub IsFindingRefusal : Cell → ℕ → FindingRefusal → Type 0
-IsFindingRefusal c limit TooMany = limit < finding_total all_kinds c
+IsFindingRefusal c limit TooMany = limit < finding_total c
 IsFindingRefusal c limit NoMemory = Unit {0}

@@ -13,7 +13,6 @@ use Rattle.cell_spec.specs.declared.key.Subject.{Subject}
 use Rattle.cell_spec.specs.declared.key.Subject.TheVariants.{Rec, Side, Pair, Ident}
 use Rattle.rule_spec.specs.Findings.{findings_of_subject, record_names}
 use Rattle.rule_spec.specs.Records.{is_edge_name}
-use Rattle.rule_spec.specs.Kinds.{all_kinds}
 use Rattle.cell_findings.specs.Rows.{with_subject}
 use Rattle.cell_findings.specs.declared.list.SubjectFinding.{SubjectFinding}
 
@@ -48,4 +47,4 @@ judged_subjects c = records_and_sides (names_in c) ++ (part_pairs (names_in c) +
 
 -- the findings about a subject, each with it
 abbrev pub subject_findings : Cell → Subject → List SubjectFinding
-subject_findings c s = map (with_subject s) (findings_of_subject all_kinds c s)
+subject_findings c s = map (with_subject s) (findings_of_subject c s)

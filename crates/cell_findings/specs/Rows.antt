@@ -1,5 +1,5 @@
 -- Findings one after the other, each with its subject.
-use Rattle.std.specs.Prelude.{ℕ, ◌≤◌, List, map}
+use Rattle.std.specs.Prelude.{ℕ, List, map}
 use Rattle.std.specs.List.{flat_map}
 use Rattle.cell_spec.specs.declared.finding.Finding.{Finding}
 use Rattle.cell_spec.specs.declared.key.Subject.{Subject}
@@ -18,8 +18,3 @@ findings_of_rows = flat_map findings_of_row
 
 abbrev pub line_of : SubjectFinding → List ℕ
 line_of f = finding_line f.subject f.finding
-
--- the kind is one of the rules'
-pub record HasKnownKind (f : SubjectFinding) : Type 0 where
-  pub from_one : 1 ≤ f.finding.kind
-  pub known : f.finding.kind ≤ 25

@@ -17,6 +17,7 @@ use crate::part::parts_of;
 use crate::refusal::FindingRefusal;
 use crate::single::{push_identities, push_records, push_sides};
 use chain_topo::{ListLook, Steps};
+use look_counter::start_counter;
 use s57_types::{Cell, Lnam, RecName};
 use std::alloc::Global;
 use std::marker::Brand;
@@ -76,7 +77,7 @@ fn gather<L: Ledger>(
     let names = names_in(alloc, cell)?;
     let identities = identities_in(alloc, cell)?;
     let names = names.as_slice();
-    let mut steps = Steps::<L>::start(blank);
+    let mut steps = start_counter::<L>(blank);
     let mut gathered = Vec::new(alloc);
     push_records_and_sides(alloc, &mut gathered, &look, names, limit, &mut steps)?;
     push_pairs_and_identities(

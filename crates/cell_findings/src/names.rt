@@ -6,10 +6,9 @@ ghost use Rattle.cell_spec.specs.Ascending.{ascending, order_by};
 ghost use Rattle.cell_spec.specs.Lookup.{identities_of, name_of as spec_name};
 ghost use Rattle.cell_spec.specs.Names.{identity_parts};
 ghost use Rattle.rule_spec.specs.Records.{is_edge_name as spec_edge_name};
-ghost use Rattle.s57_types.specs.declared.name.Lnam.{Lnam as SpecLnam};
 ghost use Rattle.cell_findings.specs.Judged.{identities_in as spec_identities_in, is_part_name as spec_part_name, names_in as spec_names_in};
 
-use cell_spec::Names;
+use cell_spec::{Names, orders_are_by_parts};
 use plain_lookups::{is_edge_name, name_of};
 use read_sets::{ascending_names, distinct};
 use s57_types::{Cell, Kind, Lnam, Rec, RecName};
@@ -64,11 +63,6 @@ pub(crate) fn part_names(alloc: Global, names: &[RecName]) -> Result<Vec<RecName
         .collect(alloc)
 }
 
-// Identifiers are ordered by the numbers that they are made of.
-fn identities_are_by_parts()
-    ensures { (a b : SpecLnam) → ⟦<Lnam as Ord>⟧.cmp a b ≡ order_by identity_parts a b }
-{}
-
 fn push_identities(identities: &mut Vec<Lnam>, recs: &[Rec]) -> Result<(), AllocError>
     ensures { OnOk result (identities.new.items ≡ identities.old.items ++ flat_map identities_of recs.now) }
 {
@@ -83,7 +77,7 @@ fn push_identities(identities: &mut Vec<Lnam>, recs: &[Rec]) -> Result<(), Alloc
 fn ascending_identities(identities: Vec<Lnam>) -> Vec<Lnam>
     ensures { result.items ≡ ascending (order_by identity_parts) identities.items }
 {
-    identities_are_by_parts();
+    orders_are_by_parts();
     distinct(identities)
 }
 

@@ -1,12 +1,12 @@
 //! The part of a report that tells of a cell.
 
-ghost use Rattle.std.specs.Prelude.{◌≡◌, ◌++◌, ◌∷◌, [], All, List, decimal, map, OnOk};
+ghost use Rattle.std.specs.Prelude.{◌≡◌, ◌++◌, ◌∷◌, [], List, decimal, map, OnOk};
 ghost use Rattle.std.specs.List.{flat_map};
 ghost use Rattle.cell_spec.specs.declared.finding.Finding.{Finding as SpecFinding};
 ghost use Rattle.cell_spec.specs.declared.key.Subject.{Subject as SpecSubject};
 ghost use Rattle.text_spec.specs.Lines.{spaced_words};
 ghost use Rattle.text_spec.specs.CellText.{subject_word, subject_words, count_line, total_line, text_with};
-ghost use Rattle.cell_findings.specs.Rows.{findings_of_rows, line_of, HasKnownKind};
+ghost use Rattle.cell_findings.specs.Rows.{findings_of_rows, line_of};
 
 use crate::list::{Findings, SubjectFinding};
 use cell_spec::Subject;
@@ -62,7 +62,6 @@ fn push_numbers(out: &mut Vec<u8>, numbers: &[u32]) -> Result<(), AllocError>
 
 /// Appends the line of a finding.
 fn push_finding(out: &mut Vec<u8>, found: &SubjectFinding) -> Result<(), AllocError>
-    requires { HasKnownKind found.now }
     ensures { OnOk result (out.new.items ≡ out.old.items ++ line_of found.now) }
 {
     let finding = found.finding;
@@ -76,7 +75,6 @@ fn push_finding(out: &mut Vec<u8>, found: &SubjectFinding) -> Result<(), AllocEr
 ///
 /// An `Err` is want of memory.
 pub fn push_findings(out: &mut Vec<u8>, findings: &[SubjectFinding]) -> Result<(), AllocError>
-    requires { All HasKnownKind findings.now }
     ensures { OnOk result (out.new.items ≡ out.old.items ++ flat_map line_of findings.now) }
 {
     for found in findings {

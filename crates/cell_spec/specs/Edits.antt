@@ -13,6 +13,7 @@ use Rattle.cell_spec.specs.declared.key.Key.TheVariants.{Name, Refs, Foid}
 use Rattle.cell_spec.specs.Ascending.{ascending}
 use Rattle.cell_spec.specs.Lookup.{all_records, name_of, targets_of, identities_of, lookup_record}
 use Rattle.cell_spec.specs.Names.{same_name, is_of_kind, key_order}
+use Rattle.cell_spec.specs.Writable.{record_limit}
 
 -- the records of one kind, in file order
 abbrev pub list_of_kind : Kind → Cell → List Rec
@@ -64,9 +65,13 @@ has_its_record c (Add r) = not (is_some (lookup_record c (name_of r)))
 has_its_record c (Set r) = is_some (lookup_record c (name_of r))
 has_its_record c (Del n) = is_some (lookup_record c n)
 
--- a cell takes edits that each find what they need and leave at most 262,144 records
+-- each edit finds what it needs
+abbrev pub find_their_records : List Edit → Cell → Bool
+find_their_records edits c = list_all (has_its_record c) edits
+
+-- a cell takes edits that each find what they need and leave no more records than may be
 abbrev pub is_applicable : List Edit → Cell → Bool
-is_applicable edits c = list_all (has_its_record c) edits && nat_le (length (all_records (apply_edits edits c))) 262144
+is_applicable edits c = find_their_records edits c && nat_le (length (all_records (apply_edits edits c))) record_limit
 
 -- the keys, beside its name, that a record is an answer to
 abbrev pub keys_answered_by : Rec → List Key

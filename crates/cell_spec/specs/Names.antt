@@ -1,10 +1,12 @@
--- Names of records and of feature objects, keys and subjects, and their order.
+-- Names of records and of feature objects, keys, subjects and findings, and their order.
 use Rattle.std.specs.Prelude.{ℕ, ◌==◌, ◌&&◌, Bool, List, [], ◌∷◌, ◌++◌}
 use Rattle.std.specs.declared.cmp.Ordering.{Ordering}
+use Rattle.std.specs.Ordering.{is_eq}
 use Rattle.s57_types.specs.declared.name.Kind.{Kind}
 use Rattle.s57_types.specs.declared.name.Kind.TheVariants.{Vi, Vc, Ve, Fe}
 use Rattle.s57_types.specs.declared.name.RecName.{RecName}
 use Rattle.s57_types.specs.declared.name.Lnam.{Lnam}
+use Rattle.cell_spec.specs.declared.finding.Finding.{Finding}
 use Rattle.cell_spec.specs.declared.key.Key.{Key}
 use Rattle.cell_spec.specs.declared.key.Key.TheVariants.{Name, Refs, Foid}
 use Rattle.cell_spec.specs.declared.key.Ref.{Ref}
@@ -44,8 +46,15 @@ subject_parts (Side n) = 1 ∷ name_parts n
 subject_parts (Pair a b) = 2 ∷ (name_parts a ++ name_parts b)
 subject_parts (Ident l) = 3 ∷ identity_parts l
 
+-- findings by the number of their kind, then by their numbers
+abbrev pub finding_parts : Finding → List ℕ
+finding_parts f = f.kind ∷ f.nums
+
 abbrev pub name_order : RecName → RecName → Ordering
 name_order = order_by name_parts
+
+abbrev pub identity_order : Lnam → Lnam → Ordering
+identity_order = order_by identity_parts
 
 abbrev pub ref_order : Ref → Ref → Ordering
 ref_order = order_by ref_parts
@@ -55,6 +64,9 @@ key_order = order_by key_parts
 
 abbrev pub subject_order : Subject → Subject → Ordering
 subject_order = order_by subject_parts
+
+abbrev pub finding_order : Finding → Finding → Ordering
+finding_order = order_by finding_parts
 
 -- whether two names are one
 abbrev pub same_name : RecName → RecName → Bool
@@ -67,3 +79,11 @@ same_identity a b = (a.agen == b.agen) && (a.fidn == b.fidn) && (a.fids == b.fid
 -- whether a name is of a kind
 abbrev pub is_of_kind : Kind → RecName → Bool
 is_of_kind kind n = kind_rank n.kind == kind_rank kind
+
+-- whether two keys are one
+abbrev pub same_key : Key → Key → Bool
+same_key a b = is_eq (key_order a b)
+
+-- whether two subjects are one
+abbrev pub same_subject : Subject → Subject → Bool
+same_subject a b = is_eq (subject_order a b)

@@ -9,4 +9,4 @@ mod law;
 pub use edit::Edit;
 pub use finding::{Finding, Findings, Row, Rows};
 pub use key::{Key, Keys, Names, Ref, Refs, Subject, Subjects};
-pub use law::orders_are_by_parts;
+pub use law::{orders_are_by_parts, orders_are_exact, writable_cells_are_readable};

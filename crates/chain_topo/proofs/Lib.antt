@@ -1,4 +1,3 @@
-pub mod Ascending
 pub mod Named
 pub mod Only
 pub mod Orders

@@ -22,7 +22,7 @@ use Rattle.cell_spec.specs.Ascending.{order_by}
 use Rattle.cell_spec.specs.Lookup.{name_of, is_named, targets_of, bears, pointers_in}
 use Rattle.cell_spec.specs.Names.{kind_rank, name_order, identity_parts, same_name, same_identity}
 use Rattle.chain_topo.specs.Listed.{values_at, pointers_from, pointers_of, pointers_listed, identity_of, identities_listed}
-use Rattle.chain_topo.proofs.Orders.{names_tie, identities_tie, one_when_same}
+use Rattle.cell_spec.proofs.Orders.{names_tie, identities_tie, one_when_same}
 
 same_as : (n a b : RecName) (found : Bool) → same_name n a ≡ found → same_name n b ≡ true → same_name a b ≡ false → same_name n a ≡ false
 same_as n a b false e is apart = e

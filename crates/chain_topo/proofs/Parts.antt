@@ -13,7 +13,7 @@ use Rattle.std.proofs.lemmas.Map.Lookups.{CmpEqualImpliesEq}
 use Rattle.cell_spec.specs.Ascending.{ascending}
 use Rattle.chain_topo.specs.Listed.{values_at, pair_order}
 use Rattle.chain_topo.specs.Span.{IsSpan}
-use Rattle.chain_topo.proofs.Ascending.{holds, holds-ascending, sorted-ascending, same_when_sorted}
+use Rattle.cell_spec.proofs.Ascending.{holds, holds-ascending, sorted-ascending, same_when_sorted}
 
 -- firsts beside seconds are the pairs
 pub zip-parts : {K V : Type 0} (ps : List (K × V)) → zip (map (λ (p : K × V). p.0) ps) (map (λ (p : K × V). p.1) ps) ≡ ps

@@ -1,4 +1,4 @@
 pub mod Answers
 pub mod Listed
-pub mod Readable
+pub use Rattle.cell_spec.specs.Readable
 pub mod Span

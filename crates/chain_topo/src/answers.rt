@@ -6,8 +6,8 @@ ghost use Rattle.s57_types.specs.declared.cell.Cell.{Cell};
 ghost use Rattle.cell_spec.specs.Lookup.{lookup_record, lookup_pointers, lookup_identity};
 ghost use Rattle.chain_topo.specs.Readable.{IsReadable};
 
-use crate::counter::Steps;
 use cell_spec::Ref;
+use look_counter::Steps;
 use s57_types::{Lnam, Rec, RecName};
 use std::sync::ledger::Ledger;
 

@@ -10,8 +10,8 @@ ghost use Rattle.rule_spec.specs.EdgePoints.{node_at as spec_node_at, node_posit
 ghost use Rattle.rule_spec.specs.Records.{edge_named as spec_edge, is_edge_name, the_only as spec_the_only, vector_of};
 
 use crate::answers::Look;
-use crate::counter::Steps;
 use geometry_spec::Point;
+use look_counter::Steps;
 use rule_spec::EdgeLine;
 use s57_types::{End, Items, Kind, Plane, Rec, RecName, Vector};
 use std::alloc::{AllocError, Global};

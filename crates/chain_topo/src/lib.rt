@@ -2,7 +2,6 @@
 #![tactic(auto)]
 
 mod answers;
-mod counter;
 mod edge;
 mod groups;
 mod listed;
@@ -10,6 +9,6 @@ mod sorted;
 
 pub use answers::Look;
 pub use cell_spec::{Finding, Findings, Key, Keys, Names, Ref, Refs, Row, Rows, Subject, Subjects};
-pub use counter::Steps;
 pub use edge::{edge_line, edge_of, edge_points, node_at, position_of};
+pub use look_counter::Steps;
 pub use sorted::ListLook;

@@ -16,10 +16,10 @@ ghost use Rattle.chain_topo.specs.Listed.{HasFewPointers, values_at};
 ghost use Rattle.chain_topo.specs.Readable.{IsReadable};
 
 use crate::answers::Look;
-use crate::counter::Steps;
 use crate::groups::Groups;
 use crate::listed::{list_identities, list_pointers, name_of, records_of};
 use cell_spec::{Ref, orders_are_by_parts};
+use look_counter::Steps;
 use s57_types::{Cell, Lnam, Rec, RecName};
 use std::alloc::{AllocError, Global};
 use std::marker::Model;
@@ -89,11 +89,6 @@ impl<'a> Look for ListLook<'a> {
     }
 }
 
-// Identifiers are ordered by the numbers that they are made of.
-fn identities_are_by_parts()
-    ensures { (a b : SpecLnam) → ⟦<Lnam as Ord>⟧.cmp a b ≡ order_by identity_parts a b }
-{}
-
 fn sorted_by_name<'a>(mut records: Vec<&'a Rec>) -> Vec<&'a Rec>
     ensures same { IsPermutation records.entry.items result.items }
     ensures rises { IsSortedByKey (λ (r : Bor SpecRec). spec_name r.now) name_order result.items }
@@ -136,7 +131,6 @@ fn group_identities(alloc: Global, records: &[&Rec]) -> Result<Groups<Lnam, RecN
     ensures { IfOk result (λ groups. (l : SpecLnam) → values_at (order_by identity_parts) groups l ≡ ascending name_order (map spec_name (filter (bears l) (map (λ (r : Bor SpecRec). r.now) records.now)))) }
 {
     orders_are_by_parts();
-    identities_are_by_parts();
     let list = list_identities(alloc, records)?;
     Groups::make(alloc, list)
 }
@@ -144,6 +138,6 @@ fn group_identities(alloc: Global, records: &[&Rec]) -> Result<Groups<Lnam, RecN
 fn bearers_of(identities: &Groups<Lnam, RecName>, foid: Lnam) -> &[RecName]
     ensures { result.now ≡ values_at (order_by identity_parts) identities.now foid }
 {
-    identities_are_by_parts();
+    orders_are_by_parts();
     identities.values_of(&foid)
 }

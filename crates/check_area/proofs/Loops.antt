@@ -1,5 +1,6 @@
 -- What is found of a boundary, by its cut into loops.
 use Rattle.std.proofs.Common.{◌≡◌, ℕ, ◌+◌, ◌-◌, List, [], ◌∷◌, map, Option, None, Some, refl, ap, ◌∙◌, arith}
+use Rattle.rule_spec.specs.declared.kind.TheConstants.{OPEN_RING}
 use Rattle.rule_spec.specs.Findings.{finding}
 use Rattle.rule_spec.specs.Loops.{blocks_of, first_open_place, loop_lengths}
 use Rattle.ring_build.specs.declared.ring.Block.{Block}
@@ -12,11 +13,11 @@ lengths_back : (done : ℕ) (lengths : List ℕ) → map length_of_block (blocks
 lengths_back done [] = refl
 lengths_back done (n ∷ lengths) = let here : done + n + 1 - (done + 1) ≡ n = omega arith in λ i. here i ∷ lengths_back (done + n) lengths i
 
-open_by : (loops : List (List Part)) (lengths : List ℕ) (place : ℕ) (found : Option ℕ) → OpenAt place ≡ cut_by lengths found → finding 15 (place ∷ []) ∷ [] ≡ findings_by loops found
+open_by : (loops : List (List Part)) (lengths : List ℕ) (place : ℕ) (found : Option ℕ) → OpenAt place ≡ cut_by lengths found → finding OPEN_RING (place ∷ []) ∷ [] ≡ findings_by loops found
 open_by loops lengths place None e = cc
-open_by loops lengths place (Some p) e = let same : place ≡ p = cc in ap (λ (p : ℕ). finding 15 (p ∷ []) ∷ []) same
+open_by loops lengths place (Some p) e = let same : place ≡ p = cc in ap (λ (p : ℕ). finding OPEN_RING (p ∷ []) ∷ []) same
 
-pub open_found : (parts : List Part) (place : ℕ) → OpenAt place ≡ cut_of (map arc_of_part parts) → finding 15 (place ∷ []) ∷ [] ≡ findings_of_parts parts
+pub open_found : (parts : List Part) (place : ℕ) → OpenAt place ≡ cut_of (map arc_of_part parts) → finding OPEN_RING (place ∷ []) ∷ [] ≡ findings_of_parts parts
 unfolding findings_of_parts
 open_found parts place e = open_by (loops_of_parts parts) (loop_lengths (map arc_of_part parts)) place (first_open_place (map arc_of_part parts)) e
 

@@ -15,6 +15,7 @@ use Rattle.cell_spec.specs.declared.key.Key.{Key}
 use Rattle.cell_spec.specs.declared.key.Subject.TheVariants.{Rec}
 use Rattle.cell_spec.specs.Lookup.{lookup_record}
 use Rattle.near_records.proofs.ReadKeys.{ends_are_read, places_are_read}
+use Rattle.rule_spec.specs.declared.kind.TheConstants.{MIXED_RING, OPEN_RING, OUTER_COUNT, WRONG_TURN}
 use Rattle.rule_spec.specs.Reads.{read_set}
 use Rattle.geometry_spec.specs.Points.{Point}
 use Rattle.rule_spec.specs.declared.line.BoundaryRow.{BoundaryRow}
@@ -159,7 +160,7 @@ rows_have c (p ∷ pointers) = rows_by p.0 p.1 (edge_line_of c (target p.1)) (fi
 
 -- ---- the findings
 abbrev pub area_rules : Cell → Feature → List Finding
-area_rules c f = map (finding 15) (open_ring c f) ++ (map (finding 16) (mixed_ring c f) ++ (map (finding 17) (outer_count c f) ++ map (finding 18) (wrong_turn c f)))
+area_rules c f = map (finding OPEN_RING) (open_ring c f) ++ (map (finding MIXED_RING) (mixed_ring c f) ++ (map (finding OUTER_COUNT) (outer_count c f) ++ map (finding WRONG_TURN) (wrong_turn c f)))
 
 module _ (c : Cell) (f : Feature) (area : (f.prim == 3) ≡ true) (fits : prim_refs c f ≡ []) (there : dangling_ref c f ≡ []) (coded : bad_codes c f ≡ []) where
   usable_by : has_usable_boundary c f ≡ list_all (has_points c) f.places

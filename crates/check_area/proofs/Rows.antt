@@ -4,6 +4,7 @@ use Rattle.std.specs.Prelude.{int_lt, if◌then◌else◌}
 use Rattle.std.specs.List.{AllByRecursion, list_any}
 use Rattle.std.proofs.lemmas.List.{append-nil, take-map, drop-map}
 use Rattle.cell_spec.specs.declared.finding.Finding.{Finding}
+use Rattle.rule_spec.specs.declared.kind.TheConstants.{MIXED_RING, OPEN_RING, OUTER_COUNT, WRONG_TURN}
 use Rattle.rule_spec.specs.declared.line.BoundaryRow.{BoundaryRow}
 use Rattle.rule_spec.specs.Boundary.{arc_of, first_place, is_clean, is_exterior, is_interior, is_interior_row, is_mixed, loops_of, mixed_ring_of, open_ring_of, outer_count_of, turns_wrongly, wrong_turn_of}
 use Rattle.rule_spec.specs.Findings.{finding}
@@ -114,16 +115,16 @@ wrong_same loops h =
 -- four rules' findings, where three wait for the boundary to be closed and two for its loops to be of one usage
 abbrev pub four_rules : Found → Found → Found → Found → List Finding
 four_rules opens mixed outer wrong =
-    map (finding 15) opens ++ (map (finding 16) (if is_clean opens then mixed else []) ++ (map (finding 17) (if is_clean opens && is_clean mixed then outer else []) ++ map (finding 18) (if is_clean opens && is_clean mixed then wrong else [])))
+    map (finding OPEN_RING) opens ++ (map (finding MIXED_RING) (if is_clean opens then mixed else []) ++ (map (finding OUTER_COUNT) (if is_clean opens && is_clean mixed then outer else []) ++ map (finding WRONG_TURN) (if is_clean opens && is_clean mixed then wrong else [])))
 
 clean_empty : (found : Found) → is_clean found ≡ true → found ≡ []
 clean_empty [] e = refl
 clean_empty (x ∷ found) e = let never : is_clean (x ∷ found) ≡ false = ne_eqb (suc (length found)) 0 (λ h. omega (arith, h)) in absurd cc
 
 loops_by : (mixed outer wrong : Found) (clean : Bool) → is_clean mixed ≡ clean
-    → (if clean then map (finding 17) outer ++ map (finding 18) wrong else map (finding 16) mixed) ≡ map (finding 16) mixed ++ (map (finding 17) (if clean then outer else []) ++ map (finding 18) (if clean then wrong else []))
-loops_by mixed outer wrong true e = ap (λ ms. map (finding 16) ms ++ (map (finding 17) outer ++ map (finding 18) wrong)) (sym (clean_empty mixed e))
-loops_by mixed outer wrong false e = sym (append-nil (map (finding 16) mixed))
+    → (if clean then map (finding OUTER_COUNT) outer ++ map (finding WRONG_TURN) wrong else map (finding MIXED_RING) mixed) ≡ map (finding MIXED_RING) mixed ++ (map (finding OUTER_COUNT) (if clean then outer else []) ++ map (finding WRONG_TURN) (if clean then wrong else []))
+loops_by mixed outer wrong true e = ap (λ ms. map (finding MIXED_RING) ms ++ (map (finding OUTER_COUNT) outer ++ map (finding WRONG_TURN) wrong)) (sym (clean_empty mixed e))
+loops_by mixed outer wrong false e = sym (append-nil (map (finding MIXED_RING) mixed))
 
 found_by : (loops : List (List Part)) (place : Option ℕ) → findings_by loops place ≡ four_rules (found_at place) (mixed_loops loops) (exterior_count loops) (wrong_loops loops)
 found_by loops None = loops_by (mixed_loops loops) (exterior_count loops) (wrong_loops loops) (is_clean (mixed_loops loops)) refl
@@ -142,15 +143,15 @@ parts-rows rows h =
 
 -- the rules as they ask for a usable boundary
 pub rules_usable : (usable : Bool) (opens mixed outer wrong : Found) → usable ≡ true
-    → map (finding 15) (if usable then opens else []) ++ (map (finding 16) (if usable && is_clean opens then mixed else [])
-    ++ (map (finding 17) (if usable && (is_clean opens && is_clean mixed) then outer else []) ++ map (finding 18) (if usable && (is_clean opens && is_clean mixed) then wrong else [])))
+    → map (finding OPEN_RING) (if usable then opens else []) ++ (map (finding MIXED_RING) (if usable && is_clean opens then mixed else [])
+    ++ (map (finding OUTER_COUNT) (if usable && (is_clean opens && is_clean mixed) then outer else []) ++ map (finding WRONG_TURN) (if usable && (is_clean opens && is_clean mixed) then wrong else [])))
     ≡ four_rules opens mixed outer wrong
 rules_usable true opens mixed outer wrong e = refl
 rules_usable false opens mixed outer wrong e = absurd cc
 
 pub rules_unusable : (usable : Bool) (opens mixed outer wrong : Found) → usable ≡ false
-    → map (finding 15) (if usable then opens else []) ++ (map (finding 16) (if usable && is_clean opens then mixed else [])
-    ++ (map (finding 17) (if usable && (is_clean opens && is_clean mixed) then outer else []) ++ map (finding 18) (if usable && (is_clean opens && is_clean mixed) then wrong else [])))
+    → map (finding OPEN_RING) (if usable then opens else []) ++ (map (finding MIXED_RING) (if usable && is_clean opens then mixed else [])
+    ++ (map (finding OUTER_COUNT) (if usable && (is_clean opens && is_clean mixed) then outer else []) ++ map (finding WRONG_TURN) (if usable && (is_clean opens && is_clean mixed) then wrong else [])))
     ≡ []
 rules_unusable false opens mixed outer wrong e = refl
 rules_unusable true opens mixed outer wrong e = absurd cc

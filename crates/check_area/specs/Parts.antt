@@ -4,6 +4,7 @@ use Rattle.std.specs.List.{list_any, list_all}
 use Rattle.geometry_spec.specs.Areas.{twice_area_step}
 use Rattle.geometry_spec.specs.Points.{Point}
 use Rattle.cell_spec.specs.declared.finding.Finding.{Finding}
+use Rattle.rule_spec.specs.declared.kind.TheConstants.{MIXED_RING, OPEN_RING, OUTER_COUNT, WRONG_TURN}
 use Rattle.rule_spec.specs.declared.line.BoundaryRow.{BoundaryRow}
 use Rattle.rule_spec.specs.Boundary.{is_clean}
 use Rattle.rule_spec.specs.Findings.{finding}
@@ -70,11 +71,11 @@ wrong_loops loops = map place_of_loop (filter turns_against_usage loops)
 
 -- MixedRing, or where no loop is mixed OuterCount and WrongTurn
 abbrev pub findings_of_loops : List (List Part) → List Finding
-findings_of_loops loops = if is_clean (mixed_loops loops) then map (finding 17) (exterior_count loops) ++ map (finding 18) (wrong_loops loops) else map (finding 16) (mixed_loops loops)
+findings_of_loops loops = if is_clean (mixed_loops loops) then map (finding OUTER_COUNT) (exterior_count loops) ++ map (finding WRONG_TURN) (wrong_loops loops) else map (finding MIXED_RING) (mixed_loops loops)
 
 abbrev pub findings_by : List (List Part) → Option ℕ → List Finding
 findings_by loops None = findings_of_loops loops
-findings_by loops (Some place) = finding 15 (place ∷ []) ∷ []
+findings_by loops (Some place) = finding OPEN_RING (place ∷ []) ∷ []
 
 -- OpenRing, or where the boundary is closed loops what is found of these
 unfoldable pub findings_of_parts : List Part → List Finding

@@ -12,6 +12,7 @@ ghost use Rattle.cell_spec.specs.declared.key.Key.{Key as SpecKey};
 ghost use Rattle.cell_spec.specs.declared.key.Subject.TheVariants.{Rec as SubjectRec};
 ghost use Rattle.cell_spec.specs.Lookup.{lookup_record};
 ghost use Rattle.near_records.specs.Near.{IsNear};
+ghost use Rattle.rule_spec.specs.declared.kind.TheConstants.{MIXED_RING, OPEN_RING, OUTER_COUNT, WRONG_TURN};
 ghost use Rattle.rule_spec.specs.Boundary.{mixed_ring, open_ring, outer_count, wrong_turn};
 ghost use Rattle.rule_spec.specs.Features.{bad_codes, dangling_ref, prim_refs};
 ghost use Rattle.rule_spec.specs.Findings.{finding};
@@ -137,7 +138,7 @@ pub fn area_findings(
 ) -> Result<Vec<Finding>, AllocError>
     ensures { (c : SpecCell) (n : SpecName) (keys : List SpecKey) → IsNear c keys near.now → keys ≡ read_set c (SubjectRec n) → lookup_record c n ≡ Some (F feature.now)
         → (feature.now.prim == 3) ≡ true → prim_refs c feature.now ≡ [] → dangling_ref c feature.now ≡ [] → bad_codes c feature.now ≡ []
-        → IfOk result (λ findings. findings.items ≡ map (finding 15) (open_ring c feature.now) ++ (map (finding 16) (mixed_ring c feature.now) ++ (map (finding 17) (outer_count c feature.now) ++ map (finding 18) (wrong_turn c feature.now)))) }
+        → IfOk result (λ findings. findings.items ≡ map (finding OPEN_RING) (open_ring c feature.now) ++ (map (finding MIXED_RING) (mixed_ring c feature.now) ++ (map (finding OUTER_COUNT) (outer_count c feature.now) ++ map (finding WRONG_TURN) (wrong_turn c feature.now)))) }
 {
     match parts_of(alloc, near, feature.places.as_slice())? {
         Some(parts) => ring_findings(alloc, &parts),

@@ -1,6 +1,7 @@
 //! What is found of the loops that the parts of a boundary make.
 
 ghost use Rattle.std.specs.Prelude.{◌≡◌, ◌++◌, ◌∷◌, [], IfOk, OnOk, map, filter, take, drop, length};
+ghost use Rattle.rule_spec.specs.declared.kind.TheConstants.{MIXED_RING, OPEN_RING, OUTER_COUNT, WRONG_TURN};
 ghost use Rattle.rule_spec.specs.Findings.{finding};
 ghost use Rattle.rule_spec.specs.Loops.{blocks_of};
 ghost use Rattle.check_area.specs.Parts.{arc_of_part, exterior_count as spec_exterior_count, findings_of_loops, findings_of_parts, is_exterior_loop, length_of_block, mixed_loops, place_of_loop, wrong_loops};
@@ -9,20 +10,9 @@ use crate::part::{Part, is_exterior, is_mixed, turns_wrongly};
 use cell_spec::Finding;
 use plain_lookups::number;
 use ring_build::{Block, RingCut, cut};
+use rule_spec::{MIXED_RING, OPEN_RING, OUTER_COUNT, WRONG_TURN};
 use s57_types::RecName;
 use std::alloc::{AllocError, Global};
-
-/// The number of the kind of a boundary that isn't closed loops one after the other.
-const OPEN_RING: u8 = 15;
-
-/// The number of the kind of a loop with interior and other usage.
-const MIXED_RING: u8 = 16;
-
-/// The number of the kind of an area that hasn't exactly one exterior loop.
-const OUTER_COUNT: u8 = 17;
-
-/// The number of the kind of a loop that turns the wrong way.
-const WRONG_TURN: u8 = 18;
 
 fn arcs_of(alloc: Global, parts: &[Part]) -> Result<Vec<(RecName, RecName)>, AllocError>
     ensures { IfOk result (λ arcs. arcs.items ≡ map arc_of_part parts.now) }
@@ -78,7 +68,7 @@ fn push_mixed(
     lengths: &[usize],
     parts: &[Part],
 ) -> Result<(), AllocError>
-    ensures { OnOk result (findings.new.items ≡ findings.old.items ++ map (finding 16) (mixed_loops (blocks_of lengths.now parts.now))) }
+    ensures { OnOk result (findings.new.items ≡ findings.old.items ++ map (finding MIXED_RING) (mixed_loops (blocks_of lengths.now parts.now))) }
 {
     let mut rest = parts;
     for n in lengths {
@@ -112,7 +102,7 @@ fn push_outer_count(
     lengths: &[usize],
     parts: &[Part],
 ) -> Result<(), AllocError>
-    ensures { OnOk result (findings.new.items ≡ findings.old.items ++ map (finding 17) (spec_exterior_count (blocks_of lengths.now parts.now))) }
+    ensures { OnOk result (findings.new.items ≡ findings.old.items ++ map (finding OUTER_COUNT) (spec_exterior_count (blocks_of lengths.now parts.now))) }
 {
     let outer = number(exterior_count(lengths, parts))?;
     if outer != 1 {
@@ -130,7 +120,7 @@ fn push_wrong_turns(
     lengths: &[usize],
     parts: &[Part],
 ) -> Result<(), AllocError>
-    ensures { OnOk result (findings.new.items ≡ findings.old.items ++ map (finding 18) (wrong_loops (blocks_of lengths.now parts.now))) }
+    ensures { OnOk result (findings.new.items ≡ findings.old.items ++ map (finding WRONG_TURN) (wrong_loops (blocks_of lengths.now parts.now))) }
 {
     let mut rest = parts;
     for n in lengths {
@@ -162,7 +152,7 @@ fn loop_findings(
 }
 
 fn open_ring(alloc: Global, place: u32) -> Result<Vec<Finding>, AllocError>
-    ensures { IfOk result (λ findings. findings.items ≡ finding 15 (place ∷ []) ∷ []) }
+    ensures { IfOk result (λ findings. findings.items ≡ finding OPEN_RING (place ∷ []) ∷ []) }
 {
     let mut findings = Vec::new(alloc);
     findings.push(Finding {

@@ -7,31 +7,32 @@ use Rattle.std.proofs.lemmas.List.{append-nil}
 use Rattle.s57_types.specs.declared.record.Feature.{Feature}
 use Rattle.s57_types.specs.declared.cell.Cell.{Cell}
 use Rattle.cell_spec.specs.declared.finding.Finding.{Finding}
+use Rattle.rule_spec.specs.declared.kind.TheConstants.{BAD_CODES, DANGLING_FEATURE, DANGLING_REF, MIXED_RING, OPEN_RING, OUTER_COUNT, PRIM_REFS, WRONG_GROUP, WRONG_TURN}
 use Rattle.rule_spec.specs.Boundary.{boundary_of, has_points, has_usable_boundary, is_clean, mixed_ring, mixed_ring_of, open_ring, open_ring_of, outer_count, outer_count_of, wrong_turn, wrong_turn_of}
 use Rattle.rule_spec.specs.Features.{bad_codes, dangling_feature, dangling_ref, prim_refs, wrong_group}
-use Rattle.rule_spec.specs.Findings.{finding, numbered_findings}
+use Rattle.rule_spec.specs.Findings.{finding, findings_of_rules}
 use Rattle.rule_spec.specs.Rule.{Found}
 use Rattle.rule_spec.specs.Rules.{feature_rules}
 use Rattle.check_area.proofs.Rows.{rules_unusable}
-use Rattle.check_feature.specs.FeatureKinds.{boundary_findings, feature_kinds, pointer_findings}
+use Rattle.check_feature.specs.FeatureFindings.{boundary_findings, pointer_findings}
 
 -- ---- an area is judged where nothing is found about its spatial pointers
 some_number : (nums : Found) (first : List _) → is_clean (first ∷ nums) ≡ false
 some_number nums first = grind (arith, nat_tests)
 
 abbrev in_a_row : Found → Found → Found → List Finding
-in_a_row a b c = map (finding 12) a ++ map (finding 13) b ++ map (finding 14) c
+in_a_row a b c = map (finding PRIM_REFS) a ++ map (finding DANGLING_REF) b ++ map (finding BAD_CODES) c
 
 some_finding : (x : Finding) (xs : List Finding) → (length (x ∷ xs) == 0) ≡ false
 some_finding x xs = grind (arith, nat_tests)
 
 none_found : (a b c : Found) → (length (in_a_row a b c) == 0) ≡ (is_clean a && is_clean b && is_clean c)
 none_found [] [] [] = refl
-none_found [] [] (x ∷ c) = some_finding (finding 14 x) (map (finding 14) c) ∙ sym (some_number c x)
+none_found [] [] (x ∷ c) = some_finding (finding BAD_CODES x) (map (finding BAD_CODES) c) ∙ sym (some_number c x)
 none_found [] (x ∷ b) c =
-    some_finding (finding 13 x) (map (finding 13) b ++ map (finding 14) c) ∙ ap (λ z. z && is_clean c) (sym (some_number b x))
+    some_finding (finding DANGLING_REF x) (map (finding DANGLING_REF) b ++ map (finding BAD_CODES) c) ∙ ap (λ z. z && is_clean c) (sym (some_number b x))
 none_found (x ∷ a) b c =
-    some_finding (finding 12 x) (map (finding 12) a ++ map (finding 13) b ++ map (finding 14) c) ∙ ap (λ z. (z && is_clean b) && is_clean c) (sym (some_number a x))
+    some_finding (finding PRIM_REFS x) (map (finding PRIM_REFS) a ++ map (finding DANGLING_REF) b ++ map (finding BAD_CODES) c) ∙ ap (λ z. (z && is_clean b) && is_clean c) (sym (some_number a x))
 
 is_nothing : (found : Found) → is_clean found ≡ true → found ≡ []
 is_nothing [] h = refl
@@ -81,22 +82,22 @@ module _ (c : Cell) (f : Feature) (found : List Finding) (is : found ≡ pointer
 
 -- ---- all kinds
 -- three rules' findings appended one after the other
-pub pointers_appended : (c : Cell) (f : Feature) (none first second third : List Finding) → none ≡ [] → first ≡ none ++ map (finding 12) (prim_refs c f) → second ≡ first ++ map (finding 13) (dangling_ref c f)
-    → third ≡ second ++ map (finding 14) (bad_codes c f) → third ≡ pointer_findings c f
+pub pointers_appended : (c : Cell) (f : Feature) (none first second third : List Finding) → none ≡ [] → first ≡ none ++ map (finding PRIM_REFS) (prim_refs c f) → second ≡ first ++ map (finding DANGLING_REF) (dangling_ref c f)
+    → third ≡ second ++ map (finding BAD_CODES) (bad_codes c f) → third ≡ pointer_findings c f
 unfolding pointer_findings
 pointers_appended c f none first second third start a b d =
-    d ∙ ap (λ xs. xs ++ map (finding 14) (bad_codes c f)) (b ∙ ap (λ xs. xs ++ map (finding 13) (dangling_ref c f)) (a ∙ ap (λ xs. xs ++ map (finding 12) (prim_refs c f)) start))
+    d ∙ ap (λ xs. xs ++ map (finding BAD_CODES) (bad_codes c f)) (b ∙ ap (λ xs. xs ++ map (finding DANGLING_REF) (dangling_ref c f)) (a ∙ ap (λ xs. xs ++ map (finding PRIM_REFS) (prim_refs c f)) start))
 
 regroup : (a b c d e f g h i : List Finding) → (((a ++ b ++ c) ++ (d ++ (e ++ (f ++ g)))) ++ h) ++ i ≡ a ++ (b ++ (c ++ (d ++ (e ++ (f ++ (g ++ (h ++ (i ++ []))))))))
 regroup a b c d e f g h i = ap (λ rest. (((a ++ b ++ c) ++ (d ++ (e ++ (f ++ g)))) ++ h) ++ rest) (sym (append-nil i)) ∙ simp append_assoc
 
 -- those about the pointers, the boundary, the partners and the group
 pub all_appended : (c : Cell) (f : Feature) (third fourth fifth sixth : List Finding) → third ≡ pointer_findings c f → fourth ≡ third ++ boundary_findings c f
-    → fifth ≡ fourth ++ map (finding 19) (dangling_feature c f) → sixth ≡ fifth ++ map (finding 20) (wrong_group c f) → sixth ≡ numbered_findings feature_kinds (λ rule. rule c f) 12 feature_rules
+    → fifth ≡ fourth ++ map (finding DANGLING_FEATURE) (dangling_feature c f) → sixth ≡ fifth ++ map (finding WRONG_GROUP) (wrong_group c f) → sixth ≡ findings_of_rules (λ rule. rule c f) feature_rules
 unfolding pointer_findings boundary_findings
 all_appended c f third fourth fifth sixth pointers boundary partners group =
     group
-    ∙ ap (λ xs. xs ++ map (finding 20) (wrong_group c f)) (partners ∙ ap (λ xs. xs ++ map (finding 19) (dangling_feature c f)) (boundary ∙ ap (λ xs. xs ++ boundary_findings c f) pointers))
-    ∙ regroup (map (finding 12) (prim_refs c f)) (map (finding 13) (dangling_ref c f)) (map (finding 14) (bad_codes c f))
-    (map (finding 15) (open_ring c f)) (map (finding 16) (mixed_ring c f)) (map (finding 17) (outer_count c f)) (map (finding 18) (wrong_turn c f))
-    (map (finding 19) (dangling_feature c f)) (map (finding 20) (wrong_group c f))
+    ∙ ap (λ xs. xs ++ map (finding WRONG_GROUP) (wrong_group c f)) (partners ∙ ap (λ xs. xs ++ map (finding DANGLING_FEATURE) (dangling_feature c f)) (boundary ∙ ap (λ xs. xs ++ boundary_findings c f) pointers))
+    ∙ regroup (map (finding PRIM_REFS) (prim_refs c f)) (map (finding DANGLING_REF) (dangling_ref c f)) (map (finding BAD_CODES) (bad_codes c f))
+    (map (finding OPEN_RING) (open_ring c f)) (map (finding MIXED_RING) (mixed_ring c f)) (map (finding OUTER_COUNT) (outer_count c f)) (map (finding WRONG_TURN) (wrong_turn c f))
+    (map (finding DANGLING_FEATURE) (dangling_feature c f)) (map (finding WRONG_GROUP) (wrong_group c f))

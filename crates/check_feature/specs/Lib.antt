@@ -1,1 +1,1 @@
-pub mod FeatureKinds
+pub mod FeatureFindings

@@ -9,7 +9,7 @@ ghost use Rattle.cell_spec.specs.declared.key.Subject.TheVariants.{Rec as Subjec
 ghost use Rattle.cell_spec.specs.Lookup.{lookup_record};
 ghost use Rattle.rule_spec.specs.Reads.{read_set};
 ghost use Rattle.near_records.specs.Near.{IsNear};
-ghost use Rattle.check_feature.specs.FeatureKinds.{boundary_findings, pointer_findings};
+ghost use Rattle.check_feature.specs.FeatureFindings.{boundary_findings, pointer_findings};
 
 use cell_spec::Finding;
 use check_area::area_findings;

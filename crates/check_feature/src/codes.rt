@@ -2,16 +2,15 @@
 
 ghost use Rattle.std.specs.Prelude.{◌≡◌, ◌++◌, OnOk, map};
 ghost use Rattle.s57_types.specs.declared.cell.Cell.{Cell as SpecCell};
+ghost use Rattle.rule_spec.specs.declared.kind.TheConstants.{BAD_CODES};
 ghost use Rattle.rule_spec.specs.Features.{bad_codes, has_its_codes as spec_codes};
 ghost use Rattle.rule_spec.specs.Findings.{finding};
 
 use crate::found::push_place_if;
 use cell_spec::Finding;
+use rule_spec::BAD_CODES;
 use s57_types::{Feature, Spot};
 use std::alloc::AllocError;
-
-/// The number of the kind of a spatial pointer with codes that its primitive doesn't have.
-const BAD_CODES: u8 = 14;
 
 /// No code.
 const NONE: u8 = 255;
@@ -50,7 +49,7 @@ pub(crate) fn push_bad_codes(
     findings: &mut Vec<Finding>,
     feature: &Feature,
 ) -> Result<(), AllocError>
-    ensures { (c : SpecCell) → OnOk result (findings.new.items ≡ findings.old.items ++ map (finding 14) (bad_codes c feature.now)) }
+    ensures { (c : SpecCell) → OnOk result (findings.new.items ≡ findings.old.items ++ map (finding BAD_CODES) (bad_codes c feature.now)) }
 {
     for (k, spot) in feature.places.as_slice().iter().enumerate() {
         let is_bad = !has_its_codes(feature.prim, spot);

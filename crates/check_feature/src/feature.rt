@@ -7,11 +7,10 @@ ghost use Rattle.s57_types.specs.declared.record.Rec.TheVariants.{F};
 ghost use Rattle.cell_spec.specs.declared.key.Key.{Key as SpecKey};
 ghost use Rattle.cell_spec.specs.declared.key.Subject.TheVariants.{Rec as SubjectRec};
 ghost use Rattle.cell_spec.specs.Lookup.{lookup_record};
-ghost use Rattle.rule_spec.specs.Findings.{numbered_findings};
+ghost use Rattle.rule_spec.specs.Findings.{findings_of_rules};
 ghost use Rattle.rule_spec.specs.Reads.{read_set};
 ghost use Rattle.rule_spec.specs.Rules.{feature_rules};
 ghost use Rattle.near_records.specs.Near.{IsNear};
-ghost use Rattle.check_feature.specs.FeatureKinds.{feature_kinds};
 
 use crate::boundary::push_boundary_findings;
 use crate::codes::push_bad_codes;
@@ -33,7 +32,7 @@ pub fn feature_findings(
     near: &NearRecords,
     feature: &Feature,
 ) -> Result<Vec<Finding>, AllocError>
-    ensures { (c : SpecCell) (n : SpecName) (keys : List SpecKey) → IsNear c keys near.now → keys ≡ read_set c (SubjectRec n) → lookup_record c n ≡ Some (F feature.now) → IfOk result (λ found. found.items ≡ numbered_findings feature_kinds (λ rule. rule c feature.now) 12 feature_rules) }
+    ensures { (c : SpecCell) (n : SpecName) (keys : List SpecKey) → IsNear c keys near.now → keys ≡ read_set c (SubjectRec n) → lookup_record c n ≡ Some (F feature.now) → IfOk result (λ found. found.items ≡ findings_of_rules (λ rule. rule c feature.now) feature_rules) }
 {
     let mut findings = Vec::new(alloc);
     push_prim_refs(&mut findings, feature)?;

@@ -2,17 +2,16 @@
 
 ghost use Rattle.std.specs.Prelude.{◌≡◌, ◌++◌, OnOk, map};
 ghost use Rattle.s57_types.specs.declared.cell.Cell.{Cell as SpecCell};
+ghost use Rattle.rule_spec.specs.declared.kind.TheConstants.{WRONG_GROUP};
 ghost use Rattle.rule_spec.specs.Features.{wrong_group};
 ghost use Rattle.rule_spec.specs.Findings.{finding};
 
 use crate::found::push_if;
 use cell_spec::Finding;
 use plain_lookups::is_group1_area;
+use rule_spec::WRONG_GROUP;
 use s57_types::Feature;
 use std::alloc::AllocError;
-
-/// The number of the kind of a feature of the wrong group.
-const WRONG_GROUP: u8 = 20;
 
 /// The group GRUP of the skin of the earth.
 const SKIN: u8 = 1;
@@ -22,7 +21,7 @@ pub(crate) fn push_wrong_group(
     findings: &mut Vec<Finding>,
     feature: &Feature,
 ) -> Result<(), AllocError>
-    ensures { (c : SpecCell) → OnOk result (findings.new.items ≡ findings.old.items ++ map (finding 20) (wrong_group c feature.now)) }
+    ensures { (c : SpecCell) → OnOk result (findings.new.items ≡ findings.old.items ++ map (finding WRONG_GROUP) (wrong_group c feature.now)) }
 {
     let has_group1 = feature.grup == SKIN;
     push_if(findings, WRONG_GROUP, is_group1_area(feature) != has_group1)

@@ -7,6 +7,7 @@ ghost use Rattle.s57_types.specs.declared.record.Partner.{Partner as SpecPartner
 ghost use Rattle.cell_spec.specs.declared.key.Key.{Key as SpecKey};
 ghost use Rattle.cell_spec.specs.declared.key.Key.TheVariants.{Foid as KeyFoid};
 ghost use Rattle.cell_spec.specs.Lookup.{lookup_identity};
+ghost use Rattle.rule_spec.specs.declared.kind.TheConstants.{DANGLING_FEATURE};
 ghost use Rattle.rule_spec.specs.Features.{dangling_feature};
 ghost use Rattle.rule_spec.specs.Findings.{finding};
 ghost use Rattle.near_records.specs.Near.{IsNear, has_key};
@@ -14,11 +15,9 @@ ghost use Rattle.near_records.specs.Near.{IsNear, has_key};
 use crate::found::push_place_if;
 use cell_spec::Finding;
 use near_records::NearRecords;
+use rule_spec::DANGLING_FEATURE;
 use s57_types::{Feature, Partner};
 use std::alloc::AllocError;
-
-/// The number of the kind of a pointer to a feature that names an identifier which no feature bears.
-const DANGLING_FEATURE: u8 = 19;
 
 fn has_no_bearer(near: &NearRecords, partner: &Partner) -> bool
     ensures { (c : SpecCell) (keys : List SpecKey) → IsNear c keys near.now → has_key keys (KeyFoid partner.now.to) ≡ true → result ≡ (length (lookup_identity c partner.now.to) == 0) }
@@ -32,7 +31,7 @@ pub(crate) fn push_dangling_features(
     near: &NearRecords,
     feature: &Feature,
 ) -> Result<(), AllocError>
-    ensures { (c : SpecCell) (keys : List SpecKey) → IsNear c keys near.now → All (λ (p : SpecPartner). has_key keys (KeyFoid p.to) ≡ true) feature.now.partners → OnOk result (findings.new.items ≡ findings.old.items ++ map (finding 19) (dangling_feature c feature.now)) }
+    ensures { (c : SpecCell) (keys : List SpecKey) → IsNear c keys near.now → All (λ (p : SpecPartner). has_key keys (KeyFoid p.to) ≡ true) feature.now.partners → OnOk result (findings.new.items ≡ findings.old.items ++ map (finding DANGLING_FEATURE) (dangling_feature c feature.now)) }
 {
     for (k, partner) in feature.partners.as_slice().iter().enumerate() {
         push_place_if(

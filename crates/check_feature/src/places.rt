@@ -7,6 +7,7 @@ ghost use Rattle.s57_types.specs.declared.record.Spot.{Spot as SpecSpot};
 ghost use Rattle.cell_spec.specs.declared.key.Key.{Key as SpecKey};
 ghost use Rattle.cell_spec.specs.declared.key.Key.TheVariants.{Name as KeyName};
 ghost use Rattle.cell_spec.specs.Lookup.{lookup_record};
+ghost use Rattle.rule_spec.specs.declared.kind.TheConstants.{DANGLING_REF, PRIM_REFS};
 ghost use Rattle.rule_spec.specs.Features.{dangling_ref, fits_primitive as spec_fits, prim_refs, target};
 ghost use Rattle.rule_spec.specs.Findings.{finding};
 ghost use Rattle.rule_spec.specs.Records.{is_edge_name, is_node_name};
@@ -15,14 +16,9 @@ ghost use Rattle.near_records.specs.Near.{IsNear, has_key};
 use crate::found::{push_if, push_place_if};
 use cell_spec::Finding;
 use near_records::NearRecords;
+use rule_spec::{DANGLING_REF, PRIM_REFS};
 use s57_types::{Feature, Kind, Spot};
 use std::alloc::AllocError;
-
-/// The number of the kind of a feature whose spatial pointers don't fit its geometric primitive.
-const PRIM_REFS: u8 = 12;
-
-/// The number of the kind of a spatial pointer that names no record.
-const DANGLING_REF: u8 = 13;
 
 fn name_an_edge(places: &[Spot]) -> bool
     ensures { result ≡ list_any is_edge_name (map target places.now) }
@@ -63,7 +59,7 @@ pub(crate) fn push_prim_refs(
     findings: &mut Vec<Finding>,
     feature: &Feature,
 ) -> Result<(), AllocError>
-    ensures { (c : SpecCell) → OnOk result (findings.new.items ≡ findings.old.items ++ map (finding 12) (prim_refs c feature.now)) }
+    ensures { (c : SpecCell) → OnOk result (findings.new.items ≡ findings.old.items ++ map (finding PRIM_REFS) (prim_refs c feature.now)) }
 {
     let fits = fit_primitive(feature.prim, feature.places.as_slice());
     push_if(findings, PRIM_REFS, !fits)
@@ -84,7 +80,7 @@ pub(crate) fn push_dangling_refs(
     near: &NearRecords,
     feature: &Feature,
 ) -> Result<(), AllocError>
-    ensures { (c : SpecCell) (keys : List SpecKey) → IsNear c keys near.now → All (λ (s : SpecSpot). has_key keys (KeyName s.to) ≡ true) feature.now.places → OnOk result (findings.new.items ≡ findings.old.items ++ map (finding 13) (dangling_ref c feature.now)) }
+    ensures { (c : SpecCell) (keys : List SpecKey) → IsNear c keys near.now → All (λ (s : SpecSpot). has_key keys (KeyName s.to) ≡ true) feature.now.places → OnOk result (findings.new.items ≡ findings.old.items ++ map (finding DANGLING_REF) (dangling_ref c feature.now)) }
 {
     for (k, spot) in feature.places.as_slice().iter().enumerate() {
         push_place_if(findings, DANGLING_REF, dangles(near, spot), k + 1)?;

@@ -27,8 +27,8 @@ use Rattle.cell_spec.specs.Lookup.{lookup_pointers}
 use Rattle.cell_spec.specs.Names.{key_order}
 use Rattle.rule_spec.specs.Reads.{keys_read, read_set}
 use Rattle.rule_spec.specs.Records.{feature_named}
-use Rattle.chain_topo.proofs.Ascending.{holds-ascending, sorted-ascending}
-use Rattle.read_sets.proofs.KeyOrder.{exact_keys, total_keys}
+use Rattle.cell_spec.proofs.Ascending.{holds-ascending, sorted-ascending}
+use Rattle.cell_spec.proofs.Orders.{exact_keys, total_keys}
 use Rattle.check_group1.specs.Referrers.{asks_for, feature_of_key, CanBeFound}
 
 -- ---- a key that is among some is found

@@ -1,2 +1,1 @@
-pub mod AskedKinds
 pub mod Referrers

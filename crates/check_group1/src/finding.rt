@@ -3,25 +3,15 @@
 ghost use Rattle.std.specs.Prelude.{◌≡◌, ◌==◌, ◌++◌, [], ◌∷◌, IfOk, OnOk, ℕ, find, length, map, not, if◌then◌else◌};
 ghost use Rattle.s57_types.specs.declared.cell.Cell.{Cell as SpecCell};
 ghost use Rattle.s57_types.specs.declared.name.RecName.{RecName as SpecRecName};
-ghost use Rattle.rule_spec.specs.Findings.{finding as finding_of, numbered_findings};
+ghost use Rattle.rule_spec.specs.Findings.{finding as finding_of, findings_of_rules};
 ghost use Rattle.rule_spec.specs.Rule.{found_if};
 ghost use Rattle.rule_spec.specs.Rules.{side_rules};
 ghost use Rattle.rule_spec.specs.Sides.{found_use, is_balanced as are_balanced, is_truncated, numbers_of as counts_as_numbers, overlaps as do_overlap, side_counts as counts_of, uses_of as uses_in};
-ghost use Rattle.check_group1.specs.AskedKinds.{side_kinds};
 
 use crate::uses::{first_truncated, side_counts};
 use cell_spec::Finding;
-use rule_spec::{EdgeSideCounts, EdgeUse};
+use rule_spec::{EdgeSideCounts, EdgeUse, FALSE_TRUNCATION, ORPHAN, SIDE_OVERLAP, SIDE_UNBALANCED};
 use std::alloc::{AllocError, Global};
-
-/// The numbers of the kinds.
-const ORPHAN: u8 = 21;
-
-const SIDE_OVERLAP: u8 = 22;
-
-const SIDE_UNBALANCED: u8 = 23;
-
-const FALSE_TRUNCATION: u8 = 24;
 
 /// Orphan: no feature uses the edge.
 fn push_orphan(findings: &mut Vec<Finding>, uses: &[EdgeUse]) -> Result<(), AllocError>
@@ -111,7 +101,7 @@ fn push_truncation(
 
 /// The findings about the two sides of an edge, by its uses, ascending by kind.
 pub(crate) fn side_findings(alloc: Global, uses: &[EdgeUse]) -> Result<Vec<Finding>, AllocError>
-    ensures { (c : SpecCell) (n : SpecRecName) → uses.now ≡ uses_in c n → IfOk result (λ findings. findings.items ≡ numbered_findings side_kinds (λ rule. rule c n) 21 side_rules) }
+    ensures { (c : SpecCell) (n : SpecRecName) → uses.now ≡ uses_in c n → IfOk result (λ findings. findings.items ≡ findings_of_rules (λ rule. rule c n) side_rules) }
 {
     let n = side_counts(uses)?;
     let first = first_truncated(uses);

@@ -7,23 +7,20 @@ ghost use Rattle.rule_spec.specs.Findings.{findings_of_subject};
 ghost use Rattle.rule_spec.specs.Reads.{read_set};
 ghost use Rattle.s57_types.specs.declared.cell.Cell.{Cell as SpecCell};
 ghost use Rattle.s57_types.specs.declared.name.Lnam.{Lnam as SpecLnam};
-ghost use Rattle.check_group1.specs.AskedKinds.{identity_kinds};
 
 use cell_spec::{Finding, Findings, Key, Keys, Row, Subject};
 use chain_topo::{Look, Steps};
 use plain_lookups::number;
 use read_sets::ascending_keys;
+use rule_spec::TWICE_FOID;
 use s57_types::{Lnam, RecName};
 use std::alloc::{AllocError, Global};
 use std::sync::ledger::Ledger;
 
-/// The number of the kind TwiceFoid.
-const TWICE_FOID: u8 = 25;
-
 /// TwiceFoid: more than one feature bears the identifier.
 #[tactic(auto, unfolding(rule_spec::specs::Findings::findings_of_subject))]
 fn findings_of(alloc: Global, bearers: &[RecName]) -> Result<Findings, AllocError>
-    ensures { (c : SpecCell) (l : SpecLnam) → bearers.now ≡ lookup_identity c l → IfOk result (λ findings. findings ≡ findings_of_subject identity_kinds c (SubjectIdent l)) }
+    ensures { (c : SpecCell) (l : SpecLnam) → bearers.now ≡ lookup_identity c l → IfOk result (λ findings. findings ≡ findings_of_subject c (SubjectIdent l)) }
 {
     let count = number(bearers.len())?;
     let mut findings = Findings::make(alloc);
@@ -57,7 +54,7 @@ pub fn verdict_ident<B: Look, L: Ledger>(
     steps: &mut Steps<L>,
 ) -> Result<Row, AllocError>
     ensures subject { IfOk result (λ row. row.subject ≡ SubjectIdent foid) }
-    ensures findings { IfOk result (λ row. row.findings ≡ findings_of_subject identity_kinds (B.cell look.now) (SubjectIdent foid)) }
+    ensures findings { IfOk result (λ row. row.findings ≡ findings_of_subject (B.cell look.now) (SubjectIdent foid)) }
     ensures reads { IfOk result (λ row. row.reads ≡ read_set (B.cell look.now) (SubjectIdent foid)) }
     ensures steps { steps.new ≤ steps.old + 4 * length (read_set (B.cell look.now) (SubjectIdent foid)) }
 {

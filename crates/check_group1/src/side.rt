@@ -7,7 +7,6 @@ ghost use Rattle.cell_spec.specs.Lookup.{lookup_pointers};
 ghost use Rattle.rule_spec.specs.Findings.{findings_of_subject};
 ghost use Rattle.rule_spec.specs.Reads.{read_set};
 ghost use Rattle.rule_spec.specs.Records.{edge_named};
-ghost use Rattle.check_group1.specs.AskedKinds.{side_kinds};
 
 use crate::finding::side_findings;
 use crate::uses::uses_of;
@@ -56,7 +55,7 @@ fn findings_of<B: Look, L: Ledger>(
 ) -> Result<Vec<Finding>, AllocError>
     requires keys { keys.now ≡ read_set (B.cell look.now) (SubjectSide name) }
     requires pointers { pointers.now ≡ lookup_pointers (B.cell look.now) name }
-    ensures findings { IfOk result (λ findings. findings.items ≡ findings_of_subject side_kinds (B.cell look.now) (SubjectSide name)) }
+    ensures findings { IfOk result (λ findings. findings.items ≡ findings_of_subject (B.cell look.now) (SubjectSide name)) }
     ensures steps { steps.new ≤ steps.old + (1 + length (read_set (B.cell look.now) (SubjectSide name))) }
 {
     if !is_edge(look, name, steps) {
@@ -80,7 +79,7 @@ pub fn verdict_side<B: Look, L: Ledger>(
     steps: &mut Steps<L>,
 ) -> Result<Row, AllocError>
     ensures subject { IfOk result (λ row. row.subject ≡ SubjectSide name) }
-    ensures findings { IfOk result (λ row. row.findings ≡ findings_of_subject side_kinds (B.cell look.now) (SubjectSide name)) }
+    ensures findings { IfOk result (λ row. row.findings ≡ findings_of_subject (B.cell look.now) (SubjectSide name)) }
     ensures reads { IfOk result (λ row. row.reads ≡ read_set (B.cell look.now) (SubjectSide name)) }
     ensures steps { steps.new ≤ steps.old + 4 * length (read_set (B.cell look.now) (SubjectSide name)) }
 {

@@ -13,8 +13,8 @@ use Rattle.cell_spec.specs.declared.key.Key.TheVariants.{Name}
 use Rattle.cell_spec.specs.declared.key.Subject.TheVariants.{Pair}
 use Rattle.cell_spec.specs.Ascending.{ascending}
 use Rattle.cell_spec.specs.Names.{key_order, name_order}
-use Rattle.chain_topo.proofs.Ascending.{holds, holds-ascending}
-use Rattle.read_sets.proofs.KeyOrder.{exact_keys, total_keys}
+use Rattle.cell_spec.proofs.Ascending.{holds, holds-ascending}
+use Rattle.cell_spec.proofs.Orders.{exact_keys, total_keys}
 use Rattle.rule_spec.specs.Findings.{is_below}
 use Rattle.rule_spec.specs.Reads.{end_keys_at, feature_keys, record_keys, read_set}
 use Rattle.rule_spec.specs.Records.{feature_named}

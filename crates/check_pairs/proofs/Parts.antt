@@ -12,6 +12,7 @@ use Rattle.cell_spec.specs.declared.key.Subject.TheVariants.{Pair}
 use Rattle.cell_spec.specs.Lookup.{lookup_record}
 use Rattle.cell_spec.specs.Names.{kind_rank}
 use Rattle.geometry_spec.specs.Points.{Point}
+use Rattle.rule_spec.specs.declared.kind.TheConstants.{COINCIDE, CROSS, NODE_ON_EDGE, SAME_PLACE, TOUCH}
 use Rattle.rule_spec.specs.declared.line.EdgeLine.{EdgeLine}
 use Rattle.rule_spec.specs.Contacts.{contact_of_lines, cross, touch, coincide, are_same_place, same_place, names_node, segment_under, node_on_edge}
 use Rattle.rule_spec.specs.EdgePoints.{node_position, line_of, edge_line_of}
@@ -19,7 +20,6 @@ use Rattle.rule_spec.specs.Findings.{finding, findings_about, findings_of_subjec
 use Rattle.rule_spec.specs.Records.{node_named, edge_named, is_chain_part, is_edge_name, the_only}
 use Rattle.rule_spec.specs.Rule.{Found, found_if}
 use Rattle.check_pairs.specs.Contacts.{edge_contacts}
-use Rattle.check_pairs.specs.PairKinds.{pair_kinds}
 
 -- ---- the record of a name is an edge or a node
 pub edge_is : (c : Cell) (n : RecName) (v : Vector) → lookup_record c n ≡ Some (V v) → is_edge_name v.name ≡ true → edge_named c n ≡ Some v
@@ -75,32 +75,32 @@ no_node_on c a b h =
 
 -- ---- the findings of the rules that speak
 abbrev all_five : Found → Found → Found → Found → Found → List Finding
-all_five x7 x8 x9 x10 x11 = map (finding 7) x7 ++ (map (finding 8) x8 ++ (map (finding 9) x9 ++ (map (finding 10) x10 ++ (map (finding 11) x11 ++ []))))
+all_five x7 x8 x9 x10 x11 = map (finding CROSS) x7 ++ (map (finding TOUCH) x8 ++ (map (finding COINCIDE) x9 ++ (map (finding SAME_PLACE) x10 ++ (map (finding NODE_ON_EDGE) x11 ++ []))))
 
-first_three : (x7 x8 x9 x10 x11 : Found) → x10 ≡ [] → x11 ≡ [] → all_five x7 x8 x9 x10 x11 ≡ map (finding 7) x7 ++ (map (finding 8) x8 ++ map (finding 9) x9)
-first_three x7 x8 x9 x10 x11 h10 h11 = rw h10 (rw h11 (ap (λ z. map (finding 7) x7 ++ (map (finding 8) x8 ++ z)) (append-nil (map (finding 9) x9))))
+first_three : (x7 x8 x9 x10 x11 : Found) → x10 ≡ [] → x11 ≡ [] → all_five x7 x8 x9 x10 x11 ≡ map (finding CROSS) x7 ++ (map (finding TOUCH) x8 ++ map (finding COINCIDE) x9)
+first_three x7 x8 x9 x10 x11 h10 h11 = rw h10 (rw h11 (ap (λ z. map (finding CROSS) x7 ++ (map (finding TOUCH) x8 ++ z)) (append-nil (map (finding COINCIDE) x9))))
 
-fourth : (x7 x8 x9 x10 x11 : Found) → x7 ≡ [] → x8 ≡ [] → x9 ≡ [] → x11 ≡ [] → all_five x7 x8 x9 x10 x11 ≡ map (finding 10) x10
-fourth x7 x8 x9 x10 x11 h7 h8 h9 h11 = rw h7 (rw h8 (rw h9 (rw h11 (append-nil (map (finding 10) x10)))))
+fourth : (x7 x8 x9 x10 x11 : Found) → x7 ≡ [] → x8 ≡ [] → x9 ≡ [] → x11 ≡ [] → all_five x7 x8 x9 x10 x11 ≡ map (finding SAME_PLACE) x10
+fourth x7 x8 x9 x10 x11 h7 h8 h9 h11 = rw h7 (rw h8 (rw h9 (rw h11 (append-nil (map (finding SAME_PLACE) x10)))))
 
-fifth : (x7 x8 x9 x10 x11 : Found) → x7 ≡ [] → x8 ≡ [] → x9 ≡ [] → x10 ≡ [] → all_five x7 x8 x9 x10 x11 ≡ map (finding 11) x11
-fifth x7 x8 x9 x10 x11 h7 h8 h9 h10 = rw h7 (rw h8 (rw h9 (rw h10 (append-nil (map (finding 11) x11)))))
+fifth : (x7 x8 x9 x10 x11 : Found) → x7 ≡ [] → x8 ≡ [] → x9 ≡ [] → x10 ≡ [] → all_five x7 x8 x9 x10 x11 ≡ map (finding NODE_ON_EDGE) x11
+fifth x7 x8 x9 x10 x11 h7 h8 h9 h10 = rw h7 (rw h8 (rw h9 (rw h10 (append-nil (map (finding NODE_ON_EDGE) x11)))))
 
-pub of_edges : (c : Cell) (a b : RecName) → node_named c a ≡ None → findings_about pair_kinds c (Pair a b) ≡ edge_contacts c a b
+pub of_edges : (c : Cell) (a b : RecName) → node_named c a ≡ None → findings_about c (Pair a b) ≡ edge_contacts c a b
 of_edges c a b h = first_three (cross c a b) (touch c a b) (coincide c a b) (same_place c a b) (node_on_edge c a b) (not_same_first c a b h) (no_node_on c a b h)
 
-pub of_nodes : (c : Cell) (a b : RecName) → edge_named c a ≡ None → edge_named c b ≡ None → findings_about pair_kinds c (Pair a b) ≡ map (finding 10) (same_place c a b)
+pub of_nodes : (c : Cell) (a b : RecName) → edge_named c a ≡ None → edge_named c b ≡ None → findings_about c (Pair a b) ≡ map (finding SAME_PLACE) (same_place c a b)
 of_nodes c a b h k = fourth (cross c a b) (touch c a b) (coincide c a b) (same_place c a b) (node_on_edge c a b)
     (none_with_first 7 c a b h) (none_with_first 8 c a b h) (none_with_first 9 c a b h) (not_on_node c a b k)
 
-pub of_node_and_edge : (c : Cell) (a b : RecName) → edge_named c a ≡ None → node_named c b ≡ None → findings_about pair_kinds c (Pair a b) ≡ map (finding 11) (node_on_edge c a b)
+pub of_node_and_edge : (c : Cell) (a b : RecName) → edge_named c a ≡ None → node_named c b ≡ None → findings_about c (Pair a b) ≡ map (finding NODE_ON_EDGE) (node_on_edge c a b)
 of_node_and_edge c a b h k = fifth (cross c a b) (touch c a b) (coincide c a b) (same_place c a b) (node_on_edge c a b)
     (none_with_first 7 c a b h) (none_with_first 8 c a b h) (none_with_first 9 c a b h) (not_same_second c a b k)
 
-pub of_edge_and_node : (c : Cell) (a b : RecName) → node_named c a ≡ None → edge_named c b ≡ None → findings_about pair_kinds c (Pair a b) ≡ []
+pub of_edge_and_node : (c : Cell) (a b : RecName) → node_named c a ≡ None → edge_named c b ≡ None → findings_about c (Pair a b) ≡ []
 of_edge_and_node c a b h k = fifth (cross c a b) (touch c a b) (coincide c a b) (same_place c a b) (node_on_edge c a b)
     (none_with_second 7 c a b k) (none_with_second 8 c a b k) (none_with_second 9 c a b k) (not_same_first c a b h)
-    ∙ ap (map (finding 11)) (no_node_on c a b h)
+    ∙ ap (map (finding NODE_ON_EDGE)) (no_node_on c a b h)
 
 -- ---- a subject of the cell
 first_of_three : (x y z : Bool) → (x && y && z) ≡ true → x ≡ true
@@ -110,6 +110,6 @@ first_of_three false y z h = h
 pub below_from_subject : (c : Cell) (a b : RecName) → is_subject c (Pair a b) ≡ true → is_below a b ≡ true
 below_from_subject c a b h = first_of_three (is_below a b) (is_chain_part c a) (is_chain_part c b) h
 
-pub findings_of : (c : Cell) (a b : RecName) → is_subject c (Pair a b) ≡ true → findings_of_subject pair_kinds c (Pair a b) ≡ findings_about pair_kinds c (Pair a b)
+pub findings_of : (c : Cell) (a b : RecName) → is_subject c (Pair a b) ≡ true → findings_of_subject c (Pair a b) ≡ findings_about c (Pair a b)
 unfolding findings_of_subject
-findings_of c a b h = ap (λ t. cond t (findings_about pair_kinds c (Pair a b)) []) h
+findings_of c a b h = ap (λ t. cond t (findings_about c (Pair a b)) []) h

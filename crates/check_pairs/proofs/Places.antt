@@ -8,6 +8,7 @@ use Rattle.s57_types.specs.declared.record.Vector.{Vector}
 use Rattle.s57_types.specs.declared.cell.Cell.{Cell}
 use Rattle.cell_spec.specs.declared.finding.Finding.{Finding}
 use Rattle.geometry_spec.specs.Points.{Point}
+use Rattle.rule_spec.specs.declared.kind.TheConstants.{COINCIDE, CROSS, TOUCH}
 use Rattle.rule_spec.specs.declared.line.EdgeLine.{EdgeLine}
 use Rattle.rule_spec.specs.Contacts.{shared_nodes, contact_of_lines}
 use Rattle.rule_spec.specs.EdgePoints.{node_at, node_position, line_between, line_of, edge_line_of}
@@ -77,7 +78,7 @@ shared_found c a b h = two_places (node_position c) a.begins a.ends (is_end_of b
 -- ---- the findings about two edges with lines are those about the first contact away from shared places
 abbrev findings_of_lines : Cell → Option EdgeLine → Option EdgeLine → List Finding
 findings_of_lines c x y =
-    map (finding 7) (contact_of_lines 7 c x y) ++ (map (finding 8) (contact_of_lines 8 c x y) ++ map (finding 9) (contact_of_lines 9 c x y))
+    map (finding CROSS) (contact_of_lines 7 c x y) ++ (map (finding TOUCH) (contact_of_lines 8 c x y) ++ map (finding COINCIDE) (contact_of_lines 9 c x y))
 
 pub contacts_found : (c : Cell) (a b : RecName) (first second : EdgeLine) → edge_line_of c a ≡ Some first → edge_line_of c b ≡ Some second →
     edge_contacts c a b ≡ contact_findings (first_contact (shared_places first second) first second)

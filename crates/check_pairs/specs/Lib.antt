@@ -1,3 +1,2 @@
 pub mod Contacts
-pub mod PairKinds
 pub mod SharedPlaces

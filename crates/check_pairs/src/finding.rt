@@ -6,6 +6,7 @@ ghost use Rattle.s57_types.specs.declared.cell.Cell.{Cell as SpecCell};
 ghost use Rattle.s57_types.specs.declared.name.RecName.{RecName as SpecRecName};
 ghost use Rattle.s57_types.specs.declared.record.Rec.TheVariants.{V as SpecV};
 ghost use Rattle.cell_spec.specs.Lookup.{lookup_record};
+ghost use Rattle.rule_spec.specs.declared.kind.TheConstants.{NODE_ON_EDGE, SAME_PLACE};
 ghost use Rattle.rule_spec.specs.Contacts.{is_on as spec_is_on, touch_at_an_end as spec_touch, kind_of_contact as spec_kind, are_same_place as spec_same, same_place, segment_under, node_on_edge};
 ghost use Rattle.rule_spec.specs.EdgePoints.{Segment as SpecSegment};
 ghost use Rattle.rule_spec.specs.Findings.{finding};
@@ -18,25 +19,10 @@ use cell_spec::Finding;
 use chain_topo::{Look, Steps, edge_line};
 use geometry_spec::{MeetCase, Point};
 use plain_lookups::{Numbered, Segment, number, same_point, segments_of};
-use rule_spec::EdgeLine;
+use rule_spec::{COINCIDE, CROSS, EdgeLine, NODE_ON_EDGE, SAME_PLACE, TOUCH};
 use s57_types::{RecName, Vector};
 use std::alloc::{AllocError, Global};
 use std::sync::ledger::Ledger;
-
-/// The number of the kind of two edges that cross.
-const CROSS: u8 = 7;
-
-/// The number of the kind of two edges that touch.
-const TOUCH: u8 = 8;
-
-/// The number of the kind of two edges that overlap.
-const COINCIDE: u8 = 9;
-
-/// The number of the kind of two nodes at one place.
-const SAME_PLACE: u8 = 10;
-
-/// The number of the kind of a node that lies on an edge.
-const NODE_ON_EDGE: u8 = 11;
 
 fn touch_at_an_end(s: Segment, t: Segment) -> bool
     ensures { result ≡ spec_touch s t }
@@ -109,7 +95,7 @@ pub(crate) fn node_pair(
     second: &Vector,
 ) -> Result<Vec<Finding>, AllocError>
     ensures { (c : SpecCell) (a b : SpecRecName) → lookup_record c a ≡ Some (SpecV first.now) → lookup_record c b ≡ Some (SpecV second.now)
-        → IfOk result (λ findings. findings.items ≡ map (finding 10) (same_place c a b)) }
+        → IfOk result (λ findings. findings.items ≡ map (finding SAME_PLACE) (same_place c a b)) }
 {
     let mut findings = Vec::new(alloc);
     if are_same_place(position_of(first), position_of(second)) {
@@ -138,7 +124,7 @@ fn push_segment_under(
     w: Point,
     line: &EdgeLine,
 ) -> Result<(), AllocError>
-    ensures { OnOk result (findings.new.items ≡ findings.old.items ++ map (finding 11) (segment_under (Some w) (Some line.now))) }
+    ensures { OnOk result (findings.new.items ≡ findings.old.items ++ map (finding NODE_ON_EDGE) (segment_under (Some w) (Some line.now))) }
 {
     let segments = segments_of(alloc, line.points.as_slice())?;
     if let Some(k) = first_segment_under(w, &segments) {
@@ -163,7 +149,7 @@ pub(crate) fn node_and_edge<B: Look, L: Ledger>(
 ) -> Result<Vec<Finding>, AllocError>
     requires node { lookup_record (B.cell look.now) a ≡ Some (SpecV node.now) }
     requires edge { edge_named (B.cell look.now) b ≡ Some edge.now }
-    ensures found { IfOk result (λ findings. findings.items ≡ map (finding 11) (node_on_edge (B.cell look.now) a b)) }
+    ensures found { IfOk result (λ findings. findings.items ≡ map (finding NODE_ON_EDGE) (node_on_edge (B.cell look.now) a b)) }
     ensures steps { steps.new ≤ steps.old + 3 }
     ensures counted { steps.old ≤ steps.new }
 {

@@ -6,7 +6,6 @@ ghost use Rattle.cell_spec.specs.declared.key.Subject.TheVariants.{Pair as SpecP
 ghost use Rattle.cell_spec.specs.Lookup.{lookup_record};
 ghost use Rattle.rule_spec.specs.Findings.{is_subject, findings_about, findings_of_subject};
 ghost use Rattle.rule_spec.specs.Reads.{read_set};
-ghost use Rattle.check_pairs.specs.PairKinds.{pair_kinds};
 
 use crate::finding::{edge_pair, node_and_edge, node_pair};
 use crate::part::{chain_part, is_edge, pair_keys};
@@ -27,7 +26,7 @@ fn pair_findings<B: Look, L: Ledger>(
 ) -> Result<Vec<Finding>, AllocError>
     requires first { lookup_record (B.cell look.now) a ≡ Some (SpecV first.now) }
     requires second { lookup_record (B.cell look.now) b ≡ Some (SpecV second.now) }
-    ensures found { IfOk result (λ findings. findings.items ≡ findings_about pair_kinds (B.cell look.now) (SpecPair a b)) }
+    ensures found { IfOk result (λ findings. findings.items ≡ findings_about (B.cell look.now) (SpecPair a b)) }
     ensures steps { steps.new ≤ steps.old + 6 }
     ensures counted { steps.old ≤ steps.new }
 {
@@ -57,7 +56,7 @@ pub fn verdict_pair<B: Look, L: Ledger>(
 ) -> Result<Row, AllocError>
     requires { IsTrue (is_subject (B.cell look.now) (SpecPair a b)) }
     ensures subject { IfOk result (λ row. row.subject ≡ SpecPair a b) }
-    ensures findings { IfOk result (λ row. row.findings ≡ findings_of_subject pair_kinds (B.cell look.now) (SpecPair a b)) }
+    ensures findings { IfOk result (λ row. row.findings ≡ findings_of_subject (B.cell look.now) (SpecPair a b)) }
     ensures reads { IfOk result (λ row. row.reads ≡ read_set (B.cell look.now) (SpecPair a b)) }
     ensures steps { steps.new ≤ steps.old + 4 * length (read_set (B.cell look.now) (SpecPair a b)) }
     ensures counted { steps.old ≤ steps.new }

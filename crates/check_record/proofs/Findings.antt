@@ -10,6 +10,7 @@ use Rattle.s57_types.specs.declared.record.Vector.{Vector}
 use Rattle.s57_types.specs.declared.cell.Cell.{Cell}
 use Rattle.cell_spec.specs.declared.finding.Finding.{Finding}
 use Rattle.cell_spec.specs.Names.{kind_rank}
+use Rattle.rule_spec.specs.declared.kind.TheConstants.{BAD_SHAPE, DANGLING_END, END_COUNT, NODE_POINTER, SELF_MEET, STACKED}
 use Rattle.rule_spec.specs.declared.line.EdgeLine.{EdgeLine}
 use Rattle.rule_spec.specs.EdgeEnds.{dangling_end, end_count}
 use Rattle.rule_spec.specs.EdgePoints.{line_of}
@@ -17,16 +18,15 @@ use Rattle.rule_spec.specs.Findings.{finding, findings_of_record}
 use Rattle.rule_spec.specs.Records.{is_edge_name, is_node_name}
 use Rattle.rule_spec.specs.Rule.{Found, found_at}
 use Rattle.rule_spec.specs.Vectors.{bad_shape, node_pointer, self_meet, self_meet_of, stacked, stacked_segment}
-use Rattle.check_record.specs.RecordKinds.{record_kinds}
 
 -- six rules' findings one after the other, where four are on edges and the last is on nodes
-all_kinds : Bool → Bool → Found → Found → Found → Found → Found → Found → List Finding
-all_kinds edge node one two three four five six =
-    map (finding 1) one ++ (map (finding 2) (cond edge two []) ++ (map (finding 3) (cond edge three []) ++ (map (finding 4) (cond edge four []) ++ (map (finding 5) (cond edge five []) ++ (map (finding 6) (cond node six []) ++ [])))))
+six_rules : Bool → Bool → Found → Found → Found → Found → Found → Found → List Finding
+six_rules edge node one two three four five six =
+    map (finding BAD_SHAPE) one ++ (map (finding END_COUNT) (cond edge two []) ++ (map (finding DANGLING_END) (cond edge three []) ++ (map (finding STACKED) (cond edge four []) ++ (map (finding SELF_MEET) (cond edge five []) ++ (map (finding NODE_POINTER) (cond node six []) ++ [])))))
 
-are_all_kinds : (c : Cell) (v : Vector) → findings_of_record record_kinds c (V v) ≡ all_kinds (is_edge_name v.name) (is_node_name v.name) (bad_shape c v) (end_count c v) (dangling_end c v) (stacked c v) (self_meet c v) (node_pointer c v)
-unfolding all_kinds
-are_all_kinds c v = refl
+are_six_rules : (c : Cell) (v : Vector) → findings_of_record c (V v) ≡ six_rules (is_edge_name v.name) (is_node_name v.name) (bad_shape c v) (end_count c v) (dangling_end c v) (stacked c v) (self_meet c v) (node_pointer c v)
+unfolding six_rules
+are_six_rules c v = refl
 
 node_is_no_edge : (k : Kind) → ((kind_rank k == 0) || (kind_rank k == 1)) ≡ true → (kind_rank k == 2) ≡ false
 node_is_no_edge Vi h = refl
@@ -41,27 +41,27 @@ edge_is_no_node Ve h = refl
 edge_is_no_node Fe h = absurd cc
 
 -- the findings about a node
-pub node_kinds : (c : Cell) (v : Vector) → is_node_name v.name ≡ true → map (finding 1) (bad_shape c v) ++ map (finding 6) (node_pointer c v) ≡ findings_of_record record_kinds c (V v)
-unfolding all_kinds
+pub node_kinds : (c : Cell) (v : Vector) → is_node_name v.name ≡ true → map (finding BAD_SHAPE) (bad_shape c v) ++ map (finding NODE_POINTER) (node_pointer c v) ≡ findings_of_record c (V v)
+unfolding six_rules
 node_kinds c v h =
-    let all = λ (edge node : Bool). all_kinds edge node (bad_shape c v) (end_count c v) (dangling_end c v) (stacked c v) (self_meet c v) (node_pointer c v) in
-    ap (λ rest. map (finding 1) (bad_shape c v) ++ rest) (sym (append-nil (map (finding 6) (node_pointer c v))))
+    let all = λ (edge node : Bool). six_rules edge node (bad_shape c v) (end_count c v) (dangling_end c v) (stacked c v) (self_meet c v) (node_pointer c v) in
+    ap (λ rest. map (finding BAD_SHAPE) (bad_shape c v) ++ rest) (sym (append-nil (map (finding NODE_POINTER) (node_pointer c v))))
     ∙ ap (all false) (sym h) ∙ ap (λ edge. all edge (is_node_name v.name)) (sym (node_is_no_edge v.name.kind h))
-    ∙ sym (are_all_kinds c v)
+    ∙ sym (are_six_rules c v)
 
 -- the findings about an edge
 pub edge_kinds : (c : Cell) (v : Vector) (places : Found) (line : Option EdgeLine) → is_edge_name v.name ≡ true → places ≡ dangling_end c v → line ≡ line_of c v
-    → ((map (finding 1) (bad_shape c v) ++ map (finding 2) (end_count c v)) ++ map (finding 3) places)
-    ++ (map (finding 4) (option_map_or (λ (line : EdgeLine). found_at (stacked_segment line.points)) line []) ++ map (finding 5) (option_map_or (λ (line : EdgeLine). self_meet_of line.points) line []))
-    ≡ findings_of_record record_kinds c (V v)
-unfolding all_kinds
+    → ((map (finding BAD_SHAPE) (bad_shape c v) ++ map (finding END_COUNT) (end_count c v)) ++ map (finding DANGLING_END) places)
+    ++ (map (finding STACKED) (option_map_or (λ (line : EdgeLine). found_at (stacked_segment line.points)) line []) ++ map (finding SELF_MEET) (option_map_or (λ (line : EdgeLine). self_meet_of line.points) line []))
+    ≡ findings_of_record c (V v)
+unfolding six_rules
 edge_kinds c v places line h dangling is_line =
-    let all = λ (edge node : Bool). all_kinds edge node (bad_shape c v) (end_count c v) (dangling_end c v) (stacked c v) (self_meet c v) (node_pointer c v) in
-    (λ i. ((map (finding 1) (bad_shape c v) ++ map (finding 2) (end_count c v)) ++ map (finding 3) (dangling i))
-    ++ (map (finding 4) (option_map_or (λ (line : EdgeLine). found_at (stacked_segment line.points)) (is_line i) []) ++ map (finding 5) (option_map_or (λ (line : EdgeLine). self_meet_of line.points) (is_line i) [])))
-    ∙ regroup (map (finding 1) (bad_shape c v)) (map (finding 2) (end_count c v)) (map (finding 3) (dangling_end c v)) (map (finding 4) (stacked c v)) (map (finding 5) (self_meet c v))
+    let all = λ (edge node : Bool). six_rules edge node (bad_shape c v) (end_count c v) (dangling_end c v) (stacked c v) (self_meet c v) (node_pointer c v) in
+    (λ i. ((map (finding BAD_SHAPE) (bad_shape c v) ++ map (finding END_COUNT) (end_count c v)) ++ map (finding DANGLING_END) (dangling i))
+    ++ (map (finding STACKED) (option_map_or (λ (line : EdgeLine). found_at (stacked_segment line.points)) (is_line i) []) ++ map (finding SELF_MEET) (option_map_or (λ (line : EdgeLine). self_meet_of line.points) (is_line i) [])))
+    ∙ regroup (map (finding BAD_SHAPE) (bad_shape c v)) (map (finding END_COUNT) (end_count c v)) (map (finding DANGLING_END) (dangling_end c v)) (map (finding STACKED) (stacked c v)) (map (finding SELF_MEET) (self_meet c v))
     ∙ ap (all true) (sym (edge_is_no_node v.name.kind h)) ∙ ap (λ edge. all edge (is_node_name v.name)) (sym h)
-    ∙ sym (are_all_kinds c v)
+    ∙ sym (are_six_rules c v)
   where
     regroup : (a b c d e : List Finding) → ((a ++ b) ++ c) ++ (d ++ e) ≡ a ++ (b ++ (c ++ (d ++ (e ++ []))))
     regroup a b c d e = ap (λ rest. ((a ++ b) ++ c) ++ (d ++ rest)) (sym (append-nil e)) ∙ simp append_assoc
@@ -75,8 +75,8 @@ pub four_appended : (shape third fourth a b c d : List Finding) → shape ≡ a 
 four_appended shape third fourth a b c d e f g = g ∙ ap (λ xs. xs ++ d) (f ∙ ap (λ xs. xs ++ c) e)
 
 -- the findings about a vector record that is neither a node nor an edge
-pub shape_kinds : (c : Cell) (v : Vector) → is_node_name v.name ≡ false → is_edge_name v.name ≡ false → map (finding 1) (bad_shape c v) ≡ findings_of_record record_kinds c (V v)
-unfolding all_kinds
+pub shape_kinds : (c : Cell) (v : Vector) → is_node_name v.name ≡ false → is_edge_name v.name ≡ false → map (finding BAD_SHAPE) (bad_shape c v) ≡ findings_of_record c (V v)
+unfolding six_rules
 shape_kinds c v node edge =
-    let all = λ (edge node : Bool). all_kinds edge node (bad_shape c v) (end_count c v) (dangling_end c v) (stacked c v) (self_meet c v) (node_pointer c v) in
-    sym (append-nil (map (finding 1) (bad_shape c v))) ∙ ap (all false) (sym node) ∙ ap (λ edge. all edge (is_node_name v.name)) (sym edge) ∙ sym (are_all_kinds c v)
+    let all = λ (edge node : Bool). six_rules edge node (bad_shape c v) (end_count c v) (dangling_end c v) (stacked c v) (self_meet c v) (node_pointer c v) in
+    sym (append-nil (map (finding BAD_SHAPE) (bad_shape c v))) ∙ ap (all false) (sym node) ∙ ap (λ edge. all edge (is_node_name v.name)) (sym edge) ∙ sym (are_six_rules c v)

@@ -1,4 +1,4 @@
-pub mod AscendingLists
+pub mod FewerPass
 pub mod FoundRecords
 pub mod BlockRows
 pub mod Nodes

@@ -20,12 +20,12 @@ use Rattle.cell_spec.specs.declared.key.Subject.TheVariants.{Rec as Record}
 use Rattle.rule_spec.specs.EdgeEnds.{dangling_end}
 use Rattle.rule_spec.specs.Reads.{end_keys, feature_keys, keys_read, read_set}
 use Rattle.rule_spec.specs.Records.{feature_of, is_edge_name, node_named, vector_of}
-use Rattle.read_sets.proofs.KeyOrder.{exact_keys}
+use Rattle.cell_spec.proofs.Orders.{exact_keys}
 use Rattle.std.specs.Option.{option_map_or}
 use Rattle.std.proofs.lemmas.List.{append-nil}
-use Rattle.check_record.proofs.AscendingLists.{any-ascending}
+use Rattle.cell_spec.proofs.Ascending.{any-ascending}
 use Rattle.rule_spec.specs.Rule.{places_from, places_where}
-use Rattle.chain_topo.proofs.Orders.{one_when_same}
+use Rattle.cell_spec.proofs.Orders.{one_when_same}
 use Rattle.check_record.specs.Nodes.{names_node, names_node_of}
 use Rattle.check_record.proofs.FoundRecords.{found_name}
 

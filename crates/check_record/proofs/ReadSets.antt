@@ -25,12 +25,12 @@ use Rattle.cell_spec.specs.Names.{is_of_kind, key_order, kind_rank}
 use Rattle.rule_spec.specs.Findings.{findings_of_record, findings_of_subject}
 use Rattle.rule_spec.specs.Reads.{end_keys, end_keys_at, feature_keys, keys_read, read_set}
 use Rattle.rule_spec.specs.Records.{feature_of, is_edge_name, vector_of}
-use Rattle.chain_topo.proofs.Ascending.{holds-ascending, same_when_sorted, sorted-ascending}
-use Rattle.read_sets.proofs.KeyOrder.{exact_keys, total_keys}
+use Rattle.cell_spec.proofs.Ascending.{holds-ascending, same_when_sorted, sorted-ascending}
+use Rattle.cell_spec.proofs.Orders.{exact_keys, total_keys}
 use Rattle.check_record.specs.EndKeys.{ends_of_key}
 use Rattle.check_record.specs.Nodes.{is_node_key}
-use Rattle.check_record.specs.RecordKinds.{record_kinds}
-use Rattle.check_record.proofs.AscendingLists.{any-ascending, fewer_pass, longer_ascending}
+use Rattle.cell_spec.proofs.Ascending.{any-ascending, longer_ascending}
+use Rattle.check_record.proofs.FewerPass.{fewer_pass}
 use Rattle.check_record.proofs.FoundRecords.{found_name}
 
 -- a read set has the record's own key
@@ -142,10 +142,10 @@ absent_set c n h =
     λ i. ascending key_order (Name n ∷ (option_map_or end_keys (option_and_then (vector_of is_edge_name) (h i)) [] ++ option_map_or (feature_keys c) (option_and_then feature_of (h i)) []))
 
 -- the findings about a name by what the cell has under it
-pub findings_found : (c : Cell) (n : RecName) (r : Record) → lookup_record c n ≡ Some r → findings_of_subject record_kinds c (Rec n) ≡ findings_of_record record_kinds c r
+pub findings_found : (c : Cell) (n : RecName) (r : Record) → lookup_record c n ≡ Some r → findings_of_subject c (Rec n) ≡ findings_of_record c r
 unfolding findings_of_subject
-findings_found c n r h = λ i. cond (is_some (h i)) (option_map_or (findings_of_record record_kinds c) (h i) []) []
+findings_found c n r h = λ i. cond (is_some (h i)) (option_map_or (findings_of_record c) (h i) []) []
 
-pub findings_absent : (c : Cell) (n : RecName) → lookup_record c n ≡ None → findings_of_subject record_kinds c (Rec n) ≡ []
+pub findings_absent : (c : Cell) (n : RecName) → lookup_record c n ≡ None → findings_of_subject c (Rec n) ≡ []
 unfolding findings_of_subject
-findings_absent c n h = λ i. cond (is_some (h i)) (option_map_or (findings_of_record record_kinds c) (h i) []) []
+findings_absent c n h = λ i. cond (is_some (h i)) (option_map_or (findings_of_record c) (h i) []) []

@@ -1,5 +1,4 @@
 pub mod EndKeys
 pub mod Blocks
 pub mod Nodes
-pub mod RecordKinds
 pub mod RecordRow

@@ -6,6 +6,7 @@ ghost use Rattle.std.specs.List.{list_any};
 ghost use Rattle.std.specs.Ordering.{nat_cmp};
 ghost use Rattle.s57_types.specs.declared.cell.Cell.{Cell as SpecCell};
 ghost use Rattle.s57_types.specs.declared.record.End.{End as SpecEnd};
+ghost use Rattle.rule_spec.specs.declared.kind.TheConstants.{DANGLING_END, END_COUNT};
 ghost use Rattle.rule_spec.specs.EdgeEnds.{end_count, topi_count as spec_topi_count};
 ghost use Rattle.rule_spec.specs.Findings.{finding};
 ghost use Rattle.rule_spec.specs.Records.{node_named};
@@ -15,16 +16,11 @@ ghost use Rattle.check_record.specs.Nodes.{is_node_key, names_node, names_node_o
 use cell_spec::{Finding, Key};
 use chain_topo::{Look, Steps};
 use plain_lookups::number;
+use rule_spec::{DANGLING_END, END_COUNT};
 use s57_types::{Kind, Rec, RecName, Vector};
 use std::alloc::{AllocError, Global};
 use std::collections::BTreeSet;
 use std::sync::ledger::Ledger;
-
-/// The number of the kind of an edge without exactly one beginning node and one end node.
-const END_COUNT: u8 = 2;
-
-/// The number of the kind of an end that names no connected node.
-const DANGLING_END: u8 = 3;
 
 fn topi_count(topi: u8, edge: &Vector) -> usize
     ensures { result ≡ spec_topi_count topi edge.now }
@@ -38,7 +34,7 @@ fn topi_count(topi: u8, edge: &Vector) -> usize
 
 /// EndCount: appends its finding about an edge.
 pub(crate) fn push_end_count(findings: &mut Vec<Finding>, edge: &Vector) -> Result<(), AllocError>
-    ensures { (c : SpecCell) → OnOk result (findings.new.items ≡ findings.old.items ++ map (finding 2) (end_count c edge.now)) }
+    ensures { (c : SpecCell) → OnOk result (findings.new.items ≡ findings.old.items ++ map (finding END_COUNT) (end_count c edge.now)) }
 {
     let begins = number(topi_count(1, edge))?;
     let ends = number(topi_count(2, edge))?;
@@ -115,7 +111,7 @@ pub(crate) fn push_dangling_ends(
     nodes: &BTreeSet<u32>,
     edge: &Vector,
 ) -> Result<(), AllocError>
-    ensures { OnOk result (findings.new.items ≡ findings.old.items ++ map (finding 3) (places_where (λ (end : SpecEnd). not (names_node nodes.now end.to)) edge.now.ends)) }
+    ensures { OnOk result (findings.new.items ≡ findings.old.items ++ map (finding DANGLING_END) (places_where (λ (end : SpecEnd). not (names_node nodes.now end.to)) edge.now.ends)) }
 {
     for (k, end) in edge.ends.as_slice().iter().enumerate() {
         if !is_among(nodes, end.to) {

@@ -3,6 +3,7 @@
 ghost use Rattle.std.specs.Prelude.{◌≡◌, ◌++◌, [], IfOk, OnOk, map};
 ghost use Rattle.std.specs.List.{position_from};
 ghost use Rattle.std.specs.Option.{option_copied, option_map_or};
+ghost use Rattle.rule_spec.specs.declared.kind.TheConstants.{SELF_MEET, STACKED};
 ghost use Rattle.rule_spec.specs.declared.line.EdgeLine.{EdgeLine as SpecLine};
 ghost use Rattle.rule_spec.specs.EdgePoints.{Segment as SpecSegment, same_point as spec_same_point};
 ghost use Rattle.rule_spec.specs.Findings.{finding};
@@ -13,11 +14,8 @@ use crate::self_meet::push_self_meet;
 use cell_spec::Finding;
 use geometry_spec::Point;
 use plain_lookups::{Segment, number, same_point, segments_of};
-use rule_spec::EdgeLine;
+use rule_spec::{EdgeLine, STACKED};
 use std::alloc::{AllocError, Global};
-
-/// The number of the kind of an edge with two equal points in a row.
-const STACKED: u8 = 4;
 
 fn first_stacked(segments: &[Segment]) -> Option<usize>
     ensures { result ≡ position_from (λ (s : SpecSegment). spec_same_point s.0 s.1) 1 segments.now }
@@ -44,7 +42,7 @@ fn push_stacked(
     findings: &mut Vec<Finding>,
     points: &[Point],
 ) -> Result<(), AllocError>
-    ensures { OnOk result (findings.new.items ≡ findings.old.items ++ map (finding 4) (found_at (spec_stacked_segment points.now))) }
+    ensures { OnOk result (findings.new.items ≡ findings.old.items ++ map (finding STACKED) (found_at (spec_stacked_segment points.now))) }
 {
     if let Some(k) = stacked_segment(alloc, points)? {
         let segment = number(k)?;
@@ -62,7 +60,7 @@ pub(crate) fn push_line_findings(
     findings: &mut Vec<Finding>,
     line: Option<&EdgeLine>,
 ) -> Result<(), AllocError>
-    ensures { OnOk result (findings.new.items ≡ findings.old.items ++ (map (finding 4) (option_map_or (λ (line : SpecLine). found_at (spec_stacked_segment line.points)) (option_copied line.entry) []) ++ map (finding 5) (option_map_or (λ (line : SpecLine). self_meet_of line.points) (option_copied line.entry) []))) }
+    ensures { OnOk result (findings.new.items ≡ findings.old.items ++ (map (finding STACKED) (option_map_or (λ (line : SpecLine). found_at (spec_stacked_segment line.points)) (option_copied line.entry) []) ++ map (finding SELF_MEET) (option_map_or (λ (line : SpecLine). self_meet_of line.points) (option_copied line.entry) []))) }
 {
     let Some(line) = line else {
         return Ok(());

@@ -1,6 +1,7 @@
 //! Segments of an edge that meet one another.
 
 ghost use Rattle.std.specs.Prelude.{◌≡◌, ◌++◌, All, OnOk, find, map};
+ghost use Rattle.rule_spec.specs.declared.kind.TheConstants.{SELF_MEET};
 ghost use Rattle.rule_spec.specs.Findings.{finding};
 ghost use Rattle.rule_spec.specs.Vectors.{is_bad_meeting as spec_bad_meeting, is_closed_line as spec_closed, meets_wrongly as spec_meets_wrongly, first_wrong_meeting as spec_first_wrong, found_pair as spec_found_pair, self_meet_of};
 ghost use Rattle.check_record.specs.Blocks.{IsBoxed, segments_in};
@@ -12,10 +13,8 @@ use geo_exact::meeting;
 use geometry_spec::{MeetCase, Point};
 use line_boxes::{are_disjoint, box_of_segment};
 use plain_lookups::{Numbered, number, numbered, same_point, segments_of};
+use rule_spec::SELF_MEET;
 use std::alloc::{AllocError, Global};
-
-/// The number of the kind of an edge that meets itself.
-const SELF_MEET: u8 = 5;
 
 fn is_bad_meeting(neighbours: bool, closing: bool, case: MeetCase) -> bool
     ensures { result ≡ spec_bad_meeting neighbours closing case }
@@ -118,7 +117,7 @@ fn push_pair(
     findings: &mut Vec<Finding>,
     pair: Option<(Numbered, Numbered)>,
 ) -> Result<(), AllocError>
-    ensures { OnOk result (findings.new.items ≡ findings.old.items ++ map (finding 5) (spec_found_pair pair)) }
+    ensures { OnOk result (findings.new.items ≡ findings.old.items ++ map (finding SELF_MEET) (spec_found_pair pair)) }
 {
     if let Some((a, b)) = pair {
         let first = number(a.0)?;
@@ -137,7 +136,7 @@ pub(crate) fn push_self_meet(
     findings: &mut Vec<Finding>,
     points: &[Point],
 ) -> Result<(), AllocError>
-    ensures { OnOk result (findings.new.items ≡ findings.old.items ++ map (finding 5) (self_meet_of points.now)) }
+    ensures { OnOk result (findings.new.items ≡ findings.old.items ++ map (finding SELF_MEET) (self_meet_of points.now)) }
 {
     if stacked_segment(alloc, points)?.is_some() {
         return Ok(());

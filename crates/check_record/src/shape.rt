@@ -2,18 +2,14 @@
 
 ghost use Rattle.std.specs.Prelude.{◌≡◌, ◌++◌, OnOk, map};
 ghost use Rattle.s57_types.specs.declared.cell.Cell.{Cell as SpecCell};
+ghost use Rattle.rule_spec.specs.declared.kind.TheConstants.{BAD_SHAPE, NODE_POINTER};
 ghost use Rattle.rule_spec.specs.Findings.{finding};
 ghost use Rattle.rule_spec.specs.Vectors.{bad_shape, has_its_shape as spec_shape, node_pointer};
 
 use cell_spec::Finding;
+use rule_spec::{BAD_SHAPE, NODE_POINTER};
 use s57_types::{Kind, Vector};
 use std::alloc::AllocError;
-
-/// The number of the kind of a record of another geometry than its kind asks for.
-const BAD_SHAPE: u8 = 1;
-
-/// The number of the kind of a node with vector record pointers.
-const NODE_POINTER: u8 = 6;
 
 fn has_its_shape(vector: &Vector) -> bool
     ensures { result ≡ spec_shape vector.now }
@@ -29,7 +25,7 @@ fn has_its_shape(vector: &Vector) -> bool
 
 /// BadShape: appends its finding about a vector record.
 pub(crate) fn push_bad_shape(findings: &mut Vec<Finding>, vector: &Vector) -> Result<(), AllocError>
-    ensures { (c : SpecCell) → OnOk result (findings.new.items ≡ findings.old.items ++ map (finding 1) (bad_shape c vector.now)) }
+    ensures { (c : SpecCell) → OnOk result (findings.new.items ≡ findings.old.items ++ map (finding BAD_SHAPE) (bad_shape c vector.now)) }
 {
     if !has_its_shape(vector) {
         findings.push(Finding {
@@ -45,7 +41,7 @@ pub(crate) fn push_node_pointer(
     findings: &mut Vec<Finding>,
     node: &Vector,
 ) -> Result<(), AllocError>
-    ensures { (c : SpecCell) → OnOk result (findings.new.items ≡ findings.old.items ++ map (finding 6) (node_pointer c node.now)) }
+    ensures { (c : SpecCell) → OnOk result (findings.new.items ≡ findings.old.items ++ map (finding NODE_POINTER) (node_pointer c node.now)) }
 {
     if !node.ends.is_empty() {
         findings.push(Finding {

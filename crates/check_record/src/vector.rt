@@ -9,7 +9,6 @@ ghost use Rattle.rule_spec.specs.Findings.{findings_of_record};
 ghost use Rattle.rule_spec.specs.Reads.{read_set};
 ghost use Rattle.rule_spec.specs.Records.{is_edge_name, is_node_name};
 ghost use Rattle.check_record.specs.Nodes.{is_node_key};
-ghost use Rattle.check_record.specs.RecordKinds.{record_kinds};
 
 use crate::ends::{nodes_among, push_dangling_ends, push_end_count};
 use crate::line::push_line_findings;
@@ -32,7 +31,7 @@ fn edge_findings<B: Look, L: Ledger>(
     requires found { lookup_record (B.cell look.now) name ≡ Some (V edge.now) }
     requires kind { is_edge_name edge.now.name ≡ true }
     requires reads { reads.now ≡ read_set (B.cell look.now) (SubjectRec name) }
-    ensures findings { IfOk result (λ findings. findings.items ≡ findings_of_record record_kinds (B.cell look.now) (V edge.now)) }
+    ensures findings { IfOk result (λ findings. findings.items ≡ findings_of_record (B.cell look.now) (V edge.now)) }
     ensures steps { steps.new ≤ steps.old + count_by is_node_key reads.now + 3 }
 {
     let nodes = nodes_among(alloc, look, reads, steps)?;
@@ -48,7 +47,7 @@ fn edge_findings<B: Look, L: Ledger>(
 /// The findings about a node.
 fn node_findings(alloc: Global, node: &Vector) -> Result<Vec<Finding>, AllocError>
     requires kind { is_node_name node.now.name ≡ true }
-    ensures { (c : SpecCell) → IfOk result (λ findings. findings.items ≡ findings_of_record record_kinds c (V node.now)) }
+    ensures { (c : SpecCell) → IfOk result (λ findings. findings.items ≡ findings_of_record c (V node.now)) }
 {
     let mut findings = Vec::new(alloc);
     push_bad_shape(&mut findings, node)?;
@@ -60,7 +59,7 @@ fn node_findings(alloc: Global, node: &Vector) -> Result<Vec<Finding>, AllocErro
 fn shape_findings(alloc: Global, vector: &Vector) -> Result<Vec<Finding>, AllocError>
     requires node { is_node_name vector.now.name ≡ false }
     requires edge { is_edge_name vector.now.name ≡ false }
-    ensures { (c : SpecCell) → IfOk result (λ findings. findings.items ≡ findings_of_record record_kinds c (V vector.now)) }
+    ensures { (c : SpecCell) → IfOk result (λ findings. findings.items ≡ findings_of_record c (V vector.now)) }
 {
     let mut findings = Vec::new(alloc);
     push_bad_shape(&mut findings, vector)?;
@@ -78,7 +77,7 @@ pub(crate) fn vector_findings<B: Look, L: Ledger>(
 ) -> Result<Vec<Finding>, AllocError>
     requires found { lookup_record (B.cell look.now) name ≡ Some (V vector.now) }
     requires reads { reads.now ≡ read_set (B.cell look.now) (SubjectRec name) }
-    ensures findings { IfOk result (λ findings. findings.items ≡ findings_of_record record_kinds (B.cell look.now) (V vector.now)) }
+    ensures findings { IfOk result (λ findings. findings.items ≡ findings_of_record (B.cell look.now) (V vector.now)) }
     ensures steps { steps.new + 1 ≤ steps.old + 4 * length reads.now }
 {
     match vector.name.kind {

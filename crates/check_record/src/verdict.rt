@@ -7,7 +7,6 @@ ghost use Rattle.cell_spec.specs.declared.key.Subject.TheVariants.{Rec as Subjec
 ghost use Rattle.cell_spec.specs.Lookup.{lookup_record};
 ghost use Rattle.rule_spec.specs.Findings.{findings_of_subject};
 ghost use Rattle.rule_spec.specs.Reads.{read_set};
-ghost use Rattle.check_record.specs.RecordKinds.{record_kinds};
 ghost use Rattle.check_record.specs.RecordRow.{IsRecordRow};
 
 use crate::reads::{feature_reads, vector_reads};
@@ -87,7 +86,7 @@ pub fn verdict_rec<B: Look, L: Ledger>(
     steps: &mut Steps<L>,
 ) -> Result<Row, AllocError>
     ensures subject { IfOk result (λ row. row.subject ≡ SubjectRec name) }
-    ensures findings { IfOk result (λ row. row.findings ≡ findings_of_subject record_kinds (B.cell look.now) (SubjectRec name)) }
+    ensures findings { IfOk result (λ row. row.findings ≡ findings_of_subject (B.cell look.now) (SubjectRec name)) }
     ensures reads { IfOk result (λ row. row.reads ≡ read_set (B.cell look.now) (SubjectRec name)) }
     ensures steps { steps.new ≤ steps.old + 4 * length (read_set (B.cell look.now) (SubjectRec name)) }
 {

@@ -6,7 +6,7 @@ use Rattle.s57_types.specs.declared.name.RecName.{RecName}
 use Rattle.s57_types.specs.declared.record.Rec.{Rec}
 use Rattle.cell_spec.specs.Lookup.{name_of}
 use Rattle.cell_spec.specs.Names.{kind_rank, same_name}
-use Rattle.edit_laws.proofs.OneName.{same_from_either}
+use Rattle.cell_spec.proofs.Orders.{same_from_either}
 
 -- a name is none of some names
 abbrev pub IsApart : List RecName → RecName → Type 0

@@ -21,10 +21,17 @@ use Rattle.cell_spec.specs.declared.edit.Edit.TheVariants.{Add, Set, Del}
 use Rattle.edit_sets.specs.FormFault.{unfitness_of_edit, IsFormed}
 use Rattle.edit_sets.proofs.Formed.{formed}
 use Rattle.edit_laws.specs.KeptWritable.{EditsKeepWritable}
-use Rattle.edit_laws.proofs.OneName.{and_left, and_right}
 use Rattle.edit_laws.proofs.DistinctNames.{IsApart, each_append, each_front, each_back, each_weaker, distinct_front, distinct_back, kinds_apart, apart_from_both}
 use Rattle.edit_laws.proofs.EditedRecords.{Leaves}
 use Rattle.edit_laws.proofs.EditedLists.{IsOfKind, list_is_of_kind, list_has, list_is_distinct, distinct_lists}
+
+and_left : (a b : Bool) → (a && b) ≡ true → a ≡ true
+and_left true b h = refl
+and_left false b h = absurd cc
+
+and_right : (a b : Bool) → (a && b) ≡ true → b ≡ true
+and_right true b h = h
+and_right false b h = absurd cc
 
 -- additions have new names
 not_first : (named : Bool) (r : Rec) (later : Option Rec) → cond named (Some r) later ≡ None → (named ≡ false) × (later ≡ None)

@@ -12,7 +12,7 @@ use Rattle.cell_spec.specs.Lookup.{name_of}
 use Rattle.cell_spec.specs.Names.{same_name, is_of_kind}
 use Rattle.cell_spec.specs.Writable.{HaveDistinctNames}
 use Rattle.cell_spec.specs.declared.edit.Edit.{Edit}
-use Rattle.edit_laws.proofs.OneName.{one_kind}
+use Rattle.cell_spec.proofs.Orders.{one_kind}
 use Rattle.edit_laws.proofs.DistinctNames.{IsApart, each_append, each_weaker, distinct_append}
 use Rattle.edit_laws.proofs.EditedRecords.{Leaves, name_kept, property_kept, each_kept, each_added, names_kept, names_filtered, distinct_kept, distinct_added, distinct_filtered}
 

@@ -9,7 +9,7 @@ use Rattle.cell_spec.specs.Lookup.{name_of}
 use Rattle.cell_spec.specs.Names.{same_name}
 use Rattle.cell_spec.specs.declared.edit.Edit.{Edit}
 use Rattle.cell_spec.specs.declared.edit.Edit.TheVariants.{Add, Set, Del}
-use Rattle.edit_laws.proofs.OneName.{one_name}
+use Rattle.cell_spec.proofs.Orders.{one_when_same}
 
 -- what an edit leaves has a property
 abbrev pub Leaves : (Rec → Type 0) → Edit → Type 0
@@ -18,7 +18,7 @@ Leaves P edit = IfSome (left_by edit) P
 name_kept_by : (r : Rec) (edit : Edit) (named : Bool) → same_name (name_of_edit edit) (name_of r) ≡ named → (later : Option Edit) → IfSome (changed_by r later) (λ s. name_of s ≡ name_of r)
     → IfSome (changed_by r (cond named (Some edit) later)) (λ s. name_of s ≡ name_of r)
 name_kept_by r (Add s) true is later rest = refl
-name_kept_by r (Set s) true is later rest = one_name (name_of s) (name_of r) is
+name_kept_by r (Set s) true is later rest = one_when_same (name_of s) (name_of r) is
 name_kept_by r (Del n) true is later rest = tt
 name_kept_by r edit false is later rest = rest
 

@@ -1,4 +1,3 @@
-pub mod OneName
 pub mod DistinctNames
 pub mod EditedRecords
 pub mod EditedLists

@@ -50,8 +50,8 @@ taken_by_edits c (edit ∷ edits) last =
 within_or_above : (a b : ℕ) → not (nat_lt a b) ≡ nat_le b a
 within_or_above a b = grind (arith, nat_tests)
 
-taken_by_size : (asked : List ℕ) (d : Cell) → is_taken (size_refusal asked d) ≡ nat_le (length (all_records d)) record_limit
-taken_by_size asked d = by (nat_lt record_limit (length (all_records d))) (nat_lt finding_limit (finding_total asked d)) ∙ within_or_above record_limit (length (all_records d))
+taken_by_size : (d : Cell) → is_taken (size_refusal d) ≡ nat_le (length (all_records d)) record_limit
+taken_by_size d = by (nat_lt record_limit (length (all_records d))) (nat_lt finding_limit (finding_total d)) ∙ within_or_above record_limit (length (all_records d))
   where
     by : (full many : Bool) → is_taken (if full then Some (CellFull (length (all_records d))) else (if many then Some FindingsFull else None)) ≡ not full
     by true many = refl
@@ -59,5 +59,5 @@ taken_by_size asked d = by (nat_lt record_limit (length (all_records d))) (nat_l
     by false false = refl
 
 pub refusals_are_exact : RefusalsAreExact
-refusals_are_exact asked c edits =
-    taken_by_edits c edits (size_refusal asked (apply_edits edits c)) ∙ ap (λ b. list_all (has_its_record c) edits && b) (taken_by_size asked (apply_edits edits c))
+refusals_are_exact c edits =
+    taken_by_edits c edits (size_refusal (apply_edits edits c)) ∙ ap (λ b. list_all (has_its_record c) edits && b) (taken_by_size (apply_edits edits c))

@@ -61,8 +61,8 @@ clashes_are_other edits (c ∷ commits) =
     (clashes_are_other edits commits)
 
 -- a commit of edits without a fault of form
-taken_when_none : (asked : List ℕ) (c : Cell) (edits : List Edit) → state_refusal asked c edits ≡ None → is_applicable edits c ≡ true
-taken_when_none asked c edits none = sym (refusals_are_exact asked c edits) ∙ ap is_taken none
+taken_when_none : (c : Cell) (edits : List Edit) → state_refusal c edits ≡ None → is_applicable edits c ≡ true
+taken_when_none c edits none = sym (refusals_are_exact c edits) ∙ ap is_taken none
 
 -- what a shared command offers has a property
 abbrev pub Offers : (List Edit → Type 0) → Request → Type 0
@@ -75,29 +75,29 @@ module _ (P : Cell → Type 0) (Good : List Edit → Type 0)
   kept_by_other : (desk : ℕ) (event : Event) (reply : Reply) (h : History) → P h.cell → IsOther reply → P (left_after desk event reply h).cell
   kept_by_other desk event reply h here other = subst P (sym (other_keeps desk event reply h other)) here
 
-  commit_keeps : (asked : List ℕ) (h : History) (desk base : ℕ) (edits : List Edit) → P h.cell → Good edits → form_fault h.cell.head.nall edits ≡ None
-      → P (left_after desk (commit base edits) (commit_answer asked h base edits) h).cell
-  commit_keeps asked h desk base edits here good no_fault =
-      by (newer_answer h.commits base edits) (clashes_are_other edits (drop base (enumerate_from 1 h.commits))) (state_refusal asked h.cell edits) refl
+  commit_keeps : (h : History) (desk base : ℕ) (edits : List Edit) → P h.cell → Good edits → form_fault h.cell.head.nall edits ≡ None
+      → P (left_after desk (commit base edits) (commit_answer h base edits) h).cell
+  commit_keeps h desk base edits here good no_fault =
+      by (newer_answer h.commits base edits) (clashes_are_other edits (drop base (enumerate_from 1 h.commits))) (state_refusal h.cell edits) refl
     where
-      by : (newer : Option Reply) → IfSome newer IsOther → (refusal : Option StateRefusal) → state_refusal asked h.cell edits ≡ refusal
-          → P (left_after desk (commit base edits) (option_map_or (λ reply. reply) newer (option_map_or Refused refusal (Accepted (length h.commits + 1) (finding_total asked (apply_edits edits h.cell))))) h).cell
+      by : (newer : Option Reply) → IfSome newer IsOther → (refusal : Option StateRefusal) → state_refusal h.cell edits ≡ refusal
+          → P (left_after desk (commit base edits) (option_map_or (λ reply. reply) newer (option_map_or Refused refusal (Accepted (length h.commits + 1) (finding_total (apply_edits edits h.cell))))) h).cell
       by (Some reply) other refusal is = kept_by_other desk (commit base edits) reply h here other
       by None other (Some refusal) is = here
-      by None other None is = keeps h.cell edits here good no_fault (taken_when_none asked h.cell edits is)
+      by None other None is = keeps h.cell edits here good no_fault (taken_when_none h.cell edits is)
 
-  offer_keeps : (asked : List ℕ) (h : History) (desk base : ℕ) (draft : List Edit) → P h.cell → Good draft → (fault : Option FormFault) → form_fault h.cell.head.nall draft ≡ fault
-      → P (left_after desk (option_map_or faulty fault (commit base draft)) (answer asked h (option_map_or faulty fault (commit base draft))) h).cell
-  offer_keeps asked h desk base draft here good (Some fault) is = here
-  offer_keeps asked h desk base draft here good None is = commit_keeps asked h desk base draft here good is
+  offer_keeps : (h : History) (desk base : ℕ) (draft : List Edit) → P h.cell → Good draft → (fault : Option FormFault) → form_fault h.cell.head.nall draft ≡ fault
+      → P (left_after desk (option_map_or faulty fault (commit base draft)) (answer h (option_map_or faulty fault (commit base draft))) h).cell
+  offer_keeps h desk base draft here good (Some fault) is = here
+  offer_keeps h desk base draft here good None is = commit_keeps h desk base draft here good is
 
-  request_keeps : (asked : List ℕ) (h : History) (desk : ℕ) (request : Request) → P h.cell → Offers Good request → P (request_step asked h (desk, request)).1.cell
-  request_keeps asked h desk see here good = here
-  request_keeps asked h desk (offer draft) here good = offer_keeps asked h desk (h.bases desk) draft here good (form_fault h.cell.head.nall draft) refl
+  request_keeps : (h : History) (desk : ℕ) (request : Request) → P h.cell → Offers Good request → P (request_step h (desk, request)).1.cell
+  request_keeps h desk see here good = here
+  request_keeps h desk (offer draft) here good = offer_keeps h desk (h.bases desk) draft here good (form_fault h.cell.head.nall draft) refl
 
-  pub requests_keep : (asked : List ℕ) (h : History) (requests : List (ℕ × Request)) → P h.cell → AllByRecursion (λ (r : ℕ × Request). Offers Good r.1) requests → P (history_after asked h requests).cell
-  requests_keep asked h [] here good = here
-  requests_keep asked h (request ∷ requests) here good = requests_keep asked (request_step asked h request).1 requests (request_keeps asked h request.0 request.1 here good.0) good.1
+  pub requests_keep : (h : History) (requests : List (ℕ × Request)) → P h.cell → AllByRecursion (λ (r : ℕ × Request). Offers Good r.1) requests → P (history_after h requests).cell
+  requests_keep h [] here good = here
+  requests_keep h (request ∷ requests) here good = requests_keep (request_step h request).1 requests (request_keeps h request.0 request.1 here good.0) good.1
 
 -- any edits
 AnyEdits : List Edit → Type 0
@@ -114,5 +114,5 @@ any_offers (request ∷ requests) = (any_offer request.1, any_offers requests)
 
 pub runs_leave_writable : RunsLeaveWritable
 unfolding final_cell
-runs_leave_writable asked c scripts order w =
-    requests_keep IsWritable AnyEdits (λ d edits here good no_fault taken. edits_keep_writable d edits here no_fault taken) asked (opening c) (ordered_requests scripts order) w (any_offers (ordered_requests scripts order))
+runs_leave_writable c scripts order w =
+    requests_keep IsWritable AnyEdits (λ d edits here good no_fault taken. edits_keep_writable d edits here no_fault taken) (opening c) (ordered_requests scripts order) w (any_offers (ordered_requests scripts order))

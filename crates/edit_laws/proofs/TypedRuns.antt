@@ -36,8 +36,8 @@ edits_keep_it nall d edits here good no_fault taken = record {
 
 pub runs_are_read_back : RoundTrip → RunsAreReadBack
 unfolding final_cell
-runs_are_read_back back asked c scripts order w typed commands =
-    let last : IsTypedAt c.head.nall (final_cell asked c scripts order) =
-    requests_keep (IsTypedAt c.head.nall) (AllByRecursion (EditHasItsTypes c.head.nall)) (edits_keep_it c.head.nall) asked (opening c) (ordered_requests scripts order)
+runs_are_read_back back c scripts order w typed commands =
+    let last : IsTypedAt c.head.nall (final_cell c scripts order) =
+    requests_keep (IsTypedAt c.head.nall) (AllByRecursion (EditHasItsTypes c.head.nall)) (edits_keep_it c.head.nall) (opening c) (ordered_requests scripts order)
     (record { writable = w; typed = typed; level = refl }) (requests_are_typed c.head.nall scripts order commands) in
-    back (final_cell asked c scripts order) last.writable last.typed
+    back (final_cell c scripts order) last.writable last.typed

@@ -27,8 +27,8 @@ is_taken (Some FindingsFull) = true
 
 -- the refusals tell exactly whether the cell takes the edits
 abbrev pub RefusalsAreExact : Type 0
-RefusalsAreExact = (asked : List ℕ) (c : Cell) (edits : List Edit) → is_taken (state_refusal asked c edits) ≡ is_applicable edits c
+RefusalsAreExact = (c : Cell) (edits : List Edit) → is_taken (state_refusal c edits) ≡ is_applicable edits c
 
 -- whatever scripts ask of a writable cell, in whatever order, the cell that is left is writable
 abbrev pub RunsLeaveWritable : Type 0
-RunsLeaveWritable = (asked : List ℕ) (c : Cell) (scripts : List (List Command)) (order : List ℕ) → IsWritable c → IsWritable (final_cell asked c scripts order)
+RunsLeaveWritable = (c : Cell) (scripts : List (List Command)) (order : List ℕ) → IsWritable c → IsWritable (final_cell c scripts order)

@@ -29,5 +29,5 @@ EditsKeepTypes = (c : Cell) (edits : List Edit) → HasItsTypes c → AllByRecur
 
 -- the file that is written of the cell that a run leaves is read as that cell
 abbrev pub RunsAreReadBack : Type 0
-RunsAreReadBack = (asked : List ℕ) (c : Cell) (scripts : List (List Command)) (order : List ℕ) → IsWritable c → HasItsTypes c
-    → AllByRecursion (AllByRecursion (CommandHasItsTypes c.head.nall)) scripts → decoded_cell (encoded_cell (final_cell asked c scripts order)) ≡ Ok (final_cell asked c scripts order)
+RunsAreReadBack = (c : Cell) (scripts : List (List Command)) (order : List ℕ) → IsWritable c → HasItsTypes c
+    → AllByRecursion (AllByRecursion (CommandHasItsTypes c.head.nall)) scripts → decoded_cell (encoded_cell (final_cell c scripts order)) ≡ Ok (final_cell c scripts order)

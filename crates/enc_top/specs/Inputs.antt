@@ -6,7 +6,6 @@ use Rattle.export_laws.specs.DecodedTypes.{AreFileBytes}
 use Rattle.export_laws.specs.ExportedCells.{IsReadBack}
 use Rattle.file_spec.specs.DecodedCell.{decoded_cell}
 use Rattle.rule_spec.specs.Findings.{finding_total}
-use Rattle.rule_spec.specs.Kinds.{all_kinds}
 use Rattle.s57_types.specs.declared.cell.Cell.{Cell}
 use Rattle.s57_types.specs.declared.fault.CellFault.{CellFault}
 use Rattle.text_spec.specs.OrderLine.{order_of}
@@ -43,7 +42,7 @@ FileIs limit name files answer = content_of limit name (files name) ≡ answer
 
 -- a cell with not too many findings
 abbrev pub judged_cell : Cell → Result Cell Status
-judged_cell c = if nat_lt finding_limit (finding_total all_kinds c) then Err TooManyFindings else Ok c
+judged_cell c = if nat_lt finding_limit (finding_total c) then Err TooManyFindings else Ok c
 
 abbrev pub judged : Result Cell CellFault → Result Cell Status
 judged (Ok c) = judged_cell c
@@ -98,7 +97,7 @@ OrderIs quotas name files = AndThen (FileIs order_limit name files) (λ bytes an
 -- a run of scripts on a cell, in the order of a file; the order is read after all scripts. The file of the cell that is left is read
 -- as that cell
 abbrev pub OrderedRunIs : Cell → List ℕ → List ℕ → List (List Command) → Files → Result Task Status → Type 0
-OrderedRunIs c out order commands files = AndThen (OrderIs (quotas_of commands) order files) (λ sessions answer. (answer ≡ Ok (run_task c out commands sessions)) × IsReadBack all_kinds c commands sessions)
+OrderedRunIs c out order commands files = AndThen (OrderIs (quotas_of commands) order files) (λ sessions answer. (answer ≡ Ok (run_task c out commands sessions)) × IsReadBack c commands sessions)
 
 abbrev pub RunIs : Cell → List ℕ → List ℕ → List (List ℕ) → Files → Result Task Status → Type 0
 RunIs c out order scripts files = AndThen (ScriptsAre scripts files) (λ commands. OrderedRunIs c out order commands files)
@@ -112,7 +111,7 @@ OutputIs no_form files = λ answer. answer ≡ Err Usage
 
 -- a run of some scripts on a cell in some order, after which the file of the cell that is left is read as that cell
 abbrev pub IsRunOf : Cell → List ℕ → Task → Type 0
-IsRunOf c out task = (commands : List (List Command)) × (sessions : List ℕ) × (task ≡ run_task c out commands sessions) × IsReadBack all_kinds c commands sessions
+IsRunOf c out task = (commands : List (List Command)) × (sessions : List ℕ) × (task ≡ run_task c out commands sessions) × IsReadBack c commands sessions
 
 -- what a step's answer tells, with what it gave seen through a function: where the files are told, the relation of the step
 -- holds of it; a fault of reading comes only with a risen count; want of memory is free

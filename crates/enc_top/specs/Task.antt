@@ -3,7 +3,6 @@ use Rattle.std.specs.Prelude.{ℕ, List, Option, None, Some, string_bytes}
 use Rattle.std.specs.Option.{option_map}
 use Rattle.file_spec.specs.EncodedCell.{encoded_cell}
 use Rattle.history_spec.specs.ReportText.{final_cell, report}
-use Rattle.rule_spec.specs.Kinds.{all_kinds}
 use Rattle.s57_types.specs.declared.cell.Cell.{Cell}
 use Rattle.text_spec.specs.CellText.{cell_text}
 use Rattle.text_spec.specs.declared.command.Command.{Command}
@@ -17,11 +16,11 @@ pub record Task : Type 0 where
 
 -- the text of a cell is put
 abbrev pub check_task : Cell → Task
-check_task c = record { text = cell_text all_kinds c; file = None }
+check_task c = record { text = cell_text c; file = None }
 
 -- the report of scripts on a cell in an order is put, and the cell that is left is written under a name
 abbrev pub run_task : Cell → List ℕ → List (List Command) → List ℕ → Task
-run_task c out commands sessions = record { text = report all_kinds c commands sessions; file = Some (out, encoded_cell (final_cell all_kinds c commands sessions)) }
+run_task c out commands sessions = record { text = report c commands sessions; file = Some (out, encoded_cell (final_cell c commands sessions)) }
 
 abbrev pub file_of : Export → List ℕ × List ℕ
 file_of export = (string_bytes export.name, export.bytes.items)

@@ -5,7 +5,6 @@ ghost use Rattle.cell_findings.specs.AllFindings.{IsAllOf};
 ghost use Rattle.cell_spec.specs.Writable.{IsWritable};
 ghost use Rattle.export_laws.specs.ExportedCells.{IsReadBack, IsScriptOfText};
 ghost use Rattle.history_spec.specs.Steps.{finding_limit};
-ghost use Rattle.rule_spec.specs.Kinds.{all_kinds};
 ghost use Rattle.plain_replay.specs.Requests.{IsRunnable};
 ghost use Rattle.enc_top.specs.Inputs.{IsAmong, IsCellOfFile, IsInputStatus, IsRunOf, OrderedRunIs, RunIs, Tells};
 ghost use Rattle.enc_top.specs.Outcome.{IsAskedBy, IsCause, IsExact, outside};
@@ -209,7 +208,7 @@ fn run_of(
     requires of_texts { All IsScriptOfText scripts.now }
     requires sessions { All (λ session. (1 ≤ session) × (session ≤ length scripts.now)) order.now }
     ensures run { IfOk result (λ work. task_of work ≡ run_task checked.cell out.now scripts.now order.now) }
-    ensures read_back { IsReadBack all_kinds checked.cell scripts.now order.now }
+    ensures read_back { IsReadBack checked.cell scripts.now order.now }
     ensures status { IfErr result (λ status. status ≡ Status.NoMemory) }
 {
     exports_are_read_back();

@@ -16,6 +16,6 @@ scripts_typed : (nall : ℕ) (Of : List Command → Type 0) → ((commands : Lis
 scripts_typed nall Of typed scripts all = each_weaker Of (AllByRecursion (CommandHasItsTypes nall)) typed scripts (recursion_from_All Of scripts all)
 
 pub exports_are_read_back : DecodedIsWritable → DecodedHasItsTypes → ScriptHasItsTypes → RunsAreReadBack → ExportsAreReadBack
-exports_are_read_back writable typed of_script back asked b c scripts order bytes is all =
-    back asked c scripts order (writable b c is) (typed b c bytes is)
+exports_are_read_back writable typed of_script back b c scripts order bytes is all =
+    back c scripts order (writable b c is) (typed b c bytes is)
     (scripts_typed c.head.nall IsScriptOfText (λ commands some. of_script c.head.nall some.0 commands some.1) scripts all)

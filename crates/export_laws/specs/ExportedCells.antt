@@ -13,10 +13,10 @@ abbrev pub IsScriptOfText : List Command → Type 0
 IsScriptOfText commands = (text : List ℕ) × IsScript text commands
 
 -- the file of the cell that a run leaves is read as that cell
-abbrev pub IsReadBack : List ℕ → Cell → List (List Command) → List ℕ → Type 0
-IsReadBack asked c scripts order = decoded_cell (encoded_cell (final_cell asked c scripts order)) ≡ Ok (final_cell asked c scripts order)
+abbrev pub IsReadBack : Cell → List (List Command) → List ℕ → Type 0
+IsReadBack c scripts order = decoded_cell (encoded_cell (final_cell c scripts order)) ≡ Ok (final_cell c scripts order)
 
--- this is so of each run of scripts on a cell that was read from a file, whatever was asked and in whatever order
+-- this is so of each run of scripts on a cell that was read from a file, in whatever order
 abbrev pub ExportsAreReadBack : Type 0
-ExportsAreReadBack = (asked b : List ℕ) (c : Cell) (scripts : List (List Command)) (order : List ℕ) → AreFileBytes b → decoded_cell b ≡ Ok c
-    → All IsScriptOfText scripts → IsReadBack asked c scripts order
+ExportsAreReadBack = (b : List ℕ) (c : Cell) (scripts : List (List Command)) (order : List ℕ) → AreFileBytes b → decoded_cell b ≡ Ok c
+    → All IsScriptOfText scripts → IsReadBack c scripts order

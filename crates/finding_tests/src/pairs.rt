@@ -3,10 +3,11 @@ ghost use Rattle.cell_spec.specs.Writable.{IsWritable};
 
 use crate::sheet::{Line, cell_of};
 use cell_spec::{Finding, Key, Row, Subject};
-use chain_topo::{ListLook, Steps};
+use chain_topo::{ListLook};
 use check_pairs::verdict_pair;
 use geometry_spec::Point;
 use plain_lookups::is_chain_part;
+use look_counter::start_counter;
 use s57_types::{Cell, Kind, RecName};
 use std::alloc::{AllocError, Global};
 use std::marker::Brand;
@@ -69,7 +70,7 @@ fn judged<L: Ledger>(
         panic!(rt; "the pair isn't one of the cell");
     }
     let look = ListLook::make(alloc, cell)?;
-    let mut steps = Steps::<L>::start(blank);
+    let mut steps = start_counter::<L>(blank);
     verdict_pair(alloc, &look, a, b, &mut steps)
 }
 

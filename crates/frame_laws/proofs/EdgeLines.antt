@@ -14,7 +14,7 @@ use Rattle.rule_spec.specs.declared.line.EdgeLine.{EdgeLine}
 use Rattle.rule_spec.specs.EdgePoints.{node_at, node_position, line_between, line_of, edge_line_of}
 use Rattle.rule_spec.specs.Reads.{end_keys, end_keys_at}
 use Rattle.rule_spec.specs.Records.{is_edge_name, vector_of, feature_of, node_named, edge_named, feature_named, the_only}
-use Rattle.frame_laws.specs.FindingsFollowReads.{AnswerAlike}
+use Rattle.cell_spec.specs.AnswersAlike.{AnswerAlike}
 use Rattle.frame_laws.proofs.Lists.{each_mapped, each_filtered, of_the_only}
 
 -- the line from a node to a node by their positions

@@ -18,10 +18,10 @@ use Rattle.rule_spec.specs.Findings.{findings_of_record}
 use Rattle.rule_spec.specs.Reads.{end_keys_at, feature_keys}
 use Rattle.rule_spec.specs.Rule.{Found}
 use Rattle.rule_spec.specs.Rules.{feature_rules}
-use Rattle.frame_laws.specs.FindingsFollowReads.{AnswerAlike}
+use Rattle.cell_spec.specs.AnswersAlike.{AnswerAlike}
 use Rattle.frame_laws.proofs.Lists.{each_weaker, each_from_both, each_front, each_back, each_mapped, each_flat, each_numbered, same_filter_map, same_flat_map, same_list_all, same_places}
 use Rattle.frame_laws.proofs.EdgeLines.{Alike, same_end_keys, same_line}
-use Rattle.frame_laws.proofs.NumberedFindings.{same_findings}
+use Rattle.frame_laws.proofs.RuleFindings.{same_findings}
 
 -- whether a boundary is usable, by what its rules found and whether each pointer names an edge with points
 abbrev usable_when : Bool → Found → Found → Found → Bool → Bool
@@ -117,9 +117,9 @@ module _ (c d : Cell) (f : Feature) where
   unfolding has_usable_boundary
   same_by_boundary rule none all = boundary_by rule none (f.prim == 3) (alike_places all) (alike_edges all)
 
-  pub same_feature_findings : (asked : List ℕ) → AllByRecursion (AnswerAlike c d) (feature_keys c f) → findings_of_record asked c (F f) ≡ findings_of_record asked d (F f)
-  same_feature_findings asked all =
-      same_findings asked (λ (rule : Cell → Feature → Found). rule c f) (λ (rule : Cell → Feature → Found). rule d f) 12 feature_rules (
+  pub same_feature_findings : AllByRecursion (AnswerAlike c d) (feature_keys c f) → findings_of_record c (F f) ≡ findings_of_record d (F f)
+  same_feature_findings all =
+      same_findings (λ (rule : Cell → Feature → Found). rule c f) (λ (rule : Cell → Feature → Found). rule d f) feature_rules (
         refl,
         (
           same_dangling_ref (alike_places all),

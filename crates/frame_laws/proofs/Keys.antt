@@ -9,7 +9,7 @@ use Rattle.std.proofs.lemmas.Map.Lookups.{CmpEqualImpliesEq}
 use Rattle.cell_spec.specs.declared.key.Key.{Key}
 use Rattle.cell_spec.specs.Ascending.{put_in_order, ascending}
 use Rattle.cell_spec.specs.Names.{key_order}
-use Rattle.frame_laws.proofs.KeyOrder.{exact_keys}
+use Rattle.cell_spec.proofs.Orders.{exact_keys}
 
 module _ {X : Type 0} (order : X → X → Ordering) (exact : CmpEqualImpliesEq order) (P : X → Type 0) where
   of_put_by : (x y : X) (ys : List X) (found : Ordering) → order x y ≡ found → (AllByRecursion P (put_in_order order x ys) → P x × AllByRecursion P ys)

@@ -1,8 +1,7 @@
 pub mod Lists
-pub mod KeyOrder
 pub mod Keys
 pub mod EdgeLines
-pub mod NumberedFindings
+pub mod RuleFindings
 pub mod VectorRules
 pub mod FeatureRules
 pub mod Records

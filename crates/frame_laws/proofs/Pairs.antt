@@ -11,17 +11,18 @@ use Rattle.cell_spec.specs.Names.{key_order, same_name}
 use Rattle.rule_spec.specs.declared.line.EdgeLine.{EdgeLine}
 use Rattle.rule_spec.specs.Contacts.{shared_nodes, have_illegal_contact, first_illegal_contact, found_contact, contact_of_lines, are_same_place, same_place, names_node, segment_under, node_on_edge}
 use Rattle.rule_spec.specs.EdgePoints.{segments_of, node_position, edge_line_of}
-use Rattle.rule_spec.specs.Findings.{is_below, numbered_findings, findings_of_subject}
+use Rattle.rule_spec.specs.Findings.{is_below, findings_of_rules, findings_of_subject}
 use Rattle.rule_spec.specs.Reads.{record_keys, read_set}
 use Rattle.rule_spec.specs.Records.{is_chain_part}
 use Rattle.rule_spec.specs.Rule.{Found, found_if}
 use Rattle.rule_spec.specs.Rules.{pair_rules}
 use Rattle.rule_spec.specs.Vectors.{each_with_each}
-use Rattle.frame_laws.specs.FindingsFollowReads.{AnswerAlike, AreSameAbout}
+use Rattle.cell_spec.specs.AnswersAlike.{AnswerAlike}
+use Rattle.frame_laws.specs.FindingsFollowReads.{AreSameAbout}
 use Rattle.frame_laws.proofs.Lists.{each_weaker, each_front, each_back, each_filtered, same_filter_map}
 use Rattle.frame_laws.proofs.EdgeLines.{Alike, HasAlikeNodes, same_node, same_edge, same_position, same_line, alike_nodes}
 use Rattle.frame_laws.proofs.Records.{HasAlikeRecord, alike_record, same_record_keys}
-use Rattle.frame_laws.proofs.NumberedFindings.{same_findings}
+use Rattle.frame_laws.proofs.RuleFindings.{same_findings}
 
 module _ (c d : Cell) where
   same_contact : (a b : EdgeLine) → HasAlikeNodes c d a → first_illegal_contact c a b ≡ first_illegal_contact d a b
@@ -55,20 +56,20 @@ module _ (c d : Cell) where
     same_node_on_edge : node_on_edge c a b ≡ node_on_edge d a b
     same_node_on_edge = λ i. cond (option_map_or (λ (e : Vector). names_node e a) (same_edge c d b second.own i) true) [] (segment_under (same_position c d a first.own i) (second_line i))
 
-    same_pair_findings : (asked : List ℕ) → numbered_findings asked (λ (rule : Cell → RecName → RecName → Found). rule c a b) 7 pair_rules ≡ numbered_findings asked (λ (rule : Cell → RecName → RecName → Found). rule d a b) 7 pair_rules
-    same_pair_findings asked =
-        same_findings asked (λ (rule : Cell → RecName → RecName → Found). rule c a b) (λ (rule : Cell → RecName → RecName → Found). rule d a b) 7 pair_rules
+    same_pair_findings : findings_of_rules (λ (rule : Cell → RecName → RecName → Found). rule c a b) pair_rules ≡ findings_of_rules (λ (rule : Cell → RecName → RecName → Found). rule d a b) pair_rules
+    same_pair_findings =
+        same_findings (λ (rule : Cell → RecName → RecName → Found). rule c a b) (λ (rule : Cell → RecName → RecName → Found). rule d a b) pair_rules
         (same_lines_meet 7, (same_lines_meet 8, (same_lines_meet 9, (same_same_place, (same_node_on_edge, tt)))))
 
   same_part : (n : RecName) → Alike c d n → is_chain_part c n ≡ is_chain_part d n
   same_part n same = λ i. is_some (same_node c d n same i) || is_some (same_edge c d n same i)
 
-  pub same_about_pair : (asked : List ℕ) (a b : RecName) → AllByRecursion (AnswerAlike c d) (record_keys c a ++ record_keys c b) → AreSameAbout asked c d (Pair a b)
+  pub same_about_pair : (a b : RecName) → AllByRecursion (AnswerAlike c d) (record_keys c a ++ record_keys c b) → AreSameAbout c d (Pair a b)
   unfolding findings_of_subject read_set
-  same_about_pair asked a b all =
+  same_about_pair a b all =
       let first = alike_record c d a (each_front (AnswerAlike c d) (record_keys c a) (record_keys c b) all) in
       let second = alike_record c d b (each_back (AnswerAlike c d) (record_keys c a) (record_keys c b) all) in
       record {
-        findings = λ i. cond (is_below a b && same_part a first.own i && same_part b second.own i) (same_pair_findings a b first second asked i) [];
+        findings = λ i. cond (is_below a b && same_part a first.own i && same_part b second.own i) (same_pair_findings a b first second i) [];
         reads = λ i. ascending key_order (same_record_keys c d a first i ++ same_record_keys c d b second i);
       }

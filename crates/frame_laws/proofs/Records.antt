@@ -17,7 +17,8 @@ use Rattle.cell_spec.specs.Names.{key_order}
 use Rattle.rule_spec.specs.Findings.{findings_of_record, findings_of_subject}
 use Rattle.rule_spec.specs.Reads.{end_keys, end_keys_at, feature_keys, record_keys, read_set}
 use Rattle.rule_spec.specs.Records.{is_edge_name, vector_of, feature_of, feature_named}
-use Rattle.frame_laws.specs.FindingsFollowReads.{AnswerAlike, AreSameAbout}
+use Rattle.cell_spec.specs.AnswersAlike.{AnswerAlike}
+use Rattle.frame_laws.specs.FindingsFollowReads.{AreSameAbout}
 use Rattle.frame_laws.proofs.Lists.{each_front, each_back}
 use Rattle.frame_laws.proofs.EdgeLines.{Alike, same_feature, same_end_keys}
 use Rattle.frame_laws.proofs.VectorRules.{same_vector_findings}
@@ -51,20 +52,20 @@ module _ (c d : Cell) where
       feature_keys_by (feature_named c n) h.others ∙ ap (λ found. option_map_or (feature_keys d) found []) (same_feature c d n h.own) in
       λ i. Name n ∷ (same_end_keys c d n h.own i ++ features i)
 
-  abbrev found_about : List ℕ → Cell → Option Record → List Finding
-  found_about asked cell found = cond (is_some found) (option_map_or (findings_of_record asked cell) found []) []
+  abbrev found_about : Cell → Option Record → List Finding
+  found_about cell found = cond (is_some found) (option_map_or (findings_of_record cell) found []) []
 
-  found_by : (asked : List ℕ) (found : Option Record) → AllByRecursion (AnswerAlike c d) (option_map_or end_keys (option_and_then (vector_of is_edge_name) found) [])
-      → AllByRecursion (AnswerAlike c d) (option_map_or (feature_keys c) (option_and_then feature_of found) []) → found_about asked c found ≡ found_about asked d found
-  found_by asked None ends others = refl
-  found_by asked (Some (V v)) ends others = same_vector_findings c d asked v ends
-  found_by asked (Some (F f)) ends others = same_feature_findings c d f asked others
+  found_by : (found : Option Record) → AllByRecursion (AnswerAlike c d) (option_map_or end_keys (option_and_then (vector_of is_edge_name) found) [])
+      → AllByRecursion (AnswerAlike c d) (option_map_or (feature_keys c) (option_and_then feature_of found) []) → found_about c found ≡ found_about d found
+  found_by None ends others = refl
+  found_by (Some (V v)) ends others = same_vector_findings c d v ends
+  found_by (Some (F f)) ends others = same_feature_findings c d f others
 
-  pub same_about_record : (asked : List ℕ) (n : RecName) → AllByRecursion (AnswerAlike c d) (record_keys c n) → AreSameAbout asked c d (Rec n)
+  pub same_about_record : (n : RecName) → AllByRecursion (AnswerAlike c d) (record_keys c n) → AreSameAbout c d (Rec n)
   unfolding findings_of_subject read_set
-  same_about_record asked n all =
+  same_about_record n all =
       let h = alike_record n all in
       record {
-        findings = found_by asked (lookup_record c n) h.ends h.others ∙ ap (found_about asked d) h.own;
+        findings = found_by (lookup_record c n) h.ends h.others ∙ ap (found_about d) h.own;
         reads = ap (ascending key_order) (same_record_keys n h);
       }

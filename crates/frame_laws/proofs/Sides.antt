@@ -12,15 +12,16 @@ use Rattle.cell_spec.specs.Ascending.{ascending}
 use Rattle.cell_spec.specs.Lookup.{lookup_pointers}
 use Rattle.cell_spec.specs.Names.{key_order}
 use Rattle.rule_spec.specs.declared.side.EdgeUse.{EdgeUse}
-use Rattle.rule_spec.specs.Findings.{numbered_findings, findings_of_subject}
+use Rattle.rule_spec.specs.Findings.{findings_of_rules, findings_of_subject}
 use Rattle.rule_spec.specs.Reads.{keys_read, read_set}
 use Rattle.rule_spec.specs.Rule.{Found, found_if}
 use Rattle.rule_spec.specs.Rules.{side_rules, identity_rules}
 use Rattle.rule_spec.specs.Sides.{use_of_row, use_by, uses_of, side_counts, numbers_of, overlaps, is_balanced, is_truncated, found_use}
-use Rattle.frame_laws.specs.FindingsFollowReads.{AnswerAlike, AreSameAbout}
+use Rattle.cell_spec.specs.AnswersAlike.{AnswerAlike}
+use Rattle.frame_laws.specs.FindingsFollowReads.{AreSameAbout}
 use Rattle.frame_laws.proofs.Lists.{each_weaker, each_mapped, same_filter_map}
 use Rattle.frame_laws.proofs.EdgeLines.{Alike, same_edge, same_feature}
-use Rattle.frame_laws.proofs.NumberedFindings.{same_findings}
+use Rattle.frame_laws.proofs.RuleFindings.{same_findings}
 
 -- what the rules on sides give by the uses of an edge
 abbrev orphan_by : List EdgeUse → Found
@@ -46,30 +47,30 @@ module _ (c d : Cell) where
       (each_weaker (λ (r : Ref). Alike c d r.from) (λ r. use_by c r ≡ use_by d r) same_use (lookup_pointers c n) users)
       ∙ ap (filter_map (use_by d)) refs
 
-  same_side_findings : (asked : List ℕ) (n : RecName) → uses_of c n ≡ uses_of d n
-      → numbered_findings asked (λ (rule : Cell → RecName → Found). rule c n) 21 side_rules ≡ numbered_findings asked (λ (rule : Cell → RecName → Found). rule d n) 21 side_rules
-  same_side_findings asked n same =
-      same_findings asked (λ (rule : Cell → RecName → Found). rule c n) (λ (rule : Cell → RecName → Found). rule d n) 21 side_rules
+  same_side_findings : (n : RecName) → uses_of c n ≡ uses_of d n
+      → findings_of_rules (λ (rule : Cell → RecName → Found). rule c n) side_rules ≡ findings_of_rules (λ (rule : Cell → RecName → Found). rule d n) side_rules
+  same_side_findings n same =
+      same_findings (λ (rule : Cell → RecName → Found). rule c n) (λ (rule : Cell → RecName → Found). rule d n) side_rules
       (ap orphan_by same, (ap overlap_by same, (ap unbalanced_by same, (ap truncation_by same, tt))))
 
-  pub same_about_side : (asked : List ℕ) (n : RecName) → AllByRecursion (AnswerAlike c d) (keys_read c (Side n)) → AreSameAbout asked c d (Side n)
+  pub same_about_side : (n : RecName) → AllByRecursion (AnswerAlike c d) (keys_read c (Side n)) → AreSameAbout c d (Side n)
   unfolding findings_of_subject read_set
-  same_about_side asked n all =
+  same_about_side n all =
       let users = each_mapped (AnswerAlike c d) (λ (r : Ref). Name r.from) (lookup_pointers c n) all.1.1 in
-      let found = same_side_findings asked n (same_uses n all.1.0 users) in
+      let found = same_side_findings n (same_uses n all.1.0 users) in
       record {
         findings = λ i. cond (is_some (same_edge c d n all.0 i)) (found i) [];
         reads = ap (λ refs. ascending key_order (Name n ∷ Refs n ∷ map (λ (r : Ref). Name r.from) refs)) all.1.0;
       }
 
-  same_identity_findings : (asked : List ℕ) (l : Lnam) → AnswerAlike c d (Foid l)
-      → numbered_findings asked (λ (rule : Cell → Lnam → Found). rule c l) 25 identity_rules ≡ numbered_findings asked (λ (rule : Cell → Lnam → Found). rule d l) 25 identity_rules
-  same_identity_findings asked l same =
-      same_findings asked (λ (rule : Cell → Lnam → Found). rule c l) (λ (rule : Cell → Lnam → Found). rule d l) 25 identity_rules
+  same_identity_findings : (l : Lnam) → AnswerAlike c d (Foid l)
+      → findings_of_rules (λ (rule : Cell → Lnam → Found). rule c l) identity_rules ≡ findings_of_rules (λ (rule : Cell → Lnam → Found). rule d l) identity_rules
+  same_identity_findings l same =
+      same_findings (λ (rule : Cell → Lnam → Found). rule c l) (λ (rule : Cell → Lnam → Found). rule d l) identity_rules
       (ap (λ bearers. found_if (nat_lt 1 (length bearers)) (length bearers ∷ [])) same, tt)
 
-  pub same_about_identity : (asked : List ℕ) (l : Lnam) → AllByRecursion (AnswerAlike c d) (keys_read c (Ident l)) → AreSameAbout asked c d (Ident l)
+  pub same_about_identity : (l : Lnam) → AllByRecursion (AnswerAlike c d) (keys_read c (Ident l)) → AreSameAbout c d (Ident l)
   unfolding findings_of_subject read_set
-  same_about_identity asked l all =
-      let found = same_identity_findings asked l all.0 in
+  same_about_identity l all =
+      let found = same_identity_findings l all.0 in
       record { findings = λ i. cond (nat_lt 0 (length (all.0 i))) (found i) []; reads = refl }

@@ -14,10 +14,10 @@ use Rattle.rule_spec.specs.Records.{is_edge_name, node_named}
 use Rattle.rule_spec.specs.Rule.{Found, found_at}
 use Rattle.rule_spec.specs.Rules.{vector_rules}
 use Rattle.rule_spec.specs.Vectors.{stacked, stacked_segment, self_meet, self_meet_of}
-use Rattle.frame_laws.specs.FindingsFollowReads.{AnswerAlike}
+use Rattle.cell_spec.specs.AnswersAlike.{AnswerAlike}
 use Rattle.frame_laws.proofs.Lists.{each_weaker, same_places}
 use Rattle.frame_laws.proofs.EdgeLines.{Alike, HasAlikeEnds, same_node, same_line_of, alike_ends}
-use Rattle.frame_laws.proofs.NumberedFindings.{same_findings}
+use Rattle.frame_laws.proofs.RuleFindings.{same_findings}
 
 module _ (c d : Cell) where
   same_dangling_end : (e : Vector) → HasAlikeEnds c d e → dangling_end c e ≡ dangling_end d e
@@ -38,10 +38,10 @@ module _ (c d : Cell) where
   on_edges_by rule v true ends same = same (alike_ends c d v ends)
   on_edges_by rule v false ends same = refl
 
-  pub same_vector_findings : (asked : List ℕ) (v : Vector) → AllByRecursion (AnswerAlike c d) (option_map_or end_keys (cond (is_edge_name v.name) (Some v) None) [])
-      → findings_of_record asked c (V v) ≡ findings_of_record asked d (V v)
-  same_vector_findings asked v ends =
-      same_findings asked (λ (rule : Cell → Vector → Found). rule c v) (λ (rule : Cell → Vector → Found). rule d v) 1 vector_rules (
+  pub same_vector_findings : (v : Vector) → AllByRecursion (AnswerAlike c d) (option_map_or end_keys (cond (is_edge_name v.name) (Some v) None) [])
+      → findings_of_record c (V v) ≡ findings_of_record d (V v)
+  same_vector_findings v ends =
+      same_findings (λ (rule : Cell → Vector → Found). rule c v) (λ (rule : Cell → Vector → Found). rule d v) vector_rules (
         refl,
         (
           refl,

@@ -2,8 +2,8 @@
 
 ghost use Rattle.frame_laws.specs.FindingsFollowReads.{FindingsFollowReads};
 
-/// Two cells that answer alike to each key of a subject's read set in the first give the subject the same findings, of
-/// whatever kinds are asked for, and the same read set.
+/// Two cells that answer alike to each key of a subject's read set in the first give the subject the same findings and the
+/// same read set.
 pub fn findings_follow_reads()
     ensures { FindingsFollowReads }
 {}

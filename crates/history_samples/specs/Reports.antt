@@ -5,7 +5,6 @@ use Rattle.s57_types.specs.declared.record.Rec.{Rec}
 use Rattle.s57_types.specs.declared.record.Rec.TheVariants.{V, F}
 use Rattle.cell_spec.specs.declared.edit.Edit.{Edit}
 use Rattle.cell_spec.specs.declared.edit.Edit.TheVariants.{Add, Set, Del}
-use Rattle.rule_spec.specs.Kinds.{all_kinds}
 use Rattle.sample_cells.specs.Parts.{vc, ve, at, node, vector, end_of, depth_area, square}
 use Rattle.sample_cells.specs.Samples.{dangling, grid}
 use Rattle.text_spec.specs.declared.command.Command.{Command}
@@ -31,7 +30,7 @@ move_node place = Set (renewed (node 1 (at place place)))
 -- an edge gets its two nodes; an empty draft and a deletion of no record are refused
 abbrev pub MinimalRunIsReported : Type 0
 MinimalRunIsReported =
-    report all_kinds dangling (
+    report dangling (
     edit_seen (Set (renewed (vector (ve 2) (end_of 1 (vc 1) ∷ end_of 2 (vc 2) ∷ []) (at 50 50 ∷ [])))) ∷ (Commit ∷ Push (Del (vc 9)) ∷ Commit ∷ []) ∷ [])
     (1 ∷ 2 ∷ 2 ∷ 1 ∷ [])
     ≡ text_of_lines (
@@ -56,7 +55,7 @@ MinimalRunIsReported =
 -- the second of two commits that name one record is shown the first
 abbrev pub ClashIsReported : Type 0
 ClashIsReported =
-    report all_kinds dangling ((Push (Set (renewed (node 1 (at 0 1)))) ∷ Commit ∷ []) ∷ (Push (Set (renewed (node 1 (at 0 2)))) ∷ Commit ∷ []) ∷ []) (1 ∷ 2 ∷ [])
+    report dangling ((Push (Set (renewed (node 1 (at 0 1)))) ∷ Commit ∷ []) ∷ (Push (Set (renewed (node 1 (at 0 2)))) ∷ Commit ∷ []) ∷ []) (1 ∷ 2 ∷ [])
     ≡ text_of_lines (
     codes "order 1 2" ∷
     codes "session 1" ∷
@@ -79,7 +78,7 @@ ClashIsReported =
 -- a session that has seen the newer commit may change its record
 abbrev pub ViewEndsTheClash : Type 0
 ViewEndsTheClash =
-    report all_kinds grid (edit_seen (move_node 1) ∷ (View ∷ Push (move_node 2) ∷ Commit ∷ View ∷ Push (move_node 2) ∷ Commit ∷ []) ∷ []) (1 ∷ 2 ∷ 1 ∷ 2 ∷ 2 ∷ 2 ∷ [])
+    report grid (edit_seen (move_node 1) ∷ (View ∷ Push (move_node 2) ∷ Commit ∷ View ∷ Push (move_node 2) ∷ Commit ∷ []) ∷ []) (1 ∷ 2 ∷ 1 ∷ 2 ∷ 2 ∷ 2 ∷ [])
     ≡ text_of_lines (
     codes "order 1 2 1 2 2 2" ∷
     codes "session 1" ∷
@@ -105,7 +104,7 @@ ViewEndsTheClash =
 -- two sessions change different records; findings of all kinds
 abbrev pub TwoSessionsAreReported : Type 0
 TwoSessionsAreReported =
-    report all_kinds grid (edit_seen (move_node 1) ∷ edit_seen (Add (depth_area 3 square)) ∷ []) (1 ∷ 2 ∷ 2 ∷ 1 ∷ [])
+    report grid (edit_seen (move_node 1) ∷ edit_seen (Add (depth_area 3 square)) ∷ []) (1 ∷ 2 ∷ 2 ∷ 1 ∷ [])
     ≡ text_of_lines (
     codes "order 1 2 2 1" ∷
     codes "session 1" ∷

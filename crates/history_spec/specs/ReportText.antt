@@ -57,9 +57,9 @@ abbrev pub draft_line : ℕ → List ℕ
 draft_line count = line (codes "draft") (decimal count ∷ [])
 
 -- the lines of a command that shows findings of a cell: the base, how many there are, and at most so many of them
-abbrev pub list_lines : List ℕ → ℕ → ℕ → Cell → List ℕ
-list_lines asked base shown c = line (codes "list") (codes "seen" ∷ decimal base ∷ codes "findings" ∷ decimal (finding_total asked c) ∷ [])
-    ++ flat_map (λ l. l) (take shown (flat_map (λ (row : Subject × List Finding). map (finding_line row.0) row.1) (all_findings asked c)))
+abbrev pub list_lines : ℕ → ℕ → Cell → List ℕ
+list_lines base shown c = line (codes "list") (codes "seen" ∷ decimal base ∷ codes "findings" ∷ decimal (finding_total c) ∷ [])
+    ++ flat_map (λ l. l) (take shown (flat_map (λ (row : Subject × List Finding). map (finding_line row.0) row.1) (all_findings c)))
 
 -- the base of a desk after an answer
 abbrev pub base_after : Reply → ℕ → ℕ
@@ -70,39 +70,39 @@ base_after (Refused refusal) base = base
 base_after (Accepted number findings) base = number
 
 -- the lines of a session: each command's, from a base and a number of edits in the draft on; `at` is the cell after so many commits
-abbrev pub transcript_from : List ℕ → (ℕ → Cell) → ℕ → ℕ → List Command → List Reply → List ℕ
-transcript_from asked at base drafted [] replies = []
-transcript_from asked at base drafted (View ∷ commands) [] = []
-transcript_from asked at base drafted (View ∷ commands) (reply ∷ replies) = reply_line reply ++ transcript_from asked at (base_after reply base) drafted commands replies
-transcript_from asked at base drafted (Commit ∷ commands) [] = []
-transcript_from asked at base drafted (Commit ∷ commands) (reply ∷ replies) = reply_line reply ++ transcript_from asked at (base_after reply base) 0 commands replies
-transcript_from asked at base drafted (Drop ∷ commands) replies = draft_line 0 ++ transcript_from asked at base 0 commands replies
-transcript_from asked at base drafted (Findings shown ∷ commands) replies = list_lines asked base shown (at base) ++ transcript_from asked at base drafted commands replies
-transcript_from asked at base drafted (Push edit ∷ commands) replies = draft_line (drafted + 1) ++ transcript_from asked at base (drafted + 1) commands replies
+abbrev pub transcript_from : (ℕ → Cell) → ℕ → ℕ → List Command → List Reply → List ℕ
+transcript_from at base drafted [] replies = []
+transcript_from at base drafted (View ∷ commands) [] = []
+transcript_from at base drafted (View ∷ commands) (reply ∷ replies) = reply_line reply ++ transcript_from at (base_after reply base) drafted commands replies
+transcript_from at base drafted (Commit ∷ commands) [] = []
+transcript_from at base drafted (Commit ∷ commands) (reply ∷ replies) = reply_line reply ++ transcript_from at (base_after reply base) 0 commands replies
+transcript_from at base drafted (Drop ∷ commands) replies = draft_line 0 ++ transcript_from at base 0 commands replies
+transcript_from at base drafted (Findings shown ∷ commands) replies = list_lines base shown (at base) ++ transcript_from at base drafted commands replies
+transcript_from at base drafted (Push edit ∷ commands) replies = draft_line (drafted + 1) ++ transcript_from at base (drafted + 1) commands replies
 
 -- a session's part of the report
-abbrev pub session_text : List ℕ → (ℕ → Cell) → ℕ → List Command → List Reply → List ℕ
-session_text asked at session commands replies = line (codes "session") (decimal session ∷ []) ++ transcript_from asked at 0 0 commands replies
+abbrev pub session_text : (ℕ → Cell) → ℕ → List Command → List Reply → List ℕ
+session_text at session commands replies = line (codes "session") (decimal session ∷ []) ++ transcript_from at 0 0 commands replies
 
 -- an accepted commit's part: its number, its desk, the findings after it, and its edits
-abbrev pub commit_text : List ℕ → (ℕ → Cell) → ℕ × AcceptedCommit → List ℕ
-commit_text asked at (number, accepted) =
-    line (codes "commit") (decimal number ∷ codes "desk" ∷ decimal accepted.desk ∷ codes "findings" ∷ decimal (finding_total asked (at number)) ∷ [])
+abbrev pub commit_text : (ℕ → Cell) → ℕ × AcceptedCommit → List ℕ
+commit_text at (number, accepted) =
+    line (codes "commit") (decimal number ∷ codes "desk" ∷ decimal accepted.desk ∷ codes "findings" ∷ decimal (finding_total (at number)) ∷ [])
     ++ flat_map edit_line accepted.edits
 
-abbrev pub history_text : List ℕ → (ℕ → Cell) → List AcceptedCommit → List ℕ
-history_text asked at commits = line (codes "history") [] ++ flat_map (commit_text asked at) (enumerate_from 1 commits)
+abbrev pub history_text : (ℕ → Cell) → List AcceptedCommit → List ℕ
+history_text at commits = line (codes "history") [] ++ flat_map (commit_text at) (enumerate_from 1 commits)
 
 -- the report of a run that gave these replies and left this state
-abbrev pub report_with : List ℕ → Cell → List (List Command) → List ℕ → List (ℕ × Reply) → History → List ℕ
-report_with asked c scripts order replies last = order_line order
-    ++ flat_map (λ session. session_text asked (λ n. cell_after n last.commits c) session (script_of scripts session) (replies_to session replies)) (range_with_len 1 (length scripts))
-    ++ history_text asked (λ n. cell_after n last.commits c) last.commits ++ cell_text asked last.cell
+abbrev pub report_with : Cell → List (List Command) → List ℕ → List (ℕ × Reply) → History → List ℕ
+report_with c scripts order replies last = order_line order
+    ++ flat_map (λ session. session_text (λ n. cell_after n last.commits c) session (script_of scripts session) (replies_to session replies)) (range_with_len 1 (length scripts))
+    ++ history_text (λ n. cell_after n last.commits c) last.commits ++ cell_text last.cell
 
--- the report of scripts on a cell in an order, with findings of the kinds asked for
-unfoldable pub report : List ℕ → Cell → List (List Command) → List ℕ → List ℕ
-report asked c scripts order = report_with asked c scripts order (replies_from asked (opening c) (ordered_requests scripts order)) (history_after asked (opening c) (ordered_requests scripts order))
+-- the report of scripts on a cell in an order
+unfoldable pub report : Cell → List (List Command) → List ℕ → List ℕ
+report c scripts order = report_with c scripts order (replies_from (opening c) (ordered_requests scripts order)) (history_after (opening c) (ordered_requests scripts order))
 
 -- the cell that is left
-unfoldable pub final_cell : List ℕ → Cell → List (List Command) → List ℕ → Cell
-final_cell asked c scripts order = (history_after asked (opening c) (ordered_requests scripts order)).cell
+unfoldable pub final_cell : Cell → List (List Command) → List ℕ → Cell
+final_cell c scripts order = (history_after (opening c) (ordered_requests scripts order)).cell

@@ -43,17 +43,17 @@ event_of nall base see = view
 event_of nall base (offer draft) = option_map_or faulty (form_fault nall draft) (commit base draft)
 
 -- a request taken as an event of its desk
-abbrev pub request_step : List ℕ → History → ℕ × Request → Reply × History
-request_step asked h (desk, request) = step asked h desk (event_of h.cell.head.nall (h.bases desk) request)
+abbrev pub request_step : History → ℕ × Request → Reply × History
+request_step h (desk, request) = step h desk (event_of h.cell.head.nall (h.bases desk) request)
 
 -- the replies to requests one after the other, each with its desk
-abbrev pub replies_from : List ℕ → History → List (ℕ × Request) → List (ℕ × Reply)
-replies_from asked h [] = []
-replies_from asked h (request ∷ requests) = (request.0, (request_step asked h request).0) ∷ replies_from asked (request_step asked h request).1 requests
+abbrev pub replies_from : History → List (ℕ × Request) → List (ℕ × Reply)
+replies_from h [] = []
+replies_from h (request ∷ requests) = (request.0, (request_step h request).0) ∷ replies_from (request_step h request).1 requests
 
 -- the state that requests leave
-abbrev pub history_after : List ℕ → History → List (ℕ × Request) → History
-history_after asked = fold (λ h request. (request_step asked h request).1)
+abbrev pub history_after : History → List (ℕ × Request) → History
+history_after = fold (λ h request. (request_step h request).1)
 
 -- the replies to one desk
 abbrev pub replies_to : ℕ → List (ℕ × Reply) → List Reply

@@ -74,25 +74,25 @@ edit_refusal c (Set r) = if is_some (lookup_record c (name_of r)) then None else
 edit_refusal c (Del n) = if is_some (lookup_record c n) then None else Some (DelMissing n)
 
 -- why the cell that edits would leave is too large
-abbrev pub size_refusal : List ℕ → Cell → Option StateRefusal
-size_refusal asked edited =
+abbrev pub size_refusal : Cell → Option StateRefusal
+size_refusal edited =
     if nat_lt record_limit (length (all_records edited)) then Some (CellFull (length (all_records edited))) else
-    (if nat_lt finding_limit (finding_total asked edited) then Some FindingsFull else None)
+    (if nat_lt finding_limit (finding_total edited) then Some FindingsFull else None)
 
 -- why a cell doesn't take edits: the first edit that it doesn't take, then the size of the edited cell
-abbrev pub state_refusal : List ℕ → Cell → List Edit → Option StateRefusal
-state_refusal asked c edits = option_map_or Some (first_of (filter_map (edit_refusal c) edits)) (size_refusal asked (apply_edits edits c))
+abbrev pub state_refusal : Cell → List Edit → Option StateRefusal
+state_refusal c edits = option_map_or Some (first_of (filter_map (edit_refusal c) edits)) (size_refusal (apply_edits edits c))
 
 -- the answer to a commit: a newer commit goes before a refusal of the cell
-abbrev pub commit_answer : List ℕ → History → ℕ → List Edit → Reply
-commit_answer asked h base edits = option_map_or (λ reply. reply) (newer_answer h.commits base edits)
-    (option_map_or Refused (state_refusal asked h.cell edits) (Accepted (length h.commits + 1) (finding_total asked (apply_edits edits h.cell))))
+abbrev pub commit_answer : History → ℕ → List Edit → Reply
+commit_answer h base edits = option_map_or (λ reply. reply) (newer_answer h.commits base edits)
+    (option_map_or Refused (state_refusal h.cell edits) (Accepted (length h.commits + 1) (finding_total (apply_edits edits h.cell))))
 
--- the answer to what a desk asks; findings are of the kinds asked for
-abbrev pub answer : List ℕ → History → Event → Reply
-answer asked h view = Viewed (length h.commits) (finding_total asked h.cell)
-answer asked h (faulty fault) = Formed fault
-answer asked h (commit base edits) = commit_answer asked h base edits
+-- the answer to what a desk asks
+abbrev pub answer : History → Event → Reply
+answer h view = Viewed (length h.commits) (finding_total h.cell)
+answer h (faulty fault) = Formed fault
+answer h (commit base edits) = commit_answer h base edits
 
 -- the base of one desk is now another
 abbrev pub with_base : ℕ → ℕ → (ℕ → ℕ) → ℕ → ℕ
@@ -120,8 +120,8 @@ left_after desk event (Refused refusal) h = h
 left_after desk event (Accepted number findings) h = with_commit desk (edits_asked event) h
 
 -- one step: the answer, and the state after it
-abbrev pub step : List ℕ → History → ℕ → Event → Reply × History
-step asked h desk event = (answer asked h event, left_after desk event (answer asked h event) h)
+abbrev pub step : History → ℕ → Event → Reply × History
+step h desk event = (answer h event, left_after desk event (answer h event) h)
 
 -- a cell after some of the accepted commits
 abbrev pub cell_after : ℕ → List AcceptedCommit → Cell → Cell

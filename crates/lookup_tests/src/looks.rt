@@ -4,6 +4,7 @@ ghost use Rattle.cell_spec.specs.Lookup.{lookup_record};
 use crate::sample::{SHARED, end, of, sample, vector};
 use chain_topo::{ListLook, Look, Steps, edge_of, edge_points, node_at, position_of};
 use plain_lookups::name_of;
+use look_counter::start_counter;
 use s57_types::{Attrs, Deep, Items, Kind, Lnam, Rec, RecName, Vector};
 use std::alloc::{AllocError, Global};
 use std::marker::Brand;
@@ -35,7 +36,7 @@ fn both_there_from<B: Look, L: Ledger>(
     requires some_part { 0 < L.parts }
     ensures { result ≡ (is_some (lookup_record (B.cell look.now) first) && is_some (lookup_record (B.cell look.now) last)) }
 {
-    let mut steps = Steps::<L>::start(blank);
+    let mut steps = start_counter::<L>(blank);
     both_there(look, first, last, &mut steps)
 }
 
@@ -132,7 +133,7 @@ fn check_all<L: Ledger>(
     requires parts { blank.parts ≡ L.parts }
     requires some_part { 0 < L.parts }
 {
-    let mut steps = Steps::<L>::start(blank);
+    let mut steps = start_counter::<L>(blank);
     check_names(rt, look, &mut steps);
     check_all_refs(rt, look, &mut steps);
     check_bearers(rt, look, &mut steps);

@@ -4,6 +4,7 @@ ghost use Rattle.chain_topo.specs.Readable.{IsReadable};
 use crate::sample::{SHARED, of, sample};
 use cell_spec::{Key, Ref};
 use chain_topo::{ListLook, Look, Steps};
+use look_counter::start_counter;
 use near_records::gather;
 use s57_types::{Cell as Chart, Kind, Lnam, Rec, RecName};
 use std::alloc::{AllocError, Global};
@@ -69,7 +70,7 @@ fn check<L: Ledger>(
         look: ListLook::make(alloc, chart)?,
         answers: Cell::new(0),
     };
-    let mut steps = Steps::<L>::start(blank);
+    let mut steps = start_counter::<L>(blank);
     let there = of(Kind::Vc, 1);
     let absent = of(Kind::Vc, 3);
     let keys = [

@@ -9,6 +9,7 @@ ghost use Rattle.cell_spec.specs.Names.{name_parts, same_name};
 ghost use Rattle.chain_topo.specs.Readable.{IsReadable};
 
 use chain_topo::{ListLook, Look, Steps};
+use look_counter::start_counter;
 use s57_types::{
     Attrs, Cell, Feature, Head, Items, Kind, Lnam, Partners, Rec, RecName, Recs, Spot, Text,
 };
@@ -233,7 +234,7 @@ fn sum_of<L: Ledger>(look: &ListLook, work: Work, size: u32, blank: Blank) -> u6
     requires parts { blank.parts ≡ L.parts }
     requires some_part { 0 < L.parts }
 {
-    let mut steps = Steps::<L>::start(blank);
+    let mut steps = start_counter::<L>(blank);
     match work {
         Work::Build => 0,
         Work::Gets => sum_of_gets(look, size, &mut steps),

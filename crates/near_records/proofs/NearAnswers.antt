@@ -13,8 +13,8 @@ use Rattle.s57_types.specs.declared.cell.Cell.{Cell}
 use Rattle.cell_spec.specs.declared.key.Key.{Key}
 use Rattle.cell_spec.specs.Ascending.{put_in_order, ascending}
 use Rattle.cell_spec.specs.Names.{key_order}
-use Rattle.chain_topo.proofs.Ascending.{holds-ascending, sorted-ascending}
-use Rattle.read_sets.proofs.KeyOrder.{exact_keys, total_keys}
+use Rattle.cell_spec.proofs.Ascending.{holds-ascending, sorted-ascending}
+use Rattle.cell_spec.proofs.Orders.{exact_keys, total_keys}
 use Rattle.near_records.specs.Near.{KeyAnswer, answer_held, answer_to, has_key}
 use Rattle.near_records.specs.declared.near.Answer.{Answer}
 

@@ -23,8 +23,8 @@ use Rattle.cell_spec.specs.Lookup.{lookup_record}
 use Rattle.cell_spec.specs.Names.{key_order}
 use Rattle.rule_spec.specs.Reads.{end_keys, end_keys_at, feature_keys, keys_read, read_set}
 use Rattle.rule_spec.specs.Records.{edge_named, feature_of}
-use Rattle.chain_topo.proofs.Ascending.{holds-ascending}
-use Rattle.read_sets.proofs.KeyOrder.{exact_keys, total_keys}
+use Rattle.cell_spec.proofs.Ascending.{holds-ascending}
+use Rattle.cell_spec.proofs.Orders.{exact_keys, total_keys}
 use Rattle.near_records.specs.Near.{has_key}
 
 earlier : (a b : Bool) → a ≡ true → (a || b) ≡ true

@@ -4,7 +4,6 @@ use Rattle.std.specs.Option.{option_map_or}
 use Rattle.cell_spec.specs.Edits.{apply_edits}
 use Rattle.cell_spec.specs.declared.edit.Edit.{Edit}
 use Rattle.rule_spec.specs.Findings.{finding_total}
-use Rattle.rule_spec.specs.Kinds.{all_kinds}
 use Rattle.history_spec.specs.declared.reply.Reply.{Reply}
 use Rattle.history_spec.specs.declared.reply.Reply.TheVariants.{Accepted, Refused}
 use Rattle.history_spec.specs.Steps.{AcceptedCommit, History, commit, with_base, commit_answer, left_after, newer_answer, state_refusal, with_commit}
@@ -14,12 +13,12 @@ use Rattle.plain_history.specs.Trials.{IsEdited}
 use Rattle.plain_history.specs.Kept.{IsStep, KeptHistory, base_of, state_of}
 use Rattle.plain_history.proofs.Bases.{base_set}
 
-pub accepted_step : (h : History) (desk base : ℕ) (edits : List Edit) (reply : Reply) (after : History) → newer_answer h.commits base edits ≡ None → state_refusal all_kinds h.cell edits ≡ None
-    → reply ≡ Accepted (length h.commits + 1) (finding_total all_kinds (apply_edits edits h.cell)) → after ≡ with_commit desk edits h → IsStep h desk (commit base edits) reply after
+pub accepted_step : (h : History) (desk base : ℕ) (edits : List Edit) (reply : Reply) (after : History) → newer_answer h.commits base edits ≡ None → state_refusal h.cell edits ≡ None
+    → reply ≡ Accepted (length h.commits + 1) (finding_total (apply_edits edits h.cell)) → after ≡ with_commit desk edits h → IsStep h desk (commit base edits) reply after
 accepted_step h desk base edits reply after alone fits told left =
-    let accepted = Accepted (length h.commits + 1) (finding_total all_kinds (apply_edits edits h.cell)) in
-    let answered : commit_answer all_kinds h base edits ≡ accepted =
-    ap (λ newer. option_map_or (λ r. r) newer (option_map_or Refused (state_refusal all_kinds h.cell edits) accepted)) alone
+    let accepted = Accepted (length h.commits + 1) (finding_total (apply_edits edits h.cell)) in
+    let answered : commit_answer h base edits ≡ accepted =
+    ap (λ newer. option_map_or (λ r. r) newer (option_map_or Refused (state_refusal h.cell edits) accepted)) alone
     ∙ ap (λ refusal. option_map_or Refused refusal accepted) fits in
     record { reply_is = told ∙ sym answered; state_is = left ∙ ap (λ r. left_after desk (commit base edits) r h) (sym told) }
 
@@ -41,12 +40,12 @@ accepted_state kept before cell commits accepted desk number edits known within 
 -- a commit that nothing speaks against
 pub commit_taken : {E : Type 0} (kept before after : KeptHistory) (desk : ℕ) (edits : List Edit) (cell : Cell) (findings : List SubjectFinding) (result : Result Reply E) → kept ≡ before
     → newer_answer before.commits (base_of before.bases desk) edits ≡ None → IsEdited before.cell edits cell findings
-    → IfOk result (λ reply. (reply ≡ Accepted (length kept.commits + 1) (finding_total all_kinds cell)) × (state_of after ≡ with_commit desk edits (state_of kept)))
+    → IfOk result (λ reply. (reply ≡ Accepted (length kept.commits + 1) (finding_total cell)) × (state_of after ≡ with_commit desk edits (state_of kept)))
     → IfOk result (λ reply. IsStep (state_of kept) desk (commit (base_of kept.bases desk) edits) reply (state_of after))
 commit_taken kept before after desk edits cell findings (Ok reply) known alone taken told =
     accepted_step (state_of kept) desk (base_of kept.bases desk) edits reply (state_of after)
     (ap (λ (k : KeptHistory). newer_answer k.commits (base_of k.bases desk) edits) known ∙ alone)
-    (ap (λ (k : KeptHistory). state_refusal all_kinds k.cell edits) known ∙ taken.none)
-    (told.0 ∙ ap (λ c. Accepted (length kept.commits + 1) (finding_total all_kinds c)) (taken.cell_is ∙ ap (λ (k : KeptHistory). apply_edits edits k.cell) (sym known)))
+    (ap (λ (k : KeptHistory). state_refusal k.cell edits) known ∙ taken.none)
+    (told.0 ∙ ap (λ c. Accepted (length kept.commits + 1) (finding_total c)) (taken.cell_is ∙ ap (λ (k : KeptHistory). apply_edits edits k.cell) (sym known)))
     told.1
 commit_taken kept before after desk edits cell findings (Err e) known alone taken told = tt

@@ -9,7 +9,6 @@ use Rattle.cell_spec.specs.Lookup.{all_records}
 use Rattle.cell_spec.specs.Writable.{IsWritable}
 use Rattle.cell_spec.specs.declared.edit.Edit.{Edit}
 use Rattle.rule_spec.specs.Findings.{finding_total}
-use Rattle.rule_spec.specs.Kinds.{all_kinds}
 use Rattle.edit_sets.specs.FormFault.{form_fault}
 use Rattle.history_spec.specs.declared.refusal.StateRefusal.TheVariants.{CellFull, FindingsFull}
 use Rattle.history_spec.specs.Steps.{edit_refusal, finding_limit, first_of, record_limit, size_refusal}
@@ -18,11 +17,11 @@ use Rattle.edit_laws.proofs.EditedCell.{edits_keep_writable}
 use Rattle.edit_laws.proofs.Refusals.{refusals_are_exact}
 
 -- too many findings say nothing of the records
-size_taken : (edited : Cell) → length (all_records edited) ≤ 262144 → is_taken (size_refusal all_kinds edited) ≡ true
+size_taken : (edited : Cell) → length (all_records edited) ≤ 262144 → is_taken (size_refusal edited) ≡ true
 size_taken edited few =
     let within : nat_lt record_limit (length (all_records edited)) ≡ false = grind (arith, nat_tests) in
-    ap (λ b. is_taken (if b then Some (CellFull (length (all_records edited))) else (if nat_lt finding_limit (finding_total all_kinds edited) then Some FindingsFull else None))) within
-    ∙ either (nat_lt finding_limit (finding_total all_kinds edited))
+    ap (λ b. is_taken (if b then Some (CellFull (length (all_records edited))) else (if nat_lt finding_limit (finding_total edited) then Some FindingsFull else None))) within
+    ∙ either (nat_lt finding_limit (finding_total edited))
   where
     either : (b : Bool) → is_taken (if b then Some FindingsFull else None) ≡ true
     either true = refl
@@ -32,7 +31,7 @@ pub writable_after : (c : Cell) (edits : List Edit) → IsWritable c → form_fa
     → length (all_records (apply_edits edits c)) ≤ 262144 → IsWritable (apply_edits edits c)
 writable_after c edits w form taken few =
     edits_keep_writable c edits w form (
-    sym (refusals_are_exact all_kinds c edits)
-    ∙ ap (λ first. is_taken (option_map_or Some first (size_refusal all_kinds (apply_edits edits c)))) taken
+    sym (refusals_are_exact c edits)
+    ∙ ap (λ first. is_taken (option_map_or Some first (size_refusal (apply_edits edits c)))) taken
     ∙ size_taken (apply_edits edits c) few
     )

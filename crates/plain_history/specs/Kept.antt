@@ -6,7 +6,6 @@ use Rattle.history_spec.specs.declared.reply.Reply.{Reply}
 use Rattle.history_spec.specs.declared.reply.Reply.TheVariants.{Viewed, Formed, Newer, Refused, Accepted}
 use Rattle.history_spec.specs.Sessions.{Request, request_step}
 use Rattle.history_spec.specs.Steps.{AcceptedCommit, Event, History, answer, finding_limit, left_after}
-use Rattle.rule_spec.specs.Kinds.{all_kinds}
 use Rattle.cell_findings.specs.AllFindings.{IsAllOf}
 use Rattle.cell_findings.specs.declared.list.SubjectFinding.{SubjectFinding}
 
@@ -43,10 +42,10 @@ IsNewer (Accepted number findings) = ⊥
 
 -- an event of a desk has this answer and leaves this state
 pub record IsStep (before : History) (desk : ℕ) (event : Event) (reply : Reply) (after : History) : Type 0 where
-  pub reply_is : reply ≡ answer all_kinds before event
+  pub reply_is : reply ≡ answer before event
   pub state_is : after ≡ left_after desk event reply before
 
 -- a request of a desk has this answer and leaves this state
 pub record IsAnswered (before : History) (desk : ℕ) (request : Request) (reply : Reply) (after : History) : Type 0 where
-  pub reply_is : reply ≡ (request_step all_kinds before (desk, request)).0
-  pub state_is : after ≡ (request_step all_kinds before (desk, request)).1
+  pub reply_is : reply ≡ (request_step before (desk, request)).0
+  pub state_is : after ≡ (request_step before (desk, request)).1

@@ -4,7 +4,6 @@ ghost use Rattle.std.specs.Prelude.{◌≡◌, ◌+◌, ◌≤◌, ◌<◌, ◌^
 ghost use Rattle.history_spec.specs.Sessions.{see, offer as spec_offer};
 ghost use Rattle.history_spec.specs.Steps.{commit as spec_commit, finding_limit, opening, with_commit};
 ghost use Rattle.rule_spec.specs.Findings.{finding_total};
-ghost use Rattle.rule_spec.specs.Kinds.{all_kinds};
 ghost use Rattle.cell_spec.specs.Edits.{apply_edits};
 ghost use Rattle.cell_spec.specs.Writable.{IsWritable};
 ghost use Rattle.cell_findings.specs.AllFindings.{IsAllOf};
@@ -149,7 +148,7 @@ impl History {
         requires edited { cell ≡ apply_edits set.edits self.old.cell }
         requires writable { IsWritable cell }
         requires findings { IsAllOf cell finding_limit findings }
-        ensures ok { IfOk result (λ reply. (reply ≡ Reply.Accepted (length self.old.commits + 1) (finding_total all_kinds cell)) × (state_of self.new ≡ with_commit desk set.edits (state_of self.old))) }
+        ensures ok { IfOk result (λ reply. (reply ≡ Reply.Accepted (length self.old.commits + 1) (finding_total cell)) × (state_of self.new ≡ with_commit desk set.edits (state_of self.old))) }
         ensures err { OnErr result (self.new ≡ self.old) }
     {
         let before = narrow(self.commits.len())?;

@@ -15,7 +15,6 @@ use Rattle.cell_spec.specs.Edits.{apply_edits}
 use Rattle.cell_spec.specs.Names.{name_order}
 use Rattle.cell_spec.specs.declared.edit.Edit.{Edit}
 use Rattle.rule_spec.specs.Findings.{finding_total}
-use Rattle.rule_spec.specs.Kinds.{all_kinds}
 use Rattle.text_spec.specs.EditLine.{edit_line}
 use Rattle.text_spec.specs.Lines.{line}
 use Rattle.history_spec.specs.ReportText.{base_after, commit_text}
@@ -66,10 +65,10 @@ numbered-append n (x ∷ xs) ys =
 
 -- lines that agree up to a number
 texts_agree : (at other : ℕ → Cell) (first : ℕ) (commits : List AcceptedCommit) → ((n : ℕ) → n < first + length commits → at n ≡ other n)
-    → flat_map (commit_text all_kinds at) (enumerate_from first commits) ≡ flat_map (commit_text all_kinds other) (enumerate_from first commits)
+    → flat_map (commit_text at) (enumerate_from first commits) ≡ flat_map (commit_text other) (enumerate_from first commits)
 texts_agree at other first [] same = refl
 texts_agree at other first (accepted ∷ commits) same =
-    λ i. (line (codes "commit") (decimal first ∷ codes "desk" ∷ decimal accepted.desk ∷ codes "findings" ∷ decimal (finding_total all_kinds (same first (omega arith) i)) ∷ []) ++ flat_map edit_line accepted.edits)
+    λ i. (line (codes "commit") (decimal first ∷ codes "desk" ∷ decimal accepted.desk ∷ codes "findings" ∷ decimal (finding_total (same first (omega arith) i)) ∷ []) ++ flat_map edit_line accepted.edits)
     ++ texts_agree at other (first + 1) commits (λ n within. same n (omega (arith, within))) i
 
 module _ (c : Cell) (h : History) (on : h.cell ≡ cell_after (length h.commits) h.commits c) (desk : ℕ) (edits : List Edit) where
@@ -77,7 +76,7 @@ module _ (c : Cell) (h : History) (on : h.cell ≡ cell_after (length h.commits)
   accepted = record { desk = desk; edits = edits }
 
   abbrev total : ℕ
-  total = finding_total all_kinds (apply_edits edits h.cell)
+  total = finding_total (apply_edits edits h.cell)
 
   last_is : drop (length (h.commits ++ (accepted ∷ [])) - 1) (h.commits ++ (accepted ∷ [])) ≡ accepted ∷ []
   last_is =
@@ -94,10 +93,10 @@ module _ (c : Cell) (h : History) (on : h.cell ≡ cell_after (length h.commits)
   pub taken_texts : commit_texts c (h.commits ++ (accepted ∷ [])) ≡ commit_texts c h.commits ++ accepted_text (h.commits ++ (accepted ∷ [])) (Accepted (length h.commits + 1) total)
   taken_texts =
       let number : 1 + length h.commits ≡ length h.commits + 1 = omega arith in
-      ap (flat_map (commit_text all_kinds at_after)) (numbered-append 1 h.commits (accepted ∷ []))
-      ∙ flat_map-append (commit_text all_kinds at_after) (enumerate_from 1 h.commits) ((1 + length h.commits, accepted) ∷ [])
+      ap (flat_map (commit_text at_after)) (numbered-append 1 h.commits (accepted ∷ []))
+      ∙ flat_map-append (commit_text at_after) (enumerate_from 1 h.commits) ((1 + length h.commits, accepted) ∷ [])
       ∙ (λ i. texts_agree at_after (λ n. cell_after n h.commits c) 1 h.commits (λ n within. cell_before h.commits accepted c n (omega (arith, within))) i
-      ++ (part (number i) (finding_total all_kinds ((cell_now h.commits accepted c (1 + length h.commits) number ∙ ap (apply_edits edits) (sym on)) i)) ++ []))
+      ++ (part (number i) (finding_total ((cell_now h.commits accepted c (1 + length h.commits) number ∙ ap (apply_edits edits) (sym on)) i)) ++ []))
       ∙ ap (λ commits. commit_texts c h.commits ++ flat_map (λ (a : AcceptedCommit). line (codes "commit") (decimal (length h.commits + 1) ∷ codes "desk" ∷ decimal a.desk ∷ codes "findings" ∷ decimal total ∷ []) ++ flat_map edit_line a.edits) commits) (sym last_is)
 
   pub taken_on : apply_edits edits h.cell ≡ cell_after (length (h.commits ++ (accepted ∷ []))) (h.commits ++ (accepted ∷ [])) c
@@ -119,7 +118,7 @@ pub record IsGrown (c : Cell) (h after : History) (reply : Reply) : Type 0 where
   pub base : base_after reply 0 ≤ length after.commits
 
 by_answers : (c : Cell) (h : History) → IsOn c h → (desk base : ℕ) (edits : List Edit) (newer : Option Reply) (refusal : Option StateRefusal) → IfSome newer IsNewer
-    → (let reply = option_map_or (λ r. r) newer (option_map_or Refused refusal (Accepted (length h.commits + 1) (finding_total all_kinds (apply_edits edits h.cell)))) in IsGrown c h (left_after desk (commit base edits) reply h) reply)
+    → (let reply = option_map_or (λ r. r) newer (option_map_or Refused refusal (Accepted (length h.commits + 1) (finding_total (apply_edits edits h.cell)))) in IsGrown c h (left_after desk (commit base edits) reply h) reply)
 by_answers c h on desk base edits (Some (Viewed number findings)) refusal is = absurd is
 by_answers c h on desk base edits (Some (Formed fault)) refusal is = absurd is
 by_answers c h on desk base edits (Some (Newer number name other edit)) refusal is = record { texts = sym (append-nil (commit_texts c h.commits)); on = on; kept = λ n within. refl; count = λ limit d. omega arith; base = omega arith }
@@ -136,11 +135,11 @@ by_answers c h on desk base edits None None is =
       base = omega (arith, all);
     }
 
-by_event : (c : Cell) (h : History) → IsOn c h → (desk : ℕ) (event : Event) → IsGrown c h (left_after desk event (answer all_kinds h event) h) (answer all_kinds h event)
+by_event : (c : Cell) (h : History) → IsOn c h → (desk : ℕ) (event : Event) → IsGrown c h (left_after desk event (answer h event) h) (answer h event)
 by_event c h on desk view = record { texts = sym (append-nil (commit_texts c h.commits)); on = on; kept = λ n within. refl; count = λ limit d. omega arith; base = omega arith }
 by_event c h on desk (faulty fault) = record { texts = sym (append-nil (commit_texts c h.commits)); on = on; kept = λ n within. refl; count = λ limit d. omega arith; base = omega arith }
 by_event c h on desk (commit base edits) =
-    by_answers c h on desk base edits (newer_answer h.commits base edits) (state_refusal all_kinds h.cell edits) (first_newer edits (drop base (enumerate_from 1 h.commits)))
+    by_answers c h on desk base edits (newer_answer h.commits base edits) (state_refusal h.cell edits) (first_newer edits (drop base (enumerate_from 1 h.commits)))
 
-pub grown : (c : Cell) (h : History) → IsOn c h → (told : ℕ × Asked) → IsGrown c h (request_step all_kinds h told).1 (request_step all_kinds h told).0
+pub grown : (c : Cell) (h : History) → IsOn c h → (told : ℕ × Asked) → IsGrown c h (request_step h told).1 (request_step h told).0
 grown c h on told = by_event c h on told.0 (event_of h.cell.head.nall (h.bases told.0) told.1)

@@ -11,7 +11,6 @@ use Rattle.std.proofs.lemmas.List.FromFn.{get_or-range_with_len, length-range_wi
 use Rattle.std.proofs.lemmas.Option.{get_or_from_slice_get, slice_get_read}
 use Rattle.s57_types.specs.declared.cell.Cell.{Cell}
 use Rattle.rule_spec.specs.Findings.{all_findings}
-use Rattle.rule_spec.specs.Kinds.{all_kinds}
 use Rattle.text_spec.specs.CellText.{text_with}
 use Rattle.text_spec.specs.Lines.{line}
 use Rattle.text_spec.specs.OrderLine.{order_line}
@@ -61,12 +60,12 @@ module _ (limit : ℕ) (c : Cell) (scripts : List (List Command)) (order : List 
   abbrev told : List ℕ → History → List (ℕ × Reply) → List ℕ
   told commits last replies =
       ((order_line order
-      ++ flat_map (λ session. session_text all_kinds (λ n. cell_after n last.commits c) session (script_of scripts session) (replies_to session replies)) (range_with_len 1 (length scripts)))
+      ++ flat_map (λ session. session_text (λ n. cell_after n last.commits c) session (script_of scripts session) (replies_to session replies)) (range_with_len 1 (length scripts)))
       ++ (line (codes "history") [] ++ commits))
-      ++ text_with last.cell (all_findings all_kinds last.cell)
+      ++ text_with last.cell (all_findings last.cell)
 
   pub whole_report : (lists : List (List Asked)) (text : List ℕ) → lists ≡ map requests_of scripts → IsRun limit c (filter_map (asked_at lists order) (enumerate_from 0 order)) run
-      → text ≡ told run.commits.items (state_of run.history) run.replies.items → text ≡ report all_kinds c scripts order
+      → text ≡ told run.commits.items (state_of run.history) run.replies.items → text ≡ report c scripts order
   unfolding report
   whole_report lists text requests ran is =
       let asked = same_requests lists scripts order requests in
@@ -79,7 +78,7 @@ module _ (limit : ℕ) (c : Cell) (scripts : List (List Command)) (order : List 
       subst (λ (commits : List AcceptedCommit). AreSeen limit (λ n. cell_after n commits c) run.seen.items) (sym (ap (λ (last : History). last.commits) ran.state_is)) ran.seen_are.each
 
   pub left_cell : (lists : List (List Asked)) → lists ≡ map requests_of scripts → IsRun limit c (filter_map (asked_at lists order) (enumerate_from 0 order)) run
-      → run.history.cell ≡ final_cell all_kinds c scripts order
+      → run.history.cell ≡ final_cell c scripts order
   unfolding final_cell
   left_cell lists requests ran =
       let all : IsRun limit c (ordered_requests scripts order) run = subst (λ told. IsRun limit c told run) (same_requests lists scripts order requests) ran in

@@ -3,7 +3,6 @@ use Rattle.std.proofs.Common.{◌≡◌, ℕ, List, [], ◌∷◌, ◌++◌, All
 use Rattle.std.proofs.lemmas.List.Sums.{fold-append}
 use Rattle.std.proofs.lemmas.List.Elements.{All-push}
 use Rattle.s57_types.specs.declared.cell.Cell.{Cell}
-use Rattle.rule_spec.specs.Kinds.{all_kinds}
 use Rattle.history_spec.specs.Sessions.{Request as Asked, history_after, replies_from, request_step}
 use Rattle.history_spec.specs.Steps.{History, opening}
 use Rattle.history_spec.specs.declared.reply.Reply.{Reply}
@@ -15,16 +14,16 @@ use Rattle.plain_replay.proofs.CommitTexts.{IsOn, grown}
 use Rattle.plain_replay.proofs.SeenCells.{seen_more}
 
 pub replies_more : (h : History) (asked : List (ℕ × Asked)) (told : ℕ × Asked)
-    → replies_from all_kinds h (asked ++ (told ∷ [])) ≡ replies_from all_kinds h asked ++ ((told.0, (request_step all_kinds (history_after all_kinds h asked) told).0) ∷ [])
+    → replies_from h (asked ++ (told ∷ [])) ≡ replies_from h asked ++ ((told.0, (request_step (history_after h asked) told).0) ∷ [])
 replies_more h [] told = refl
-replies_more h (first ∷ asked) told = ap (λ rest. (first.0, (request_step all_kinds h first).0) ∷ rest) (replies_more (request_step all_kinds h first).1 asked told)
+replies_more h (first ∷ asked) told = ap (λ rest. (first.0, (request_step h first).0) ∷ rest) (replies_more (request_step h first).1 asked told)
 
-pub state_more : (h : History) (asked : List (ℕ × Asked)) (told : ℕ × Asked) → history_after all_kinds h (asked ++ (told ∷ [])) ≡ (request_step all_kinds (history_after all_kinds h asked) told).1
-state_more h asked told = fold-append (λ state request. (request_step all_kinds state request).1) h asked (told ∷ [])
+pub state_more : (h : History) (asked : List (ℕ × Asked)) (told : ℕ × Asked) → history_after h (asked ++ (told ∷ [])) ≡ (request_step (history_after h asked) told).1
+state_more h asked told = fold-append (λ state request. (request_step state request).1) h asked (told ∷ [])
 
-on_from : (c : Cell) (h : History) → IsOn c h → (asked : List (ℕ × Asked)) → IsOn c (history_after all_kinds h asked)
+on_from : (c : Cell) (h : History) → IsOn c h → (asked : List (ℕ × Asked)) → IsOn c (history_after h asked)
 on_from c h on [] = on
-on_from c h on (told ∷ asked) = on_from c (request_step all_kinds h told).1 (grown c h on told).on asked
+on_from c h on (told ∷ asked) = on_from c (request_step h told).1 (grown c h on told).on asked
 
 abbrev IsBaseOf : Run → ℕ × Reply → Type 0
 IsBaseOf run told = IsBaseBelow (length run.seen.items) told.1
@@ -34,14 +33,14 @@ pub run_more : (limit : ℕ) (c : Cell) (asked : List (ℕ × Asked)) (before af
     → after.limit ≡ before.limit → after.seen.items ≡ before.seen.items ++ accepted_seen before.limit after.history.cell reply → IsRun limit c (asked ++ ((desk, request) ∷ [])) after
 run_more limit c asked before after desk request reply run answered texts replies same seen =
     let told : ℕ × Asked = (desk, request) in
-    let h = history_after all_kinds (opening c) asked in
-    let state : state_of after.history ≡ (request_step all_kinds h told).1 = answered.state_is ∙ ap (λ (s : History). (request_step all_kinds s told).1) run.state_is in
-    let answer : reply ≡ (request_step all_kinds h told).0 = answered.reply_is ∙ ap (λ (s : History). (request_step all_kinds s told).0) run.state_is in
+    let h = history_after (opening c) asked in
+    let state : state_of after.history ≡ (request_step h told).1 = answered.state_is ∙ ap (λ (s : History). (request_step s told).1) run.state_is in
+    let answer : reply ≡ (request_step h told).0 = answered.reply_is ∙ ap (λ (s : History). (request_step s told).0) run.state_is in
     let more = grown c h (on_from c (opening c) refl asked) told in
-    let shown : after.seen.items ≡ before.seen.items ++ accepted_seen limit (request_step all_kinds h told).1.cell (request_step all_kinds h told).0 =
+    let shown : after.seen.items ≡ before.seen.items ++ accepted_seen limit (request_step h told).1.cell (request_step h told).0 =
     seen ∙ (λ i. before.seen.items ++ accepted_seen (run.limit_is i) (state i).cell (answer i)) in
-    let seen_are : AreSeenAfter limit c (request_step all_kinds h told).1.commits after.seen.items =
-    subst (AreSeenAfter limit c (request_step all_kinds h told).1.commits) (sym shown) (seen_more limit c h (request_step all_kinds h told).1 (request_step all_kinds h told).0 before.seen.items more run.seen_are) in
+    let seen_are : AreSeenAfter limit c (request_step h told).1.commits after.seen.items =
+    subst (AreSeenAfter limit c (request_step h told).1.commits) (sym shown) (seen_more limit c h (request_step h told).1 (request_step h told).0 before.seen.items more run.seen_are) in
     record {
       state_is = state ∙ sym (state_more (opening c) asked told);
       replies_are = replies ∙ (λ i. run.replies_are i ++ ((desk, answer i) ∷ [])) ∙ sym (replies_more (opening c) asked told);

@@ -5,7 +5,6 @@ use Rattle.std.specs.List.{enumerate_from, flat_map}
 use Rattle.std.specs.Option.{option_map}
 use Rattle.std.specs.declared.alloc.Global.{Global}
 use Rattle.s57_types.specs.declared.cell.Cell.{Cell}
-use Rattle.rule_spec.specs.Kinds.{all_kinds}
 use Rattle.text_spec.specs.EditLine.{edit_line}
 use Rattle.text_spec.specs.Lines.{line}
 use Rattle.history_spec.specs.ReportText.{commit_text}
@@ -23,7 +22,7 @@ use Rattle.plain_replay.specs.declared.run.Run.{Run}
 
 -- the parts of accepted commits, on the cell that they began with
 abbrev pub commit_texts : Cell → List AcceptedCommit → List ℕ
-commit_texts c commits = flat_map (commit_text all_kinds (λ n. cell_after n commits c)) (enumerate_from 1 commits)
+commit_texts c commits = flat_map (commit_text (λ n. cell_after n commits c)) (enumerate_from 1 commits)
 
 -- the part of a commit that was just accepted, the last of these
 abbrev pub accepted_text : List AcceptedCommit → Reply → List ℕ
@@ -51,11 +50,11 @@ pub record AreSeenAfter (limit : ℕ) (c : Cell) (commits : List AcceptedCommit)
 -- these requests were answered, one after the other, from the opening of a cell on; at most so many findings are shown of
 -- a cell, and each base that an answer names is the number of a commit that was accepted by then
 pub record IsRun (limit : ℕ) (c : Cell) (asked : List (ℕ × Asked)) (run : Run) : Type 0 where
-  pub state_is : state_of run.history ≡ history_after all_kinds (opening c) asked
-  pub replies_are : run.replies.items ≡ replies_from all_kinds (opening c) asked
-  pub commits_are : run.commits.items ≡ commit_texts c (history_after all_kinds (opening c) asked).commits
+  pub state_is : state_of run.history ≡ history_after (opening c) asked
+  pub replies_are : run.replies.items ≡ replies_from (opening c) asked
+  pub commits_are : run.commits.items ≡ commit_texts c (history_after (opening c) asked).commits
   pub limit_is : run.limit ≡ limit
-  pub seen_are : AreSeenAfter limit c (history_after all_kinds (opening c) asked).commits run.seen.items
+  pub seen_are : AreSeenAfter limit c (history_after (opening c) asked).commits run.seen.items
   pub bases_are : All (λ (told : ℕ × Reply). IsBaseBelow (length run.seen.items) told.1) run.replies.items
 
 -- the requests of each session

@@ -3,7 +3,6 @@
 ghost use Rattle.std.specs.Prelude.{◌≡◌, ◌+◌, ◌-◌, ◌^◌, ◌<◌, ◌≤◌, ◌++◌, ◌∷◌, [], All, IfOk, OnOk, filter, length, map, codes, ℕ};
 ghost use Rattle.std.specs.List.{flat_map, range_with_len};
 ghost use Rattle.cell_spec.specs.Writable.{IsWritable};
-ghost use Rattle.rule_spec.specs.Kinds.{all_kinds};
 ghost use Rattle.cell_findings.specs.AllFindings.{IsAllOf};
 ghost use Rattle.history_spec.specs.ReportText.{final_cell, report, session_text};
 ghost use Rattle.s57_types.specs.declared.cell.Cell.{Cell as SpecCell};
@@ -71,7 +70,7 @@ fn push_sessions(
     requires opened { 0 < length seen.now }
     requires bases { All (λ told. IsBaseBelow (length seen.now) told.1) replies.now }
     ensures { (limit : ℕ) (at : ℕ → SpecCell) → AreSeen limit at seen.now → All (All (ShowsAtMost limit)) scripts.now → OnOk result (out.new.items ≡ out.old.items
-        ++ flat_map (λ session. session_text all_kinds at session (script_of scripts.now session) (replies_to_lem session replies.now)) (range_with_len 1 (length scripts.now))) }
+        ++ flat_map (λ session. session_text at session (script_of scripts.now session) (replies_to_lem session replies.now)) (range_with_len 1 (length scripts.now))) }
 {
     for (k, script) in scripts.iter().enumerate() {
         let session = k as u32 + 1;
@@ -113,8 +112,8 @@ pub fn replay(
     requires few { length scripts.now ≤ desk_limit }
     requires runnable { All IsRunnable scripts.now }
     requires sessions { All (λ session. (1 ≤ session) × (session ≤ length scripts.now)) order.now }
-    ensures report { IfOk result (λ replayed. replayed.report.items ≡ report all_kinds cell scripts.now order.now) }
-    ensures cell { IfOk result (λ replayed. replayed.cell ≡ final_cell all_kinds cell scripts.now order.now) }
+    ensures report { IfOk result (λ replayed. replayed.report.items ≡ report cell scripts.now order.now) }
+    ensures cell { IfOk result (λ replayed. replayed.cell ≡ final_cell cell scripts.now order.now) }
     ensures writable { IfOk result (λ replayed. IsWritable replayed.cell) }
 {
     let history = History::open(alloc, cell, findings);

@@ -3,9 +3,10 @@ ghost use Rattle.chain_topo.specs.Readable.{IsReadable};
 
 use crate::charts::{Name, Shape, Sketch, at, bare, chart_of, named};
 use cell_spec::{Finding, Key};
-use chain_topo::{ListLook, Steps};
+use chain_topo::{ListLook};
 use check_area::area_findings;
 use geometry_spec::Point;
+use look_counter::start_counter;
 use near_records::gather;
 use s57_types::Kind::{Vc, Ve};
 use s57_types::{Cell as Chart, Rec};
@@ -125,7 +126,7 @@ fn judged<L: Ledger>(
     requires some_part { 0 < L.parts }
 {
     let look = ListLook::make(alloc, chart)?;
-    let mut steps = Steps::<L>::start(blank);
+    let mut steps = start_counter::<L>(blank);
     let keys = keys(alloc)?;
     let near = gather(alloc, &look, &keys, &mut steps)?;
     match chart.fe.as_slice() {

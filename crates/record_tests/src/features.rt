@@ -3,8 +3,9 @@ ghost use Rattle.chain_topo.specs.Readable.{IsReadable};
 
 use crate::charts::{Name, Place, Shape, Sketch, at, bare, chart_of, foid, named};
 use cell_spec::{Finding, Key};
-use chain_topo::{ListLook, Steps};
+use chain_topo::{ListLook};
 use check_feature::feature_findings;
+use look_counter::start_counter;
 use near_records::gather;
 use s57_types::Kind::{Vc, Ve, Vi};
 use s57_types::{Cell as Chart, Rec};
@@ -68,7 +69,7 @@ fn judged<L: Ledger>(
     requires some_part { 0 < L.parts }
 {
     let look = ListLook::make(alloc, chart)?;
-    let mut steps = Steps::<L>::start(blank);
+    let mut steps = start_counter::<L>(blank);
     let keys = keys_of(alloc, sketch)?;
     let near = gather(alloc, &look, &keys, &mut steps)?;
     match chart.fe.as_slice() {

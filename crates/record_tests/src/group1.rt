@@ -3,8 +3,9 @@ ghost use Rattle.chain_topo.specs.Readable.{IsReadable};
 
 use crate::charts::{Place, Sketch, at, bare, chart_of, named};
 use cell_spec::{Finding, Key, Row, Subject};
-use chain_topo::{ListLook, Steps};
+use chain_topo::{ListLook};
 use check_group1::{verdict_ident, verdict_side};
+use look_counter::start_counter;
 use s57_types::Kind::Ve;
 use s57_types::{Cell, Lnam};
 use std::alloc::{AllocError, Global};
@@ -51,7 +52,7 @@ fn rows_of<L: Ledger>(alloc: Global, cell: &Cell, blank: Blank) -> Result<(Row, 
     requires some_part { 0 < L.parts }
 {
     let look = ListLook::make(alloc, cell)?;
-    let mut steps = Steps::<L>::start(blank);
+    let mut steps = start_counter::<L>(blank);
     let side = verdict_side(alloc, &look, named((Ve, 1)), &mut steps)?;
     let identity = verdict_ident(alloc, &look, IDENTITY, &mut steps)?;
     Ok((side, identity))

@@ -6,6 +6,7 @@ use cell_spec::{Finding, Key, Ref, Row, Subject};
 use chain_topo::{ListLook, Look, Steps};
 use check_record::verdict_rec;
 use geometry_spec::Point;
+use look_counter::start_counter;
 use s57_types::Kind::{Fe, Vc, Ve, Vi};
 use s57_types::{Cell as Chart, Lnam, Rec, RecName};
 use std::alloc::{AllocError, Global};
@@ -123,7 +124,7 @@ fn judged<L: Ledger>(
         look: ListLook::make(alloc, chart)?,
         answers: Cell::new(0),
     };
-    let mut steps = Steps::<L>::start(blank);
+    let mut steps = start_counter::<L>(blank);
     let row = verdict_rec(alloc, &look, name, &mut steps)?;
     assert!(rt; look.answers.get() <= row.reads.len().saturating_mul(4));
     Ok(row)

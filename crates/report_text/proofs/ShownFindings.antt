@@ -10,7 +10,6 @@ use Rattle.s57_types.specs.declared.cell.Cell.{Cell}
 use Rattle.cell_spec.specs.declared.finding.Finding.{Finding}
 use Rattle.cell_spec.specs.declared.key.Subject.{Subject}
 use Rattle.rule_spec.specs.Findings.{all_findings, finding_total}
-use Rattle.rule_spec.specs.Kinds.{all_kinds}
 use Rattle.text_spec.specs.CellText.{finding_line}
 use Rattle.text_spec.specs.Lines.{line}
 use Rattle.cell_findings.specs.Rows.{findings_of_row, findings_of_rows, line_of, with_subject}
@@ -51,11 +50,11 @@ abbrev headed : ℕ → ℕ → List ℕ
 headed base total = line (codes "list") (codes "seen" ∷ decimal base ∷ codes "findings" ∷ decimal total ∷ [])
 
 pub lines_shown : (limit base shown : ℕ) (c : Cell) (seen : Seen) (start first whole : List ℕ) → seen ≡ seen_of limit c → shown ≤ limit
-    → first ≡ start ++ headed base seen.total → whole ≡ first ++ flat_map line_of (take shown seen.first) → whole ≡ start ++ list_lines all_kinds base shown c
+    → first ≡ start ++ headed base seen.total → whole ≡ first ++ flat_map line_of (take shown seen.first) → whole ≡ start ++ list_lines base shown c
 lines_shown limit base shown c seen start first whole is within is_first is_whole =
-    let rows = all_findings all_kinds c in
+    let rows = all_findings c in
     is_whole
     ∙ (λ i. is_first i ++ flat_map line_of (take shown (Seen.first (is i))))
     ∙ (λ i. (start ++ headed base (Seen.total (is i))) ++ shown_text limit shown rows within i)
     ∙ ap (λ total. (start ++ headed base total) ++ flat_map (λ l. l) (take shown (flat_map (λ (row : Subject × List Finding). map (finding_line row.0) row.1) rows))) (row_counts rows)
-    ∙ append_assoc start (headed base (finding_total all_kinds c)) (flat_map (λ l. l) (take shown (flat_map (λ (row : Subject × List Finding). map (finding_line row.0) row.1) rows)))
+    ∙ append_assoc start (headed base (finding_total c)) (flat_map (λ l. l) (take shown (flat_map (λ (row : Subject × List Finding). map (finding_line row.0) row.1) rows)))

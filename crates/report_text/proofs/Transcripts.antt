@@ -3,7 +3,6 @@ use Rattle.std.proofs.Common.{◌≡◌, ℕ, true, false, List, [], ◌∷◌, 
 use Rattle.std.specs.Fmt.{decimal}
 use Rattle.std.proofs.lemmas.List.{append_assoc}
 use Rattle.s57_types.specs.declared.cell.Cell.{Cell}
-use Rattle.rule_spec.specs.Kinds.{all_kinds}
 use Rattle.text_spec.specs.Lines.{line}
 use Rattle.text_spec.specs.ScriptLines.{is_shared}
 use Rattle.text_spec.specs.declared.command.Command.{Command}
@@ -43,7 +42,7 @@ local_transcript at base drafted (Findings shown) commands replies local = refl
 local_transcript at base drafted (Push edit) commands replies local = refl
 
 pub session_lines : (at : ℕ → Cell) (session : ℕ) (commands : List Command) (replies : List Reply) (start headed whole : List ℕ)
-    → headed ≡ start ++ line (codes "session") (decimal session ∷ []) → whole ≡ headed ++ transcript at 0 0 commands replies → whole ≡ start ++ session_text all_kinds at session commands replies
+    → headed ≡ start ++ line (codes "session") (decimal session ∷ []) → whole ≡ headed ++ transcript at 0 0 commands replies → whole ≡ start ++ session_text at session commands replies
 unfolding transcript
 session_lines at session commands replies start headed whole is_headed is_whole =
     let head = line (codes "session") (decimal session ∷ []) in

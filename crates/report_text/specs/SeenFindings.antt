@@ -2,7 +2,6 @@
 use Rattle.std.specs.Prelude.{◌≡◌, ℕ, ◌<◌, ◌≤◌, List, length, take, slice_index_or}
 use Rattle.s57_types.specs.declared.cell.Cell.{Cell}
 use Rattle.rule_spec.specs.Findings.{all_findings}
-use Rattle.rule_spec.specs.Kinds.{all_kinds}
 use Rattle.text_spec.specs.declared.command.Command.{Command}
 use Rattle.text_spec.specs.declared.command.Command.TheVariants.{View, Commit, Drop, List as Findings, Push}
 use Rattle.cell_findings.specs.Rows.{findings_of_rows}
@@ -15,7 +14,7 @@ seen_among limit findings = record { total = length findings; first = take limit
 
 -- of the findings of a cell
 abbrev pub seen_of : ℕ → Cell → Seen
-seen_of limit c = seen_among limit (findings_of_rows (all_findings all_kinds c))
+seen_of limit c = seen_among limit (findings_of_rows (all_findings c))
 
 -- of the cells after no commit, one commit and so on
 abbrev pub AreSeen : ℕ → (ℕ → Cell) → List Seen → Type 0

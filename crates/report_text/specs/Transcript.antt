@@ -1,7 +1,6 @@
 -- The lines of a session, command by command. This project's own text.
 use Rattle.std.specs.Prelude.{ℕ, ◌+◌, ◌<◌, List}
 use Rattle.s57_types.specs.declared.cell.Cell.{Cell}
-use Rattle.rule_spec.specs.Kinds.{all_kinds}
 use Rattle.text_spec.specs.declared.command.Command.{Command}
 use Rattle.text_spec.specs.declared.command.Command.TheVariants.{View, Commit, Drop, List as Findings, Push}
 use Rattle.history_spec.specs.declared.reply.Reply.{Reply}
@@ -20,12 +19,12 @@ abbrev pub local_lines : (ℕ → Cell) → ℕ → ℕ → Command → List ℕ
 local_lines at base drafted View = draft_line drafted
 local_lines at base drafted Commit = draft_line drafted
 local_lines at base drafted Drop = draft_line drafted
-local_lines at base drafted (Findings shown) = list_lines all_kinds base shown (at base)
+local_lines at base drafted (Findings shown) = list_lines base shown (at base)
 local_lines at base drafted (Push edit) = draft_line drafted
 
 -- the lines of commands, with findings of all kinds
 unfoldable pub transcript : (ℕ → Cell) → ℕ → ℕ → List Command → List Reply → List ℕ
-transcript at base drafted commands replies = transcript_from all_kinds at base drafted commands replies
+transcript at base drafted commands replies = transcript_from at base drafted commands replies
 
 -- where an answer moves the base, it moves it below a number
 abbrev pub IsBaseBelow : ℕ → Reply → Type 0

@@ -1,9 +1,7 @@
 //! What a command shows of the findings of a cell.
 
 ghost use Rattle.std.specs.Prelude.{◌≡◌, ◌++◌, ◌<◌, ◌≤◌, ◌^◌, ℕ, All, IfOk, OnOk, length, take};
-ghost use Rattle.cell_findings.specs.Rows.{HasKnownKind};
 ghost use Rattle.s57_types.specs.declared.cell.Cell.{Cell as SpecCell};
-ghost use Rattle.rule_spec.specs.Kinds.{all_kinds};
 ghost use Rattle.history_spec.specs.ReportText.{list_lines};
 ghost use Rattle.report_text.specs.SeenFindings.{seen_among, seen_of};
 
@@ -55,7 +53,7 @@ pub(crate) fn push_list(
     shown: u32,
     seen: &Seen,
 ) -> Result<(), AllocError>
-    ensures { (c : SpecCell) (limit : ℕ) → seen.now ≡ seen_of limit c → shown ≤ limit → OnOk result (out.new.items ≡ out.old.items ++ list_lines all_kinds base shown c) }
+    ensures { (c : SpecCell) (limit : ℕ) → seen.now ≡ seen_of limit c → shown ≤ limit → OnOk result (out.new.items ≡ out.old.items ++ list_lines base shown c) }
 {
     push_state(out, "list", "seen", base, seen.total)?;
     push_findings(out, at_most(seen.first.as_slice(), shown))

@@ -1,7 +1,6 @@
 //! The part of a session.
 
 ghost use Rattle.std.specs.Prelude.{◌≡◌, ◌++◌, ◌<◌, ◌+◌, ◌^◌, ◌∷◌, [], All, OnOk, ℕ, codes, decimal, length, map};
-ghost use Rattle.rule_spec.specs.Kinds.{all_kinds};
 ghost use Rattle.s57_types.specs.declared.cell.Cell.{Cell as SpecCell};
 ghost use Rattle.text_spec.specs.Lines.{line};
 ghost use Rattle.text_spec.specs.ScriptLines.{is_shared as is_shared_lem};
@@ -122,7 +121,7 @@ pub fn push_session(
     requires opened { 0 < length seen.now }
     requires bases { All (IsBaseBelow (length seen.now)) (map (λ reply. reply.now) replies.now) }
     ensures { (limit : ℕ) (at : ℕ → SpecCell) → AreSeen limit at seen.now → All (ShowsAtMost limit) commands.now
-        → OnOk result (out.new.items ≡ out.old.items ++ session_text all_kinds at session commands.now (map (λ reply. reply.now) replies.now)) }
+        → OnOk result (out.new.items ≡ out.old.items ++ session_text at session commands.now (map (λ reply. reply.now) replies.now)) }
 {
     push_head(out, session)?;
     push_transcript(out, commands, replies, seen)

@@ -13,7 +13,6 @@ use Rattle.cell_spec.specs.Edits.{apply_edits, is_applicable, touched_keys}
 use Rattle.cell_spec.specs.Lookup.{name_of}
 use Rattle.rule_spec.specs.Affected.{change_by, is_affected, affected_list, RowsAreExact, lookup_budget}
 use Rattle.rule_spec.specs.Findings.{subjects, finding}
-use Rattle.rule_spec.specs.Kinds.{all_kinds}
 use Rattle.rule_spec.specs.Reads.{read_set}
 use Rattle.sample_cells.specs.Parts.{vc, ve, fe, lnam, at, node, edge}
 use Rattle.sample_cells.specs.Samples.{grid, closed_edge, used_by_line, self_named, node_on_line}
@@ -83,6 +82,6 @@ moved_rows =
 -- those rows, the orphan that a deletion leaves, and no row where the cell doesn't take the edit
 abbrev pub RowsAreAsListed : Type 0
 RowsAreAsListed =
-    RowsAreExact all_kinds (Set (node 3 (at 0 7)) ∷ []) node_on_line moved_rows ×
-    RowsAreExact all_kinds (Del (fe 1) ∷ []) (apply_edits (used_by_line ∷ []) closed_edge) (row (Side (ve 1)) (finding 21 [] ∷ []) (Name (ve 1) ∷ Refs (ve 1) ∷ []) ∷ []) ×
-    RowsAreExact all_kinds (Del (vc 9) ∷ []) closed_edge []
+    RowsAreExact (Set (node 3 (at 0 7)) ∷ []) node_on_line moved_rows ×
+    RowsAreExact (Del (fe 1) ∷ []) (apply_edits (used_by_line ∷ []) closed_edge) (row (Side (ve 1)) (finding 21 [] ∷ []) (Name (ve 1) ∷ Refs (ve 1) ∷ []) ∷ []) ×
+    RowsAreExact (Del (vc 9) ∷ []) closed_edge []

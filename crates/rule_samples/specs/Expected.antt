@@ -6,7 +6,6 @@ use Rattle.cell_spec.specs.declared.finding.Finding.{Finding}
 use Rattle.cell_spec.specs.declared.key.Subject.{Subject}
 use Rattle.cell_spec.specs.declared.key.Subject.TheVariants.{Rec, Side, Pair, Ident}
 use Rattle.rule_spec.specs.Findings.{all_findings, finding, finding_total}
-use Rattle.rule_spec.specs.Kinds.{all_kinds}
 use Rattle.sample_cells.specs.Parts.{head, vi, vc, ve, fe, lnam, at, node, edge, end_of, vector, outer, inner, feature, depth_area, square}
 use Rattle.sample_cells.specs.Samples.{empty_cell, grid, grid_after, dangling, closed_edge, used_by_line, stacked_edge, diagonals, node_on_line, touching_edges, overlapping_edges, self_named, knotted_edges, misshapen, nodes_at_one_place, two_squares, ring_area, eight, faulty_features, truncated_square}
 use Rattle.cell_spec.specs.Edits.{apply_edits}
@@ -100,8 +99,8 @@ side_samples = (
 
 -- what is found in each cell is what stands beside it
 abbrev pub AreFoundAs : List Sample → Type 0
-AreFoundAs samples = map (λ (s : Sample). all_findings all_kinds s.0) samples ≡ map (λ (s : Sample). s.1) samples
+AreFoundAs samples = map (λ (s : Sample). all_findings s.0) samples ≡ map (λ (s : Sample). s.1) samples
 
 -- 8 nodes at one place are 8 * 7 / 2 pairs
 abbrev pub PlacedNodesCount : Type 0
-PlacedNodesCount = finding_total all_kinds (nodes_at_one_place (1 ∷ 2 ∷ 3 ∷ 4 ∷ 5 ∷ 6 ∷ 7 ∷ 8 ∷ [])) ≡ 28
+PlacedNodesCount = finding_total (nodes_at_one_place (1 ∷ 2 ∷ 3 ∷ 4 ∷ 5 ∷ 6 ∷ 7 ∷ 8 ∷ [])) ≡ 28

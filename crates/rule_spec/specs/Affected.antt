@@ -1,7 +1,6 @@
 -- Which subjects are judged anew after edits, in which order, with which rows, and within how many lookups. This project's own rules.
 use Rattle.std.specs.Prelude.{◌≡◌, ℕ, ◌+◌, ◌*◌, ◌&&◌, ◌||◌, Bool, true, false, not, List, [], ◌∷◌, ◌++◌, length, map, filter, flat_map, sum_by, IsPermutation, MatchBool, if◌then◌else◌}
 use Rattle.std.specs.List.{list_any}
-use Rattle.std.specs.Ordering.{is_eq}
 use Rattle.s57_types.specs.declared.name.RecName.{RecName}
 use Rattle.s57_types.specs.declared.cell.Cell.{Cell}
 use Rattle.cell_spec.specs.declared.edit.Edit.{Edit}
@@ -11,17 +10,11 @@ use Rattle.cell_spec.specs.declared.key.Key.TheVariants.{Name, Refs, Foid}
 use Rattle.cell_spec.specs.declared.key.Subject.{Subject}
 use Rattle.cell_spec.specs.declared.key.Subject.TheVariants.{Rec, Side, Pair, Ident}
 use Rattle.cell_spec.specs.Edits.{apply_edits, is_applicable, touched_keys}
-use Rattle.cell_spec.specs.Names.{key_order, subject_order}
+use Rattle.cell_spec.specs.Names.{same_key, same_subject}
 use Rattle.rule_spec.specs.Candidates.{are_candidates, candidates_of}
 use Rattle.rule_spec.specs.Findings.{is_subject, subjects, is_below, findings_of_subject}
 use Rattle.rule_spec.specs.Reads.{read_set}
 use Rattle.rule_spec.specs.Records.{is_edge_name}
-
-abbrev pub same_key : Key → Key → Bool
-same_key a b = is_eq (key_order a b)
-
-abbrev pub same_subject : Subject → Subject → Bool
-same_subject a b = is_eq (subject_order a b)
 
 -- whether a subject's read set holds a key
 abbrev pub reads_key : Cell → Key → Subject → Bool
@@ -89,22 +82,34 @@ abbrev pub each_once : List Subject → List Subject
 each_once [] = []
 each_once (s ∷ ss) = s ∷ filter (λ t. not (same_subject s t)) (each_once ss)
 
--- the affected subjects of the edited cell in the order in which they are judged: the first round, then the pairs of its records in that order
+-- what is looked at after edits: the first round, then the pairs of its records in that order
+abbrev pub considered : Change → List Subject
+considered ch = let first = first_round ch in first ++ flat_map (pairs_with ch) first
+
+-- the affected subjects of the edited cell in the order in which they are looked at first
 unfoldable pub affected_list : Change → List Subject
-affected_list ch = let first = first_round ch in filter (is_subject ch.after) (each_once (first ++ flat_map (pairs_with ch) first))
+affected_list ch = filter (is_subject ch.after) (each_once (considered ch))
 
 -- the row of a subject of a cell
-abbrev pub exact_row : List ℕ → Cell → Subject → Row
-exact_row asked c s = record { subject = s; findings = findings_of_subject asked c s; reads = read_set c s }
+abbrev pub exact_row : Cell → Subject → Row
+exact_row c s = record { subject = s; findings = findings_of_subject c s; reads = read_set c s }
 
 -- rows computed for edits on a cell are exact: one for each affected subject of the edited cell, right there, in any order, and no other;
 -- none where the cell doesn't take the edits
-abbrev pub RowsAreExact : List ℕ → List Edit → Cell → List Row → Type 0
-RowsAreExact asked edits c rows =
+abbrev pub RowsAreExact : List Edit → Cell → List Row → Type 0
+RowsAreExact edits c rows =
     let ch = change_by edits c in
-    MatchBool (is_applicable edits c) (IsPermutation rows (map (exact_row asked ch.after) (affected_list ch))) (rows ≡ [])
+    MatchBool (is_applicable edits c) (IsPermutation rows (map (exact_row ch.after) (affected_list ch))) (rows ≡ [])
 
--- the length of a subject's read set in a cell that has the subject
+-- a row for a subject stands among some rows and is still valid
+abbrev pub has_valid_row : List Key → List Row → Subject → Bool
+has_valid_row stale rows s = list_any (λ (row : Row). same_subject s row.subject && is_still_valid stale row) rows
+
+-- the affected subjects that have no valid row, in the order of the affected list
+abbrev pub judged_anew : Change → List Key → List Row → List Subject
+judged_anew ch stale rows = filter (λ s. not (has_valid_row stale rows s)) (affected_list ch)
+
+-- the length of a subject's read set in a cell that has the subject; a cell that lacks it counts none, though the read set is defined there too
 abbrev pub reads_counted : Cell → Subject → ℕ
 reads_counted c s = if is_subject c s then length (read_set c s) else 0
 
@@ -113,3 +118,9 @@ unfoldable pub lookup_budget : List Edit → Cell → List Subject → ℕ
 lookup_budget edits c judged =
     let ch = change_by edits c in
     4 * (sum_by (λ s. reads_counted ch.before s + reads_counted ch.after s) judged + length ch.touched + length edits)
+
+-- how many lookups a plan of edits may make: for edits that a cell takes those that judge the affected subjects without a valid row, else four
+-- for each edit
+abbrev pub plan_budget : List Edit → Cell → List Key → List Row → ℕ
+plan_budget edits c stale rows =
+    if is_applicable edits c then lookup_budget edits c (judged_anew (change_by edits c) stale rows) else 4 * length edits

@@ -1,6 +1,5 @@
 -- Subjects and findings of a cell.
-use Rattle.std.specs.Prelude.{ℕ, ◌==◌, ◌&&◌, Bool, List, [], ◌∷◌, ◌++◌, length, map, filter, flat_map, sum_by, is_some, slice_index, nat_lt, if◌then◌else◌}
-use Rattle.std.specs.List.{enumerate_from, list_any}
+use Rattle.std.specs.Prelude.{ℕ, ◌&&◌, Bool, List, [], ◌∷◌, ◌++◌, length, map, filter, flat_map, sum_by, is_some, slice_index, nat_lt, if◌then◌else◌}
 use Rattle.std.specs.Option.{option_map_or}
 use Rattle.std.specs.Ordering.{is_lt}
 use Rattle.s57_types.specs.declared.name.Lnam.{Lnam}
@@ -16,6 +15,7 @@ use Rattle.cell_spec.specs.Lookup.{all_records, name_of, identities_of, lookup_r
 use Rattle.cell_spec.specs.Names.{name_order, subject_order}
 use Rattle.rule_spec.specs.Records.{edge_named, is_chain_part}
 use Rattle.rule_spec.specs.Rule.{Found}
+use Rattle.rule_spec.specs.RuleRow.{RuleRow}
 use Rattle.rule_spec.specs.Rules.{vector_rules, pair_rules, feature_rules, side_rules, identity_rules}
 
 abbrev pub is_below : RecName → RecName → Bool
@@ -41,42 +41,38 @@ possible_subjects names identities = map Rec names ++ map Side names ++ flat_map
 unfoldable pub subjects : Cell → List Subject
 subjects c = ascending subject_order (filter (is_subject c) (possible_subjects (record_names c) (flat_map identities_of (all_records c))))
 
-abbrev pub is_asked : List ℕ → ℕ → Bool
-is_asked asked kind = list_any (λ other. other == kind) asked
-
 -- a finding of a kind; numbers that it doesn't use are 0
 abbrev pub finding : ℕ → List ℕ → Finding
 finding kind nums = record { kind = kind; nums = slice_index nums 0 ∷ slice_index nums 1 ∷ slice_index nums 2 ∷ slice_index nums 3 ∷ [] }
 
--- the findings of rules whose kinds count from a number on, of the kinds asked for; `judge` gives a rule its subject
-abbrev pub numbered_findings : {R : Type 0} → List ℕ → (R → Found) → ℕ → List R → List Finding
-numbered_findings {R} asked judge first rules =
-    flat_map (λ (rule : ℕ × R). if is_asked asked rule.0 then map (finding rule.0) (judge rule.1) else []) (enumerate_from first rules)
+-- the findings of rules; `judge` gives a rule its subject
+abbrev pub findings_of_rules : {R : Type 0} → (R → Found) → List (RuleRow R) → List Finding
+findings_of_rules {R} judge rules = flat_map (λ (r : RuleRow R). map (finding r.label.kind) (judge r.rule)) rules
 
 -- the findings about a record
-abbrev pub findings_of_record : List ℕ → Cell → Record → List Finding
-findings_of_record asked c (V v) = numbered_findings asked (λ rule. rule c v) 1 vector_rules
-findings_of_record asked c (F f) = numbered_findings asked (λ rule. rule c f) 12 feature_rules
+abbrev pub findings_of_record : Cell → Record → List Finding
+findings_of_record c (V v) = findings_of_rules (λ rule. rule c v) vector_rules
+findings_of_record c (F f) = findings_of_rules (λ rule. rule c f) feature_rules
 
 -- the findings about what is named by a subject
-abbrev pub findings_about : List ℕ → Cell → Subject → List Finding
-findings_about asked c (Rec n) = option_map_or (findings_of_record asked c) (lookup_record c n) []
-findings_about asked c (Side n) = numbered_findings asked (λ rule. rule c n) 21 side_rules
-findings_about asked c (Pair a b) = numbered_findings asked (λ rule. rule c a b) 7 pair_rules
-findings_about asked c (Ident l) = numbered_findings asked (λ rule. rule c l) 25 identity_rules
+abbrev pub findings_about : Cell → Subject → List Finding
+findings_about c (Rec n) = option_map_or (findings_of_record c) (lookup_record c n) []
+findings_about c (Side n) = findings_of_rules (λ rule. rule c n) side_rules
+findings_about c (Pair a b) = findings_of_rules (λ rule. rule c a b) pair_rules
+findings_about c (Ident l) = findings_of_rules (λ rule. rule c l) identity_rules
 
--- the findings about a subject of the kinds asked for, ascending by kind and numbers; none for what is no subject of the cell
-unfoldable pub findings_of_subject : List ℕ → Cell → Subject → List Finding
-findings_of_subject asked c s = if is_subject c s then findings_about asked c s else []
+-- the findings about a subject by all rules, ascending by kind and numbers; none for what is no subject of the cell
+unfoldable pub findings_of_subject : Cell → Subject → List Finding
+findings_of_subject c s = if is_subject c s then findings_about c s else []
 
 -- those of some subjects that have a finding, each with its findings
-abbrev pub findings_among : List ℕ → Cell → List Subject → List (Subject × List Finding)
-findings_among asked c ss = filter (λ (row : Subject × List Finding). nat_lt 0 (length row.1)) (map (λ s. (s, findings_of_subject asked c s)) ss)
+abbrev pub findings_among : Cell → List Subject → List (Subject × List Finding)
+findings_among c ss = filter (λ (row : Subject × List Finding). nat_lt 0 (length row.1)) (map (λ s. (s, findings_of_subject c s)) ss)
 
 -- the subjects that have a finding, ascending, each with its findings
-unfoldable pub all_findings : List ℕ → Cell → List (Subject × List Finding)
-all_findings asked c = findings_among asked c (subjects c)
+unfoldable pub all_findings : Cell → List (Subject × List Finding)
+all_findings c = findings_among c (subjects c)
 
 -- how many findings a cell has
-abbrev pub finding_total : List ℕ → Cell → ℕ
-finding_total asked c = sum_by (λ (row : Subject × List Finding). length row.1) (all_findings asked c)
+abbrev pub finding_total : Cell → ℕ
+finding_total c = sum_by (λ (row : Subject × List Finding). length row.1) (all_findings c)

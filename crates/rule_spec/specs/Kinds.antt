@@ -1,23 +1,23 @@
--- The kinds of finding. This project's own numbers and names.
-use Rattle.std.specs.Prelude.{ℕ, ◌-◌, List, [], ◌∷◌, codes, slice_index_or}
+-- The kinds of finding that the rules give. This project's own numbers and names.
+use Rattle.std.specs.Prelude.{ℕ, ◌==◌, List, [], ◌++◌, map, find}
+use Rattle.std.specs.Option.{option_map_or}
+use Rattle.rule_spec.specs.RuleRow.{Label, RuleRow}
+use Rattle.rule_spec.specs.Rules.{vector_rules, pair_rules, feature_rules, side_rules, identity_rules}
 
--- the name of each kind, from kind 1 on, and how many numbers a finding of it has
-abbrev pub kinds : List (List ℕ × ℕ)
-kinds =
-    (codes "BadShape", 0) ∷ (codes "EndCount", 3) ∷ (codes "DanglingEnd", 1) ∷ (codes "Stacked", 1) ∷ (codes "SelfMeet", 2) ∷
-    (codes "NodePointer", 0) ∷ (codes "Cross", 2) ∷ (codes "Touch", 2) ∷ (codes "Coincide", 2) ∷ (codes "SamePlace", 0) ∷
-    (codes "NodeOnEdge", 1) ∷ (codes "PrimRefs", 0) ∷ (codes "DanglingRef", 1) ∷ (codes "BadCodes", 1) ∷ (codes "OpenRing", 1) ∷
-    (codes "MixedRing", 1) ∷ (codes "OuterCount", 1) ∷ (codes "WrongTurn", 1) ∷ (codes "DanglingFeature", 1) ∷ (codes "WrongGroup", 0) ∷
-    (codes "Orphan", 0) ∷ (codes "SideOverlap", 4) ∷ (codes "SideUnbalanced", 4) ∷ (codes "FalseTruncation", 2) ∷ (codes "TwiceFoid", 1) ∷ []
+abbrev pub label_of : {R : Type 0} → RuleRow R → Label
+label_of row = row.label
 
--- the name that reports print for a kind
+-- what reports print of each kind
+abbrev pub labels : List Label
+labels = map label_of vector_rules ++ map label_of pair_rules ++ map label_of feature_rules ++ map label_of side_rules ++ map label_of identity_rules
+
+abbrev pub in_label : {X : Type 0} → (Label → X) → X → ℕ → X
+in_label part other kind = option_map_or part (find (λ (label : Label). label.kind == kind) labels) other
+
+-- the name that reports print for a kind; empty for a number that is no kind's
 abbrev pub kind_name : ℕ → List ℕ
-kind_name kind = (slice_index_or kinds (kind - 1) (codes "", 0)).0
+kind_name = in_label (λ label. label.name) []
 
 -- how many of its numbers reports print
 abbrev pub number_count : ℕ → ℕ
-number_count kind = (slice_index_or kinds (kind - 1) (codes "", 0)).1
-
--- all kinds
-abbrev pub all_kinds : List ℕ
-all_kinds = 1 ∷ 2 ∷ 3 ∷ 4 ∷ 5 ∷ 6 ∷ 7 ∷ 8 ∷ 9 ∷ 10 ∷ 11 ∷ 12 ∷ 13 ∷ 14 ∷ 15 ∷ 16 ∷ 17 ∷ 18 ∷ 19 ∷ 20 ∷ 21 ∷ 22 ∷ 23 ∷ 24 ∷ 25 ∷ []
+number_count = in_label (λ label. label.count) 0

@@ -11,6 +11,7 @@ pub mod Loops
 pub mod Reads
 pub mod Records
 pub mod Rule
+pub mod RuleRow
 pub mod Rules
 pub mod Sides
 pub mod Vectors

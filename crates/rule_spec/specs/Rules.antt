@@ -1,5 +1,6 @@
--- The rules by what they are about, in the order of their numbers.
-use Rattle.std.specs.Prelude.{List, [], ◌∷◌, if◌then◌else◌}
+-- The rules by what they are about, each with the number of its kind, its name and how many numbers its findings print; within a list the
+-- numbers ascend, which is the order of a subject's findings. This project's own numbers and names.
+use Rattle.std.specs.Prelude.{List, [], ◌∷◌, codes, if◌then◌else◌}
 use Rattle.s57_types.specs.declared.cell.Cell.{Cell}
 use Rattle.s57_types.specs.declared.name.Lnam.{Lnam}
 use Rattle.s57_types.specs.declared.name.RecName.{RecName}
@@ -11,6 +12,8 @@ use Rattle.rule_spec.specs.EdgeEnds.{end_count, dangling_end}
 use Rattle.rule_spec.specs.Features.{prim_refs, dangling_ref, bad_codes, dangling_feature, wrong_group}
 use Rattle.rule_spec.specs.Records.{is_node_name, is_edge_name}
 use Rattle.rule_spec.specs.Rule.{Found}
+use Rattle.rule_spec.specs.RuleRow.{RuleRow, row}
+use Rattle.rule_spec.specs.declared.kind.TheConstants.{BAD_SHAPE, END_COUNT, DANGLING_END, STACKED, SELF_MEET, NODE_POINTER, CROSS, TOUCH, COINCIDE, SAME_PLACE, NODE_ON_EDGE, PRIM_REFS, DANGLING_REF, BAD_CODES, OPEN_RING, MIXED_RING, OUTER_COUNT, WRONG_TURN, DANGLING_FEATURE, WRONG_GROUP, ORPHAN, SIDE_OVERLAP, SIDE_UNBALANCED, FALSE_TRUNCATION, TWICE_FOID}
 use Rattle.rule_spec.specs.Sides.{orphan, side_overlap, side_unbalanced, false_truncation, twice_foid}
 use Rattle.rule_spec.specs.Vectors.{bad_shape, stacked, self_meet, node_pointer}
 
@@ -21,23 +24,52 @@ on_edges rule c v = if is_edge_name v.name then rule c v else []
 abbrev pub on_nodes : (Cell → Vector → Found) → Cell → Vector → Found
 on_nodes rule c v = if is_node_name v.name then rule c v else []
 
--- kinds 1 to 6, about a vector record
-abbrev pub vector_rules : List (Cell → Vector → Found)
-vector_rules = bad_shape ∷ on_edges end_count ∷ on_edges dangling_end ∷ on_edges stacked ∷ on_edges self_meet ∷ on_nodes node_pointer ∷ []
+-- about a vector record
+abbrev pub vector_rules : List (RuleRow (Cell → Vector → Found))
+vector_rules =
+    row BAD_SHAPE (codes "BadShape") 0 bad_shape ∷
+    row END_COUNT (codes "EndCount") 3 (on_edges end_count) ∷
+    row DANGLING_END (codes "DanglingEnd") 1 (on_edges dangling_end) ∷
+    row STACKED (codes "Stacked") 1 (on_edges stacked) ∷
+    row SELF_MEET (codes "SelfMeet") 2 (on_edges self_meet) ∷
+    row NODE_POINTER (codes "NodePointer") 0 (on_nodes node_pointer) ∷
+    []
 
--- kinds 7 to 11, about two connected nodes or edges, the lesser name first
-abbrev pub pair_rules : List (Cell → RecName → RecName → Found)
-pair_rules = cross ∷ touch ∷ coincide ∷ same_place ∷ node_on_edge ∷ []
+-- about two connected nodes or edges, the lesser name first
+abbrev pub pair_rules : List (RuleRow (Cell → RecName → RecName → Found))
+pair_rules =
+    row CROSS (codes "Cross") 2 cross ∷
+    row TOUCH (codes "Touch") 2 touch ∷
+    row COINCIDE (codes "Coincide") 2 coincide ∷
+    row SAME_PLACE (codes "SamePlace") 0 same_place ∷
+    row NODE_ON_EDGE (codes "NodeOnEdge") 1 node_on_edge ∷
+    []
 
--- kinds 12 to 20, about a feature
-abbrev pub feature_rules : List (Cell → Feature → Found)
+-- about a feature
+abbrev pub feature_rules : List (RuleRow (Cell → Feature → Found))
 feature_rules =
-    prim_refs ∷ dangling_ref ∷ bad_codes ∷ open_ring ∷ mixed_ring ∷ outer_count ∷ wrong_turn ∷ dangling_feature ∷ wrong_group ∷ []
+    row PRIM_REFS (codes "PrimRefs") 0 prim_refs ∷
+    row DANGLING_REF (codes "DanglingRef") 1 dangling_ref ∷
+    row BAD_CODES (codes "BadCodes") 1 bad_codes ∷
+    row OPEN_RING (codes "OpenRing") 1 open_ring ∷
+    row MIXED_RING (codes "MixedRing") 1 mixed_ring ∷
+    row OUTER_COUNT (codes "OuterCount") 1 outer_count ∷
+    row WRONG_TURN (codes "WrongTurn") 1 wrong_turn ∷
+    row DANGLING_FEATURE (codes "DanglingFeature") 1 dangling_feature ∷
+    row WRONG_GROUP (codes "WrongGroup") 0 wrong_group ∷
+    []
 
--- kinds 21 to 24, about the two sides of an edge
-abbrev pub side_rules : List (Cell → RecName → Found)
-side_rules = orphan ∷ side_overlap ∷ side_unbalanced ∷ false_truncation ∷ []
+-- about the two sides of an edge
+abbrev pub side_rules : List (RuleRow (Cell → RecName → Found))
+side_rules =
+    row ORPHAN (codes "Orphan") 0 orphan ∷
+    row SIDE_OVERLAP (codes "SideOverlap") 4 side_overlap ∷
+    row SIDE_UNBALANCED (codes "SideUnbalanced") 4 side_unbalanced ∷
+    row FALSE_TRUNCATION (codes "FalseTruncation") 2 false_truncation ∷
+    []
 
--- kind 25, about an identifier
-abbrev pub identity_rules : List (Cell → Lnam → Found)
-identity_rules = twice_foid ∷ []
+-- about an identifier
+abbrev pub identity_rules : List (RuleRow (Cell → Lnam → Found))
+identity_rules =
+    row TWICE_FOID (codes "TwiceFoid") 1 twice_foid ∷
+    []

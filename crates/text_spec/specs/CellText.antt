@@ -59,6 +59,6 @@ total_of = sum_by (λ (row : Subject × List Finding). length row.1)
 unfoldable pub text_with : Cell → List (Subject × List Finding) → List ℕ
 text_with c rows = count_line c ++ total_line (total_of rows) ++ flat_map row_lines rows ++ line (codes "end") []
 
--- the text of a cell with all its findings of the kinds asked for
-abbrev pub cell_text : List ℕ → Cell → List ℕ
-cell_text asked c = text_with c (all_findings asked c)
+-- the text of a cell with all its findings
+abbrev pub cell_text : Cell → List ℕ
+cell_text c = text_with c (all_findings c)

@@ -1,18 +1,13 @@
 use Rattle.std.proofs.Common.{subst, sym}
 use Rattle.std.proofs.lemmas.Result.{err_from_is_err_and}
 use Rattle.cell_findings.specs.AllFindings.{IsAllOf}
-use Rattle.cell_findings.specs.Judged.{judged_subjects}
 use Rattle.cell_findings.proofs.AllFindings.{gathered_is_all, over_is_refusal}
-use Rattle.cell_findings.proofs.KnownKinds.{known_kinds}
 use Rattle.cell_findings.proofs.findings.find_all.Goals as goal
 
 pub returns-in_err-findings : goal.returns-in_err-findings
 returns-in_err-findings c =
     let refused = err_from_is_err_and c.from_residual.result c.from_residual.ensures.1 in
     rw (refused.1, refused.2) (over_is_refusal c.args.cell.now c.requires.writable c.args.limit _ c.in_err-findings.ensures)
-
-pub of_vec-requires : goal.of_vec-requires
-of_vec-requires c = rw (c.in_ok-findings.ensures.same) (known_kinds c.args.cell.now (judged_subjects c.args.cell.now))
 
 pub returns : goal.returns
 returns c =

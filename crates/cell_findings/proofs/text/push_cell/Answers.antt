@@ -3,5 +3,5 @@ use Rattle.cell_findings.proofs.text.push_cell.Goals as goal
 
 pub returns : goal.returns
 returns c = λ rows is.
-    rw (c.in_ok-push_text.ensures, c.in_ok-push_findings.ensures, c.as_slice.ensures.same, c.in_ok-push_total.ensures, c.len.ensures, c.in_ok-push_counts.ensures)
+    rw (c.in_ok-push_text.ensures, c.in_ok-push_findings.ensures, c.as_slice.ensures, c.in_ok-push_total.ensures, c.len.ensures, c.in_ok-push_counts.ensures)
     (text_with-findings c.args.out.now.items c.args.cell.now rows c.args.findings.now is)

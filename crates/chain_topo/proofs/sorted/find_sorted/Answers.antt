@@ -8,7 +8,7 @@ use Rattle.s57_types.specs.declared.name.RecName.{RecName}
 use Rattle.s57_types.specs.declared.record.Rec.{Rec}
 use Rattle.cell_spec.specs.Lookup.{name_of}
 use Rattle.chain_topo.proofs.Named.{found-there, found-none, none-between}
-use Rattle.chain_topo.proofs.Orders.{total_names}
+use Rattle.cell_spec.proofs.Orders.{total_names}
 use Rattle.chain_topo.proofs.sorted.find_sorted.Goals as goal
 
 pub returns-in-Ok : goal.returns-in-Ok

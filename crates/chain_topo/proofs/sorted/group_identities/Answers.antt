@@ -9,12 +9,12 @@ use Rattle.cell_spec.specs.Lookup.{name_of, bears}
 use Rattle.cell_spec.specs.Names.{name_order, identity_parts}
 use Rattle.chain_topo.specs.Listed.{pair_order, values_at, identities_listed}
 use Rattle.chain_topo.proofs.Named.{identities-listed}
-use Rattle.chain_topo.proofs.Orders.{exact_names, exact_identities, total_names, total_identities}
+use Rattle.cell_spec.proofs.Orders.{exact_names, exact_identities, total_names, total_identities}
 use Rattle.chain_topo.proofs.Selected.{values-ascending}
 use Rattle.chain_topo.proofs.sorted.group_identities.Goals as goal
 
 pub make-requires-clause-exact_keys : goal.make-requires-clause-exact_keys
-make-requires-clause-exact_keys c = λ a b e. exact_identities a b (sym (c.identities_are_by_parts.ensures a b) ∙ e)
+make-requires-clause-exact_keys c = λ a b e. exact_identities a b (sym (c.orders_are_by_parts.ensures.identities a b) ∙ e)
 
 pub make-requires-clause-exact_values : goal.make-requires-clause-exact_values
 make-requires-clause-exact_values c = λ a b e. exact_names a b (sym (c.orders_are_by_parts.ensures.names a b) ∙ e)
@@ -30,5 +30,5 @@ grouped by_key by_value identities names rs list groups listed made l =
 
 pub returns : goal.returns
 returns c =
-    IfOk-weaker _ _ _ (λ groups made. grouped _ _ c.identities_are_by_parts.ensures c.orders_are_by_parts.ensures.names (map (λ r. r.now) c.args.records.now) c.in_ok-list.list.items groups c.in_ok-list.ensures made)
+    IfOk-weaker _ _ _ (λ groups made. grouped _ _ c.orders_are_by_parts.ensures.identities c.orders_are_by_parts.ensures.names (map (λ r. r.now) c.args.records.now) c.in_ok-list.list.items groups c.in_ok-list.ensures made)
     c.make.ensures

@@ -9,7 +9,7 @@ use Rattle.cell_spec.specs.Lookup.{pointers_in}
 use Rattle.cell_spec.specs.Names.{name_order, ref_order}
 use Rattle.chain_topo.specs.Listed.{pair_order, values_at, pointers_listed}
 use Rattle.chain_topo.proofs.Named.{pointers-listed}
-use Rattle.chain_topo.proofs.Orders.{exact_names, exact_refs, total_names, total_refs}
+use Rattle.cell_spec.proofs.Orders.{exact_names, exact_refs, total_names, total_refs}
 use Rattle.chain_topo.proofs.Selected.{values-ascending}
 use Rattle.chain_topo.proofs.sorted.group_pointers.Goals as goal
 

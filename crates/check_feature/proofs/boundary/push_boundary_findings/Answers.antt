@@ -1,6 +1,6 @@
 use Rattle.std.proofs.Common.{◌++◌, sym, ap, ◌∙◌}
 use Rattle.std.proofs.lemmas.List.{append-nil}
-use Rattle.check_feature.specs.FeatureKinds.{boundary_findings}
+use Rattle.check_feature.specs.FeatureFindings.{boundary_findings}
 use Rattle.check_feature.proofs.FeatureFindings.{judged_codes, judged_prim, judged_refs, judged_targets, not_judged}
 use Rattle.check_feature.proofs.boundary.push_boundary_findings.Goals as goal
 

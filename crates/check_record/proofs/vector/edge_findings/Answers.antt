@@ -1,5 +1,6 @@
 use Rattle.std.proofs.Common.{◌∙◌, ap, map}
 use Rattle.std.specs.List.{list_any}
+use Rattle.rule_spec.specs.declared.kind.TheConstants.{BAD_SHAPE, END_COUNT}
 use Rattle.rule_spec.specs.EdgeEnds.{end_count}
 use Rattle.rule_spec.specs.Findings.{finding}
 use Rattle.rule_spec.specs.Vectors.{bad_shape}
@@ -12,8 +13,8 @@ pub returns-clause-findings : goal.returns-clause-findings
 returns-clause-findings g c =
     let cell = g.B.Look.cell c.args.look.now in
     let edge = c.args.edge.now in
-    let one = map (finding 1) (bad_shape cell edge) in
-    let two = map (finding 2) (end_count cell edge) in
+    let one = map (finding BAD_SHAPE) (bad_shape cell edge) in
+    let two = map (finding END_COUNT) (end_count cell edge) in
     let shape = two_appended _ _ _ one two c.new-findings.ensures.items (c.in_ok-push_bad_shape.ensures cell) (c.in_ok-push_end_count.ensures cell) in
     let dangling =
     same_dangling cell c.args.reads.now _ edge c.in_ok-nodes.ensures.nodes

@@ -4,7 +4,7 @@ use Rattle.std.specs.List.Sorted.{IsBinarySearchResult}
 use Rattle.std.proofs.lemmas.Fn.{always_returns_same}
 use Rattle.std.proofs.lemmas.List.Sorted.{searchable_from_sorted}
 use Rattle.cell_spec.specs.declared.key.Key.{Key}
-use Rattle.read_sets.proofs.KeyOrder.{total_keys}
+use Rattle.cell_spec.proofs.Orders.{total_keys}
 use Rattle.near_records.specs.declared.near.Answer.{Answer}
 use Rattle.near_records.proofs.NearAnswers.{answer_there, answers_rise, never_missing}
 use Rattle.near_records.proofs.near.find_answer.Goals as goal

@@ -4,7 +4,6 @@ use Rattle.cell_spec.specs.Edits.{apply_edits}
 use Rattle.cell_spec.specs.Lookup.{all_records}
 use Rattle.cell_spec.specs.Writable.{IsWritable}
 use Rattle.edit_sets.specs.FormFault.{form_fault}
-use Rattle.rule_spec.specs.Kinds.{all_kinds}
 use Rattle.history_spec.specs.Steps.{edit_refusal, first_of, size_refusal}
 use Rattle.plain_history.specs.Trials.{IsSize, FitsWhenSmall}
 use Rattle.plain_history.proofs.WritableEdits.{writable_after}
@@ -28,7 +27,7 @@ returns-in-Ok c =
     let edited = c.in_ok-edited.ensures ∙ ap (λ edits. apply_edits edits cell) same in
     let sized = subst (λ found. IsSize c.in_ok-edited.edited found) c.in-Ok.is c.in_ok-findings.ensures in
     record {
-      none = ap (λ first. option_map_or Some first (size_refusal all_kinds (apply_edits c.args.set.now.edits cell))) taken ∙ ap (size_refusal all_kinds) (sym edited) ∙ sized.none;
+      none = ap (λ first. option_map_or Some first (size_refusal (apply_edits c.args.set.now.edits cell))) taken ∙ ap (size_refusal) (sym edited) ∙ sized.none;
       cell_is = edited;
       writable = sized.writable;
       findings_are = sized.findings_are;

@@ -2,7 +2,6 @@ use Rattle.std.proofs.Common.{ℕ, [], ◌++◌, length, filter_map, subst, sym,
 use Rattle.std.specs.Prelude.{codes, flat_map}
 use Rattle.std.specs.List.{enumerate_from, range_with_len}
 use Rattle.rule_spec.specs.Findings.{all_findings}
-use Rattle.rule_spec.specs.Kinds.{all_kinds}
 use Rattle.s57_types.specs.declared.cell.Cell.{Cell}
 use Rattle.text_spec.specs.CellText.{text_with}
 use Rattle.text_spec.specs.Lines.{line}
@@ -55,9 +54,9 @@ returns-clause-report c =
     let first = c.in_ok-push_order.ensures ∙ ap (λ text. text ++ order_line order) c.new-out.ensures.items in
     let seen = subst (AreSeen limit at) (sym c.deref-3.ensures.value) (seen_cells limit cell scripts order run _ (c.in_ok-run.ensures cell c.open-history.ensures)) in
     let second = c.in_ok-push_sessions.ensures limit at seen c.most_shown-limit.ensures
-    ∙ (λ i. first i ++ flat_map (λ session. session_text all_kinds at session (script_of scripts session) (replies_to session (c.deref-2.ensures.value i))) (range_with_len 1 (length scripts))) in
+    ∙ (λ i. first i ++ flat_map (λ session. session_text at session (script_of scripts session) (replies_to session (c.deref-2.ensures.value i))) (range_with_len 1 (length scripts))) in
     let third = c.in_ok-push_history.ensures ∙ (λ i. second i ++ (line (codes "history") [] ++ c.deref-4.ensures.value i)) in
-    let rows = all_findings all_kinds run.history.cell in
+    let rows = all_findings run.history.cell in
     whole_report limit cell scripts order run (asked_lists c.in_ok-requests.requests.items) c.push_cell.new.out.items c.in_ok-requests.ensures.asked ran
     (c.in_ok-push_cell.ensures rows c.findings.ensures.all ∙ (λ i. third i ++ text_with (c.cell.ensures i) rows))
 

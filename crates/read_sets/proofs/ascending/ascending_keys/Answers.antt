@@ -1,6 +1,6 @@
 use Rattle.std.proofs.Common.{sym, ◌∙◌}
 use Rattle.cell_spec.specs.Ascending.{ascending}
-use Rattle.read_sets.proofs.KeyOrder.{exact_keys}
+use Rattle.cell_spec.proofs.Orders.{exact_keys}
 use Rattle.read_sets.proofs.ascending.ascending_keys.Goals as goal
 
 pub distinct-requires : goal.distinct-requires

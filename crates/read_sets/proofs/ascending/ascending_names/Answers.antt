@@ -1,6 +1,6 @@
 use Rattle.std.proofs.Common.{sym, ◌∙◌}
 use Rattle.cell_spec.specs.Ascending.{ascending}
-use Rattle.chain_topo.proofs.Orders.{exact_names}
+use Rattle.cell_spec.proofs.Orders.{exact_names}
 use Rattle.read_sets.proofs.ascending.ascending_names.Goals as goal
 
 pub distinct-requires : goal.distinct-requires

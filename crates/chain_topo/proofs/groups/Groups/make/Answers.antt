@@ -4,7 +4,7 @@ use Rattle.std.specs.List.Sorted.{IsSorted, IsStrictlySortedBy}
 use Rattle.std.proofs.lemmas.List.{length-map}
 use Rattle.std.proofs.lemmas.List.Filters.{dedup_is}
 use Rattle.chain_topo.specs.Listed.{pair_order}
-use Rattle.chain_topo.proofs.Ascending.{sorted-ascending}
+use Rattle.cell_spec.proofs.Ascending.{sorted-ascending}
 use Rattle.chain_topo.proofs.Orders.{total_pairs, exact_pairs, pairs_tie}
 use Rattle.chain_topo.proofs.Parts.{zip-parts, dedup-ascending, keys-rise}
 use Rattle.chain_topo.proofs.groups.Groups.make.Goals as goal

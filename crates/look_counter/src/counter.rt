@@ -22,18 +22,18 @@ impl<L: Ledger> Model for Steps<L> {
     ghost invariant = { λ s. 0 < s.share.parts };
 }
 
-impl<L: Ledger> Steps<L> {
-    /// A counter at 0, of the ledger that the blank becomes.
-    pub fn start(blank: Blank) -> Steps<L>
-        requires name { blank.name ≡ L.name }
-        requires parts { blank.parts ≡ L.parts }
-        requires some_part { 0 < L.parts }
-        ensures { result ≡ 0 }
-    {
-        let (book, share) = blank.open::<L>();
-        Steps { book, share }
-    }
+/// A counter at 0, of the ledger that the blank becomes. A free function, so that a crate which knows `Steps` through another one can't make any.
+pub fn start_counter<L: Ledger>(blank: Blank) -> Steps<L>
+    requires name { blank.name ≡ L.name }
+    requires parts { blank.parts ≡ L.parts }
+    requires some_part { 0 < L.parts }
+    ensures { result ≡ 0 }
+{
+    let (book, share) = blank.open::<L>();
+    Steps { book, share }
+}
 
+impl<L: Ledger> Steps<L> {
     /// Counts one look-up.
     pub fn tick(&mut self)
         ensures { self.new ≡ self.old + 1 }
