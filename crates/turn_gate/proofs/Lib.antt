@@ -5,3 +5,4 @@ pub mod TurnKept
 pub mod HandlesKept
 pub mod AfterCalls
 pub mod Additions
+pub mod SharedHandles

@@ -7,9 +7,11 @@ mod lock;
 mod operation;
 mod outcomes;
 mod steps;
+mod threads;
 mod view;
 
 pub use chronicle::Chronicle;
 pub use handle::GateSeat;
 pub use lock::{Gate, MakeRefusal};
 pub use operation::Deed;
+pub use threads::{handles_are_shared, locks_cross_threads};
