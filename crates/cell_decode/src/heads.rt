@@ -17,7 +17,7 @@ use record_fit::{is_general_information_short, is_geographic_reference_short};
 use s57_types::{Dsid, Dspm, Dssi, Head};
 use std::alloc::Global;
 
-/// The expected instruction EXPP of a data set that is new.
+/// The exchange purpose EXPP of a data set that is new.
 const NEW_DATA_SET: u8 = 1;
 
 /// The data structure DSTR of chain-node topology.

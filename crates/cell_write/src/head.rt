@@ -95,7 +95,7 @@ fn count_other_classes(records: &[Rec], low: u16, high: u16) -> u32
         .count() as u32
 }
 
-/// NOMR, NOCR, NOGR, NOLR, NOIN, NOCN, NOED and NOFA: the numbers of meta, collection, geo and cartographic objects by the
+/// NOMR, NOCR, NOGR, NOLR, NOIN, NOCN, NOED and NOFA: the numbers of meta, cartographic, geo and collection objects by the
 /// codes of their classes, of nodes and of edges. There are no faces.
 fn record_counts(cell: &Cell) -> [u32; 8]
     requires { length (all_records cell.now) ≤ 262144 }

@@ -30,7 +30,7 @@ use Rattle.cell_spec.specs.Writable.{IsWritable}
 use Rattle.field_spec.specs.Contents.{dsid_content, dssi_content, dspm_content, frid_content, foid_content, attribute_content, partner_content, place_content, vrid_content, end_content, plane_content, deep_content}
 use Rattle.field_spec.specs.FieldBytes.{field_bytes, rows_bytes}
 use Rattle.field_spec.specs.FieldFit.{IsFit}
-use Rattle.file_spec.specs.EncodedCell.{record_counts, is_meta, is_collection, is_geo, is_cartographic}
+use Rattle.file_spec.specs.EncodedCell.{record_counts, is_meta, is_cartographic, is_geo, is_collection}
 use Rattle.file_spec.specs.ReadBack.{vrid_of, frid_of, HeadIsReadBack, RecordIsReadBack}
 use Rattle.file_spec.specs.RoundTrip.{IsInRange, HasForms, RecordHasForms, HasItsTypes, RoundTrip}
 use Rattle.file_spec.proofs.CellBack.{cell_is_read_back, or_parts}
@@ -119,10 +119,10 @@ counts_fit c w =
     let few : length (c.vi ++ c.vc ++ c.ve ++ c.fe) ≤ 262144 = w.not_too_many in
     let parts = simp length-append at few in
     let meta = count_by-le-length is_meta c.fe in
-    let collection = count_by-le-length is_collection c.fe in
-    let geo = count_by-le-length is_geo c.fe in
     let cartographic = count_by-le-length is_cartographic c.fe in
-    (omega (arith, parts, meta), (omega (arith, parts, collection), (omega (arith, parts, geo), (omega (arith, parts, cartographic), (omega (arith, parts), (omega (arith, parts), (omega (arith, parts), (omega arith, tt))))))))
+    let geo = count_by-le-length is_geo c.fe in
+    let collection = count_by-le-length is_collection c.fe in
+    (omega (arith, parts, meta), (omega (arith, parts, cartographic), (omega (arith, parts, geo), (omega (arith, parts, collection), (omega (arith, parts), (omega (arith, parts), (omega (arith, parts), (omega arith, tt))))))))
 
 head_back : (laws : FieldLaws) (c : Cell) → IsWritable c → HasItsTypes c → HeadIsReadBack c.head (record_counts c)
 unfolding is_fit_head

@@ -15,25 +15,25 @@ abbrev pub has_class_from : ℕ → ℕ → Rec → Bool
 has_class_from low high (V v) = false
 has_class_from low high (F f) = nat_le low f.objl && nat_le f.objl high
 
--- meta, cartographic and collection objects by the codes of their classes, and geo objects, which are all others
+-- meta, collection and cartographic objects by the codes of their classes, and geo objects, which are all others
 -- (S-57 Part 3, 7.3.1.2; the ranges are those of the object catalogue)
 abbrev pub is_meta : Rec → Bool
 is_meta = has_class_from 300 399
 
-abbrev pub is_cartographic : Rec → Bool
-is_cartographic = has_class_from 400 499
-
 abbrev pub is_collection : Rec → Bool
-is_collection = has_class_from 500 599
+is_collection = has_class_from 400 499
+
+abbrev pub is_cartographic : Rec → Bool
+is_cartographic = has_class_from 500 599
 
 abbrev pub is_geo : Rec → Bool
 is_geo r = not (has_class_from 300 599 r)
 
 -- NOMR, NOCR, NOGR, NOLR, NOIN, NOCN, NOED and NOFA; there are no faces
 abbrev pub record_counts : Cell → List ℕ
-record_counts c = count_by is_meta c.fe ∷ count_by is_collection c.fe ∷ count_by is_geo c.fe ∷ count_by is_cartographic c.fe ∷ length c.vi ∷ length c.vc ∷ length c.ve ∷ 0 ∷ []
+record_counts c = count_by is_meta c.fe ∷ count_by is_cartographic c.fe ∷ count_by is_geo c.fe ∷ count_by is_collection c.fe ∷ length c.vi ∷ length c.vc ∷ length c.ve ∷ 0 ∷ []
 
--- data records have numbers from 1 on, which begin anew behind 65,535. This project's own choice
+-- data records have numbers from 1 on; behind 65,535 comes 0. This project's own choice
 abbrev pub record_number : ℕ → ℕ
 record_number n = n % 65536
 

@@ -108,7 +108,7 @@ fn push_record(
 }
 
 /// Appends the record of these fields (ISO/IEC 8211; S-57 Part 3, Annex A): the leader, the directory and the fields one
-/// after the other. Only a record of at least one field and of no empty field is one that a reader takes.
+/// after the other. A reader takes only records without an empty field.
 ///
 /// `TooLong` says that the record would have more than 99,999 bytes. A refusal changes nothing.
 pub fn write_record(
