@@ -7,26 +7,11 @@ use Rattle.s57_types.specs.declared.record.Rec.{Rec}
 use Rattle.cell_spec.specs.Lookup.{name_of}
 use Rattle.cell_spec.specs.Names.{kind_rank, same_name}
 use Rattle.cell_spec.proofs.Orders.{same_from_either}
+use Rattle.file_spec.proofs.EachItem.{each_weaker, each_append, each_front}
 
 -- a name is none of some names
 abbrev pub IsApart : List RecName → RecName → Type 0
 IsApart names n = AllByRecursion (λ m. same_name n m ≡ false) names
-
-pub each_weaker : {X : Type 0} (P Q : X → Type 0) → ((x : X) → P x → Q x) → (xs : List X) → AllByRecursion P xs → AllByRecursion Q xs
-each_weaker P Q weaker [] all = tt
-each_weaker P Q weaker (x ∷ xs) all = (weaker x all.0, each_weaker P Q weaker xs all.1)
-
-pub each_append : {X : Type 0} (P : X → Type 0) (xs ys : List X) → AllByRecursion P xs → AllByRecursion P ys → AllByRecursion P (xs ++ ys)
-each_append P [] ys first second = second
-each_append P (x ∷ xs) ys first second = (first.0, each_append P xs ys first.1 second)
-
-pub each_front : {X : Type 0} (P : X → Type 0) (xs ys : List X) → AllByRecursion P (xs ++ ys) → AllByRecursion P xs
-each_front P [] ys all = tt
-each_front P (x ∷ xs) ys all = (all.0, each_front P xs ys all.1)
-
-pub each_back : {X : Type 0} (P : X → Type 0) (xs ys : List X) → AllByRecursion P (xs ++ ys) → AllByRecursion P ys
-each_back P [] ys all = all
-each_back P (x ∷ xs) ys all = each_back P xs ys all.1
 
 pub distinct_front : (xs ys : List RecName) → IsDistinct same_name (xs ++ ys) → IsDistinct same_name xs
 unfolding IsDistinct

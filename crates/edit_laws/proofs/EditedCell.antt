@@ -21,7 +21,8 @@ use Rattle.cell_spec.specs.declared.edit.Edit.TheVariants.{Add, Set, Del}
 use Rattle.edit_sets.specs.FormFault.{unfitness_of_edit, IsFormed}
 use Rattle.edit_sets.proofs.Formed.{formed}
 use Rattle.edit_laws.specs.KeptWritable.{EditsKeepWritable}
-use Rattle.edit_laws.proofs.DistinctNames.{IsApart, each_append, each_front, each_back, each_weaker, distinct_front, distinct_back, kinds_apart, apart_from_both}
+use Rattle.file_spec.proofs.EachItem.{each_append, each_front, each_back, each_weaker}
+use Rattle.edit_laws.proofs.DistinctNames.{IsApart, distinct_front, distinct_back, kinds_apart, apart_from_both}
 use Rattle.edit_laws.proofs.EditedRecords.{Leaves}
 use Rattle.edit_laws.proofs.EditedLists.{IsOfKind, list_is_of_kind, list_has, list_is_distinct, distinct_lists}
 

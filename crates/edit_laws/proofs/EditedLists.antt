@@ -13,7 +13,8 @@ use Rattle.cell_spec.specs.Names.{same_name, is_of_kind}
 use Rattle.cell_spec.specs.Writable.{HaveDistinctNames}
 use Rattle.cell_spec.specs.declared.edit.Edit.{Edit}
 use Rattle.cell_spec.proofs.Orders.{one_kind}
-use Rattle.edit_laws.proofs.DistinctNames.{IsApart, each_append, each_weaker, distinct_append}
+use Rattle.file_spec.proofs.EachItem.{each_append, each_weaker}
+use Rattle.edit_laws.proofs.DistinctNames.{IsApart, distinct_append}
 use Rattle.edit_laws.proofs.EditedRecords.{Leaves, name_kept, property_kept, each_kept, each_added, names_kept, names_filtered, distinct_kept, distinct_added, distinct_filtered}
 
 -- the records of a list that stay, and those that are added to it

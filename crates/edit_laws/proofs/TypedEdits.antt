@@ -7,7 +7,7 @@ use Rattle.s57_types.specs.declared.record.Rec.{Rec}
 use Rattle.cell_spec.specs.Edits.{edited_list, apply_edits}
 use Rattle.file_spec.specs.RoundTrip.{RecordHasForms}
 use Rattle.edit_laws.specs.ReadBackAfterRuns.{EditsKeepTypes}
-use Rattle.edit_laws.proofs.DistinctNames.{each_append}
+use Rattle.file_spec.proofs.EachItem.{each_append}
 use Rattle.edit_laws.proofs.EditedLists.{list_has}
 use Rattle.edit_laws.proofs.EditedCell.{each_of_kind}
 

@@ -29,7 +29,7 @@ use Rattle.file_spec.specs.declared.tag.RecordType.{RecordType}
 use Rattle.file_spec.specs.declared.tag.RecordType.TheVariants as types
 use Rattle.decode_laws.proofs.Contents.{mapped_ok}
 use Rattle.decode_laws.proofs.Records.{step, passed, demanded}
-use Rattle.edit_laws.proofs.DistinctNames.{each_append}
+use Rattle.file_spec.proofs.EachItem.{each_append}
 use Rattle.edit_laws.proofs.EditedCell.{each_of_kind}
 use Rattle.export_laws.specs.DecodedTypes.{DecodedHasItsTypes}
 use Rattle.export_laws.proofs.FileBytes.{AreOfBytes, FoundOfBytes, RecordIsOfBytes, file_is_of_bytes}

@@ -25,7 +25,7 @@ use Rattle.field_spec.specs.declared.fault.FieldFault.TheVariants.{BadField, Bad
 use Rattle.field_spec.proofs.FieldsBack.{field_is_decided_lem, rows_are_decided_lem}
 use Rattle.file_spec.specs.RoundTrip.{IsInRange, HasForms}
 use Rattle.decode_laws.proofs.Contents.{mapped_ok}
-use Rattle.edit_laws.proofs.DistinctNames.{each_weaker}
+use Rattle.file_spec.proofs.EachItem.{each_weaker}
 use Rattle.export_laws.specs.DecodedTypes.{AreFileBytes}
 
 -- ---- the value of a subfield by the form at its place

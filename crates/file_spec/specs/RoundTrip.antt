@@ -6,6 +6,7 @@ use Rattle.s57_types.specs.Subfield.{Form, Subfield, form_of, unsigned_of, signe
 use Rattle.s57_types.specs.FieldRows.{dsid_forms, dspm_forms, frid_forms, foid_forms, attribute_forms, partner_forms, place_forms, vrid_forms, end_forms, plane_forms, deep_forms, dsid_row, dspm_row, frid_row, foid_row, attribute_row, partner_row, place_row, vrid_row, end_row, plane_row, deep_row}
 use Rattle.s57_types.specs.RecordFields.{dsid_of_head, dspm_of_head}
 use Rattle.s57_types.specs.declared.cell.Cell.{Cell}
+use Rattle.s57_types.specs.declared.record.Attr.{Attr}
 use Rattle.s57_types.specs.declared.record.Feature.{Feature}
 use Rattle.s57_types.specs.declared.record.Vector.{Vector}
 use Rattle.s57_types.specs.declared.record.Rec.{Rec}
@@ -28,6 +29,10 @@ IsInRange (fixed_of t) = Unit {0}
 pub record HasForms (forms : List Form) (row : List Subfield) : Type 0 where
   pub forms_are : map form_of row ≡ forms
   pub each : AllByRecursion IsInRange row
+
+-- attributes at each level, since no number of theirs depends on it
+abbrev pub AttributeHasForms : Attr → Type 0
+AttributeHasForms a = (level : ℕ) → HasForms (attribute_forms level) (attribute_row level a)
 
 pub record VectorHasForms (v : Vector) : Type 0 where
   pub identifier : HasForms vrid_forms (vrid_row (vrid_of v))

@@ -1,10 +1,16 @@
 //! Laws of the definitions, each the contract of a function that does nothing.
 
+ghost use Rattle.std.specs.Prelude.{◌≡◌, Ok};
+ghost use Rattle.cell_spec.specs.Writable.{IsWritable};
+ghost use Rattle.file_spec.specs.DecodedCell.{decoded_cell};
+ghost use Rattle.file_spec.specs.EncodedCell.{encoded_cell};
 ghost use Rattle.file_spec.specs.ReadBack.{CellIsReadBack};
 ghost use Rattle.file_spec.specs.RoundTrip.{RoundTrip};
 ghost use Rattle.file_spec.specs.WrittenFile.{CellRecordsAreFound, WrittenRecordsAreFound};
 
+use crate::types::cell_has_its_types;
 use field_spec::{repeating_rows_read_back, rows_read_back};
+use s57_types::Cell;
 
 /// The records of a file that was written are those that were written, and the file of a writable cell has the cell's.
 pub fn written_records_are_found()
@@ -23,4 +29,13 @@ pub fn round_trip()
 {
     rows_read_back();
     repeating_rows_read_back();
+}
+
+/// The file of a writable cell in memory is that cell when it is read. To show it, it reads the cell's numbers.
+pub fn writable_cell_is_read_back(cell: &Cell)
+    requires { IsWritable cell.now }
+    ensures { decoded_cell (encoded_cell cell.now) ≡ Ok cell.now }
+{
+    cell_has_its_types(cell);
+    round_trip();
 }

@@ -4,7 +4,11 @@
 mod fault;
 mod law;
 mod tag;
+mod types;
 
 pub use fault::RecordFault;
-pub use law::{round_trip, written_cell_is_read, written_records_are_found};
+pub use law::{
+    round_trip, writable_cell_is_read_back, written_cell_is_read, written_records_are_found,
+};
 pub use tag::{FieldTag, RecordType};
+pub use types::cell_has_its_types;
