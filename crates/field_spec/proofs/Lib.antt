@@ -4,3 +4,6 @@ pub mod FieldsSpelled
 pub mod CutBack
 pub mod FieldsBack
 pub mod Written
+pub mod Respelled
+pub mod Decided
+pub mod DecidedFields

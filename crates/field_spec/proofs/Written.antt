@@ -12,7 +12,7 @@ use Rattle.s57_types.specs.declared.name.Kind.{Kind}
 use Rattle.s57_types.specs.declared.name.Kind.TheVariants.{Vi, Vc, Ve, Fe}
 use Rattle.s57_types.specs.declared.record.Attr.{Attr}
 use Rattle.s57_types.specs.declared.field.Dssi.{Dssi}
-use Rattle.field_spec.specs.FieldContent.{IsRow}
+use Rattle.field_spec.specs.FieldContent.{IsRow, IsField, IsFieldOfRows}
 use Rattle.field_spec.specs.FieldBytes.{field_bytes, rows_bytes}
 use Rattle.field_spec.specs.FieldFit.{CanRepeat, IsFit, is_even}
 use Rattle.field_spec.specs.Contents.{judged, judged_row, row_as, rows_as, kind_of_rcnm, is_vector_rcnm, attribute_value, dssi_value, number_value}
@@ -31,12 +31,16 @@ judged_good value true true row e f = refl
 judged_good value true false row e f = absurd cc
 judged_good value false p row e f = absurd cc
 
-pub row_written : {X : Type 0} (value : List Subfield → X) (forms : List Form) (good : List Subfield → Bool) (row : List Subfield) (x : X) → HasValue value forms good row x
-    → row_as value forms good (field_bytes row) ≡ Ok x
-row_written value forms good row x has =
-    ap (λ r. result_map_both value (λ e. e) (judged_row good r)) (row_of_field forms (field_bytes row) row (record { is_row = has.fit.is_row; bytes_are = refl }))
+pub row_spelled : {X : Type 0} (value : List Subfield → X) (forms : List Form) (good : List Subfield → Bool) (row : List Subfield) (x : X) (bytes : List ℕ) → HasValue value forms good row x
+    → IsField forms bytes row → row_as value forms good bytes ≡ Ok x
+row_spelled value forms good row x bytes has field =
+    ap (λ r. result_map_both value (λ e. e) (judged_row good r)) (row_of_field forms bytes row field)
     ∙ judged_good value (good row) (list_all is_plain row) row has.is_good has.fit.has_plain_texts
     ∙ ap Ok has.value_is
+
+pub row_written : {X : Type 0} (value : List Subfield → X) (forms : List Form) (good : List Subfield → Bool) (row : List Subfield) (x : X) → HasValue value forms good row x
+    → row_as value forms good (field_bytes row) ≡ Ok x
+row_written value forms good row x has = row_spelled value forms good row x (field_bytes row) has (record { is_row = has.fit.is_row; bytes_are = refl })
 
 -- each row of a list of values
 abbrev pub HaveValues : {X : Type 0} → (List Subfield → X) → List Form → (List Subfield → Bool) → (X → List Subfield) → List X → Type 0
@@ -72,14 +76,11 @@ terminated : (wide : Bool) (bytes body : List ℕ) → bytes ≡ body ++ cond wi
 terminated true bytes body e = inl e
 terminated false bytes body e = e
 
-pub rows_written : {X : Type 0} (value : List Subfield → X) (level : ℕ) (forms : List Form) (good : List Subfield → Bool) (row : X → List Subfield) (xs : List X) → CanRepeat level forms
-    → HaveValues value forms good row xs → rows_as value level forms good (rows_bytes level row xs) ≡ Ok xs
-rows_written value level forms good row xs can have =
+pub rows_spelled : {X : Type 0} (value : List Subfield → X) (level : ℕ) (forms : List Form) (good : List Subfield → Bool) (row : X → List Subfield) (xs : List X) (bytes : List ℕ) → CanRepeat level forms
+    → HaveValues value forms good row xs → IsFieldOfRows level forms bytes (map row xs) → rows_as value level forms good bytes ≡ Ok xs
+rows_spelled value level forms good row xs bytes can have field =
     let rows = map row xs in
-    ap (λ r. result_map_both (map value) (λ e. e) (judged good r)) (rows_of_field level forms (rows_bytes level row xs) rows can.takes can.fits (record {
-      each = rows_formed value forms good row xs have;
-      bytes_are = terminated (level == 2) (rows_bytes level row xs) (flat_map row_bytes rows) (ap (λ t. t ++ terminator_of level) (bytes_of_rows row xs));
-    }))
+    ap (λ r. result_map_both (map value) (λ e. e) (judged good r)) (rows_of_field level forms bytes rows can.takes can.fits field)
     ∙ judged_rows (list_all good rows) (list_all (list_all is_plain) rows) rows (rows_good value forms good row xs have) (rows_plain value forms good row xs have)
     ∙ ap Ok (rows_valued value forms good row xs have)
   where
@@ -88,6 +89,13 @@ rows_written value level forms good row xs can have =
     judged_rows true true rows e f = refl
     judged_rows true false rows e f = absurd cc
     judged_rows false p rows e f = absurd cc
+
+pub rows_written : {X : Type 0} (value : List Subfield → X) (level : ℕ) (forms : List Form) (good : List Subfield → Bool) (row : X → List Subfield) (xs : List X) → CanRepeat level forms
+    → HaveValues value forms good row xs → rows_as value level forms good (rows_bytes level row xs) ≡ Ok xs
+rows_written value level forms good row xs can have = rows_spelled value level forms good row xs (rows_bytes level row xs) can have (record {
+  each = rows_formed value forms good row xs have;
+  bytes_are = terminated (level == 2) (rows_bytes level row xs) (flat_map row_bytes (map row xs)) (ap (λ t. t ++ terminator_of level) (bytes_of_rows row xs));
+})
 
 -- the record name of a vector record tells its kind
 pub kind_of_rcnm-rcnm_of : (kind : Kind) → is_feature_kind kind ≡ false → kind_of_rcnm (rcnm_of kind) ≡ kind

@@ -3,3 +3,4 @@ pub mod FieldContent
 pub mod Contents
 pub mod FieldBytes
 pub mod FieldFit
+pub mod Spelling

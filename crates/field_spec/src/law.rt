@@ -1,9 +1,9 @@
 //! Laws of the definitions, each the contract of a function that does nothing.
 
-ghost use Rattle.std.specs.Prelude.{◌≡◌, ◌↔◌, ◌<◌, ◌≤◌, ◌^◌, ℕ, ℤ, List, Some, Ok, true, false, not, All};
+ghost use Rattle.std.specs.Prelude.{◌≡◌, ◌↔◌, ◌<◌, ◌≤◌, ◌^◌, ℕ, ℤ, List, Some, Ok, true, false, not, All, map};
 ghost use Rattle.std.specs.List.{list_all, AllByRecursion};
 ghost use Rattle.s57_types.specs.Subfield.{Form, Subfield};
-ghost use Rattle.s57_types.specs.FieldRows.{dsid_forms, dssi_forms, dspm_forms, frid_forms, foid_forms, attribute_forms, partner_forms, place_forms, vrid_forms, end_forms, plane_forms, deep_forms, number_row, dsid_row, dssi_row, dspm_row, frid_row, foid_row, attribute_row, partner_row, place_row, vrid_row, end_row, plane_row, deep_row};
+ghost use Rattle.s57_types.specs.FieldRows.{dsid_forms, dssi_forms, dspm_forms, frid_forms, foid_forms, attribute_forms, partner_forms, place_forms, vrid_forms, end_forms, plane_forms, deep_forms, number_forms, number_row, dsid_row, dssi_row, dspm_row, frid_row, foid_row, attribute_row, partner_row, place_row, vrid_row, end_row, plane_row, deep_row};
 ghost use Rattle.s57_types.specs.Fitness.{is_feature_kind};
 ghost use Rattle.s57_types.specs.declared.name.Lnam.{Lnam};
 ghost use Rattle.s57_types.specs.declared.record.Attr.{Attr};
@@ -19,6 +19,7 @@ ghost use Rattle.field_spec.specs.Cutting.{field_row, field_rows};
 ghost use Rattle.field_spec.specs.FieldContent.{IsField, IsFieldOfRows};
 ghost use Rattle.field_spec.specs.FieldBytes.{field_bytes, rows_bytes};
 ghost use Rattle.field_spec.specs.FieldFit.{CanRepeat, IsFit};
+ghost use Rattle.field_spec.specs.Spelling.{SpellsRow, SpellsRows};
 ghost use Rattle.field_spec.specs.Contents.{number_content, dsid_content, dssi_content, dspm_content, frid_content, foid_content, attribute_content, partner_content, place_content, vrid_content, end_content, plane_content, deep_content};
 
 /// The bytes of a field are its subfields and its terminator exactly where they are cut into these subfields.
@@ -37,6 +38,36 @@ pub fn repeating_fields()
     ensures ends { CanRepeat 0 end_forms }
     ensures plane { CanRepeat 0 plane_forms }
     ensures deep { CanRepeat 0 deep_forms }
+{}
+
+/// A field of one row is read as a value exactly where its bytes spell that value; of lexical levels those that there are, and of
+/// names those of vector records.
+pub fn values_are_decided()
+    ensures number { (b : List ℕ) (n : ℕ) → All (λ c. c < 256) b → (number_content b ≡ Ok n ↔ SpellsRow number_forms (number_row n) b) }
+    ensures dsid { (b : List ℕ) (d : Dsid) → All (λ c. c < 256) b → (dsid_content b ≡ Ok d ↔ SpellsRow dsid_forms (dsid_row d) b) }
+    ensures dssi { (b : List ℕ) (d : Dssi) → All (λ c. c < 256) b → (dssi_content b ≡ Ok d ↔ (SpellsRow dssi_forms (dssi_row d) b × ((d.aall ≤ 1) × (d.nall ≤ 2)))) }
+    ensures dspm { (b : List ℕ) (d : Dspm) → All (λ c. c < 256) b → (dspm_content b ≡ Ok d ↔ SpellsRow dspm_forms (dspm_row d) b) }
+    ensures frid { (b : List ℕ) (d : Frid) → All (λ c. c < 256) b → (frid_content b ≡ Ok d ↔ SpellsRow frid_forms (frid_row d) b) }
+    ensures foid { (b : List ℕ) (d : Lnam) → All (λ c. c < 256) b → (foid_content b ≡ Ok d ↔ SpellsRow foid_forms (foid_row d) b) }
+    ensures vrid { (b : List ℕ) (d : Vrid) → All (λ c. c < 256) b →
+        (vrid_content b ≡ Ok d ↔ (SpellsRow vrid_forms (vrid_row d) b × (is_feature_kind d.name.kind ≡ false))) }
+{}
+
+/// A field whose row repeats is read as a list of values exactly where its bytes spell these values, at each lexical level of
+/// attributes; of names those of vector records.
+pub fn lists_of_values_are_decided()
+    ensures attributes { (level : ℕ) (b : List ℕ) (attrs : List Attr) → All (λ c. c < 256) b →
+        (attribute_content level b ≡ Ok attrs ↔ SpellsRows level (attribute_forms level) (map (attribute_row level) attrs) b) }
+    ensures partners { (b : List ℕ) (partners : List Partner) → All (λ c. c < 256) b →
+        (partner_content b ≡ Ok partners ↔ SpellsRows 0 partner_forms (map partner_row partners) b) }
+    ensures places { (b : List ℕ) (places : List Spot) → All (λ c. c < 256) b →
+        (place_content b ≡ Ok places ↔ (SpellsRows 0 place_forms (map place_row places) b × AllByRecursion (λ s. is_feature_kind s.to.kind ≡ false) places)) }
+    ensures ends { (b : List ℕ) (ends : List End) → All (λ c. c < 256) b →
+        (end_content b ≡ Ok ends ↔ (SpellsRows 0 end_forms (map end_row ends) b × AllByRecursion (λ e. is_feature_kind e.to.kind ≡ false) ends)) }
+    ensures plane { (b : List ℕ) (points : List (ℤ × ℤ)) → All (λ c. c < 256) b →
+        (plane_content b ≡ Ok points ↔ SpellsRows 0 plane_forms (map plane_row points) b) }
+    ensures deep { (b : List ℕ) (soundings : List (ℤ × ℤ × ℤ)) → All (λ c. c < 256) b →
+        (deep_content b ≡ Ok soundings ↔ SpellsRows 0 deep_forms (map deep_row soundings) b) }
 {}
 
 /// A field of one row that was written is read as its value.

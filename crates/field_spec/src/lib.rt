@@ -5,4 +5,7 @@ mod fault;
 mod law;
 
 pub use fault::FieldFault;
-pub use law::{field_is_decided, repeating_fields, repeating_rows_read_back, rows_read_back};
+pub use law::{
+    field_is_decided, lists_of_values_are_decided, repeating_fields, repeating_rows_read_back,
+    rows_read_back, values_are_decided,
+};
