@@ -1,6 +1,6 @@
 //! Records that take more than 99,999 bytes when they are written again.
 
-use crate::files::{NODE, fault_of_last, joined, refused};
+use crate::files::{GENERAL, GEOGRAPHIC, NODE, TWO_BYTE_GENERAL, fault_of_last, joined, refused};
 use cell_decode::ReadRefusal;
 use std::alloc::{AllocError, Global};
 use std::test::Fail;
@@ -26,6 +26,25 @@ const GEOGRAPHIC_END: &[u8] = b"\x1f\x1e";
 const NODE_FRONT: &[u8] = b"02061 D     01155   3304VRID009000";
 
 const NODE_END: &[u8] = b"\x1en\x01\x00\x00\x00\x01\x00\x01\x1e";
+
+/// The feature 1 with its attributes behind all other fields, which takes 15 bytes more when it is written again, before the
+/// letters of its attribute: records of 99,999, 99,985 and 99,984 bytes.
+const ATTRIBUTES_LAST: [&[u8]; 3] = [
+    b"99999 D     00080   5204FRID000130000010000313FOID0000916NATF0000525ATTF9988930\x1ed\x01\x00\x00\x00\xff\x02*\x00\x01\x00\x01\x1e\x09\x00\x1e\x01\x00\x01\x00\x00\x00\x01\x00\x1e\x02\x00n\x1f\x1e\x01\x00",
+    b"99985 D     00080   5204FRID000130000010000313FOID0000916NATF0000525ATTF9987530\x1ed\x01\x00\x00\x00\xff\x02*\x00\x01\x00\x01\x1e\x09\x00\x1e\x01\x00\x01\x00\x00\x00\x01\x00\x1e\x02\x00n\x1f\x1e\x01\x00",
+    b"99984 D     00080   5204FRID000130000010000313FOID0000916NATF0000525ATTF9987430\x1ed\x01\x00\x00\x00\xff\x02*\x00\x01\x00\x01\x1e\x09\x00\x1e\x01\x00\x01\x00\x00\x00\x01\x00\x1e\x02\x00n\x1f\x1e\x01\x00",
+];
+
+const ATTRIBUTES_LAST_END: &[u8] = b"\x1f\x1e";
+
+/// The feature 1 with two-byte national attributes behind a single terminator, which takes one byte more when it is written again,
+/// before the letters of its attribute: records of 99,999 and 99,998 bytes.
+const SINGLE_TERMINATOR: [&[u8]; 2] = [
+    b"99999 D     00095   550400010000300000FRID0001300003FOID0000900016ATTF9987200025NATF0000799897\x1e\x09\x00\x1ed\x01\x00\x00\x00\xff\x02*\x00\x01\x00\x01\x1e\x01\x00\x01\x00\x00\x00\x01\x00\x1e\x01\x00",
+    b"99998 D     00095   550400010000300000FRID0001300003FOID0000900016ATTF9987100025NATF0000799896\x1e\x09\x00\x1ed\x01\x00\x00\x00\xff\x02*\x00\x01\x00\x01\x1e\x01\x00\x01\x00\x00\x00\x01\x00\x1e\x01\x00",
+];
+
+const SINGLE_TERMINATOR_END: &[u8] = b"\x1f\x1e\x02\x00n\x00\x1f\x00\x1e";
 
 /// Appends a byte many times.
 fn extend(bytes: &mut Vec<u8>, count: u32, byte: u8) -> Result<(), AllocError> {
@@ -145,5 +164,61 @@ fn a_length_counts_before_the_room(rt: HostRuntime) -> Result<(), Fail> {
     let [long, short] = faults_behind(alloc, &all)?;
     assert_eq!(rt; long, refused(262_148, 10_485_992, 13));
     assert_eq!(rt; short, refused(262_148, 10_485_992, 14));
+    Ok(())
+}
+
+/// The length of a feature with an attribute of many letters, and the refusal of a file of it whose national attributes have a level.
+fn fault_of_feature(
+    alloc: Global,
+    general: &[u8],
+    front: &[u8],
+    letters: u32,
+    end: &[u8],
+) -> Result<(usize, Option<ReadRefusal>), AllocError> {
+    let record = commented(alloc, front, (letters, 65), end)?;
+    let fault = fault_of_last(alloc, 2, &[general, GEOGRAPHIC, &record])?;
+    Ok((record.len(), fault))
+}
+
+#[test]
+fn features_are_longer_when_written_again(rt: HostRuntime) -> Result<(), Fail> {
+    let alloc = rt.alloc();
+    let too_long = refused(4, 232, 13);
+    let [most, more, fits] = ATTRIBUTES_LAST;
+    let [single, shorter] = SINGLE_TERMINATOR;
+    for (general, front, letters, end, answer) in [
+        (
+            GENERAL,
+            most,
+            99_885,
+            ATTRIBUTES_LAST_END,
+            (99_999, too_long),
+        ),
+        (
+            GENERAL,
+            more,
+            99_871,
+            ATTRIBUTES_LAST_END,
+            (99_985, too_long),
+        ),
+        (GENERAL, fits, 99_870, ATTRIBUTES_LAST_END, (99_984, None)),
+        (
+            TWO_BYTE_GENERAL,
+            single,
+            99_868,
+            SINGLE_TERMINATOR_END,
+            (99_999, too_long),
+        ),
+        (
+            TWO_BYTE_GENERAL,
+            shorter,
+            99_867,
+            SINGLE_TERMINATOR_END,
+            (99_998, None),
+        ),
+    ] {
+        let given = fault_of_feature(alloc, general, front, letters, end)?;
+        assert_eq!(rt; given, answer, "{letters}");
+    }
     Ok(())
 }
