@@ -130,6 +130,8 @@ fn stands_before(frame: &Frame<'_>, tag: FieldTag, k: usize) -> bool
 }
 
 /// Whether a tag that may stand once stands among the first so many fields.
+///
+/// Only a tag that may stand once is looked for, so a record's fields are looked through a few times at most.
 pub fn stands_twice(frame: &Frame<'_>, tag: FieldTag, k: usize) -> bool
     requires { k ≤ length frame.now.fields }
     ensures { result ≡ (list_any (is_tagged tag) (take k frame.now.fields) && not (may_repeat tag)) }
