@@ -8,9 +8,9 @@ const TURNS: u32 = 320_000;
 
 fn main() {
     let threads: u32 = std::env::args()
-        .nth(1)
+        .nth(2)
         .and_then(|word| word.parse().ok())
-        .expect("usage: turns THREADS");
+        .expect("usage: turns WORK THREADS");
     let start = Instant::now();
     let numbers = Mutex::new(Vec::<u32>::new());
     std::thread::scope(|scope| {

@@ -442,11 +442,11 @@ fn main() {
     let rounds: u32 = words[2].parse().expect("a number of rounds");
     let start = Instant::now();
     let outcome = match words[1].as_str() {
-        "cell_read" => read_cells(rounds),
-        "cell_write" => write_cells(rounds),
+        "read" => read_cells(rounds),
+        "write" => write_cells(rounds),
         other => panic!("no work {}", other),
     };
     let nanoseconds = start.elapsed().as_nanos();
-    println!("{} {} {}", words[1], rounds, outcome);
+    println!("cell_{} {} {}", words[1], rounds, outcome);
     eprintln!("{nanoseconds} ns");
 }

@@ -1,0 +1,122 @@
+# What run.sh is made of. It sets `benches`, this folder, `work`, a folder for what is built and timed, `case_name` and `runs`.
+top=$(dirname "$benches")
+minimal=$top/crates/enc_cell/data/minimal.000
+TIMEFORMAT=%3U
+
+# builds `measure`, and the case's program in plain Rust
+build_measure() {
+    (cd "$top/crates/measure" && rt run measure -- baseline 1) >"$work/log" 2>&1 || { cat "$work/log" >&2; exit 1; }
+    cp "$top/crates/measure/out/measure" "$work/measure"
+    [ ! -f "$benches/plain/$case_name.rs" ] || rustc -O -o "$work/plain" "$benches/plain/$case_name.rs"
+}
+
+# builds `enc_cell`, and writes the files of its runs
+build_program() {
+    "$top/enc_cell" check "$minimal" >"$work/log"
+    python3 "$benches/cells.py" "$minimal" "$work"
+}
+
+# one run of a program: its user seconds and the nanoseconds that it says go to NAME.times, the last word of its output to NAME.said
+one_run() {
+    local name=$1
+    shift
+    { time "$@" >"$work/output" 2>"$work/errors"; } 2>"$work/user"
+    echo "$(cat "$work/user") $(sed -n 's/ ns$//p' "$work/errors")" >>"$work/$name.times"
+    awk '{ last = $NF } END { print last }' "$work/output" >"$work/$name.said"
+}
+
+# plain Rust's word for a work of `measure`
+plain_work() {
+    local same=${2#"$case_name"_}
+    [ "$1" = plain ] && echo "$same" || echo "$1_$same"
+}
+
+# runs of `measure MEASURED SIZE` and of the works of plain Rust; they take turns, since other work may disturb them, and say the same
+take_turns() {
+    local kind=$1 measured=$2 size=$3 name
+    shift 3
+    for _ in $(seq "$runs"); do
+        one_run "$kind.measure" "$work/measure" "$measured" "$size"
+        for name in "$@"; do
+            one_run "$kind.$name" "$work/plain" "$(plain_work "$name" "$measured")" "$size"
+            cmp "$work/$kind.measure.said" "$work/$kind.$name.said"
+        done
+    done
+}
+
+# the time of a rank among the runs: user seconds in column 1, nanoseconds in column 2
+time_of() {
+    sort -n -k "$2,$2" "$work/$1.times" | awk -v rank="$3" -v column="$2" 'NR == rank { print $column }'
+}
+
+# the least time of `measure` or of a work of plain Rust, in the unit of HOW
+figure() {
+    local how=$1 name=$2 size=$3 column=2 unit base=0
+    case $how in
+        whole) column=1 unit=1e-3 ;;
+        each) column=1 unit=${size}e-6 ;;
+        clock | net:*) unit=1e6 ;;
+        calls) unit=$((size - 1))e6 ;;
+    esac
+    [ ! -f "$work/base.$name.times" ] || base=$(time_of "base.$name" $column 1)
+    awk -v time="$(time_of "main.$name" $column 1)" -v base="$base" -v unit="$unit" 'BEGIN { printf "%.2f", (time - base) / unit }'
+}
+
+# a row of times: `measure`, then each work of plain Rust with the ratio to it
+timed_row() {
+    local how=$1 measured=${case_name}_$2 size=$3 name ours theirs
+    [ "$how" != calls ] || measured=$2
+    shift 3
+    rm -f "$work"/main.* "$work"/base.*
+    take_turns main "$measured" "$size" "$@"
+    case $how in
+        net:*) take_turns base "${case_name}_${how#net:}" "$size" "$@" ;;
+        calls) take_turns base "$measured" 1 "$@" ;;
+    esac
+    ours=$(figure "$how" measure "$size")
+    printf '%-22s %8s %10s %-9s' "$measured" "$size" "$ours" "$how"
+    for name in "$@"; do
+        theirs=$(figure "$how" "$name" "$size")
+        printf ' %10s %-6s %5s' "$theirs" "$name" "$(awk -v a="$ours" -v b="$theirs" 'BEGIN { if (b > 0) printf "%.2f", a / b }')"
+    done
+    printf '   says %s\n' "$(cat "$work/main.measure.said")"
+}
+
+# a row of turns a second, the best and the middle
+turns_row() {
+    local measured=$1 threads=$2 name rank
+    shift 2
+    rm -f "$work"/main.*
+    take_turns main "$measured" "$threads" "$@"
+    printf '%2d threads' "$threads"
+    for name in measure "$@"; do
+        for rank in 1 $(((runs + 1) / 2)); do
+            printf ' %12s' "$(awk -v n="$threads" -v time="$(time_of "main.$name" 2 "$rank")" 'BEGIN { printf "%.0f", int(320000 / n) * n * 1e9 / time }')"
+        done
+        printf ' %-8s' "$name"
+    done
+    echo
+}
+
+# a row of the most memory, in megabytes
+memory_row() {
+    local measured=${case_name}_$1 size=$2 name
+    shift 2
+    printf '%-22s %8s %10s MB' "$measured" "$size" "$(megabytes "$work/measure" "$measured" "$size")"
+    for name in "$@"; do
+        printf ' %10s %-6s' "$(megabytes "$work/plain" "$(plain_work "$name" "$measured")" "$size")" "$name"
+    done
+    echo
+}
+
+megabytes() {
+    command time -f %M "$@" 2>&1 >/dev/null | awk 'END { printf "%.0f", $1 / 1024 }'
+}
+
+# runs of the whole program, each with its times and its memory
+program_rows() {
+    echo "enc_cell $*"
+    for _ in $(seq "$runs"); do
+        (cd "$work" && command time -f '%e s, %U s of the processor, %M KB' "$top/crates/enc_cell/out/enc_cell" "$@" 2>&1 >output) | tail -n 1
+    done
+}

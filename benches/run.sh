@@ -1,0 +1,25 @@
+#!/usr/bin/env bash
+# Times a case of the file `cases` beside this script: benches/run.sh CASE [RUNS]. Each figure is the least of RUNS runs (7 if left out).
+# Wants rt, rustc, python3 and GNU time.
+set -euo pipefail
+benches=$(cd "$(dirname "$0")" && pwd)
+case_name=${1:-}
+runs=${2:-7}
+mapfile -t rows < <(awk -v name="$case_name" '$1 == name' "$benches/cases")
+if [ "${#rows[@]}" = 0 ]; then
+    echo "usage: benches/run.sh CASE [RUNS], where CASE is one of" $(awk '!/^#/ { print $1 }' "$benches/cases" | uniq) >&2
+    exit 2
+fi
+work=$(mktemp -d)
+trap 'rm -rf "$work"' EXIT
+. "$benches/lib.sh"
+if [ "$case_name" = program ]; then build_program; else build_measure; fi
+for row in "${rows[@]}"; do
+    read -r -a words <<<"$row"
+    case ${words[1]} in
+        program) program_rows "${words[@]:2}" ;;
+        memory) memory_row "${words[@]:2}" ;;
+        turns) turns_row "${words[@]:2}" ;;
+        *) timed_row "${words[@]:1}" ;;
+    esac
+done
