@@ -1,14 +1,12 @@
 """Writes the cell files, scripts and orders of the runs of the whole program: cells.py MINIMAL FOLDER
 
-The cells have the head records of the minimal cell file. PLACED_n has n nodes far from each other, HEAP_n has n nodes at one place, and
-RING has 500 nodes and 500 edges, each from a node to the next. ADDED adds 4,096 nodes at the place of a heap in one commit, and MOVES
-moves one node of the ring in each of 2,000 commits and views the cell before each. ORDER_n is the order of n commands of one session."""
+The cells have the head records of the minimal cell file. Points are (latitude, longitude). A script's name is beside what it does below;
+ORDER_n is the order of n shared commands of one session."""
 
 import struct
 import sys
 
-NODES = 500
-COMMITS = 2_000
+STROKE = 2_000_000
 minimal, folder = sys.argv[1:]
 with open(minimal, "rb") as file:
     head = file.read(1785)
@@ -25,20 +23,87 @@ def record(fields):
     return leader + directory + b"".join(content for _, content in fields)
 
 
-def vector(kind, number, tag, content):
-    name = struct.pack("<BIHB", kind, number, 1, 1)
-    return record([(b"0001", b"\x00\x00\x1e"), (b"VRID", name + b"\x1e"), (tag, content + b"\x1e")])
+def fields(*pairs):
+    return record([(b"0001", b"\x00\x00\x1e"), *((tag, content + b"\x1e") for tag, content in pairs if content)])
 
 
-def node(number, latitude, longitude):
-    return vector(120, number, b"SG2D", struct.pack("<ii", latitude, longitude))
+def plane(points):
+    return b"".join(struct.pack("<ii", *point) for point in points)
 
 
-def edge(number):
-    def end(to, topi):
-        return struct.pack("<BIBBBB", 120, to, 255, 255, topi, 255)
+def node(number, point):
+    return fields((b"VRID", struct.pack("<BIHB", 120, number, 1, 1)), (b"SG2D", plane([point])))
 
-    return vector(130, number, b"VRPT", end(number, 1) + end(number % NODES + 1, 2))
+
+def edge(number, ends, points=()):
+    """An edge with pointers to nodes, given by their numbers and TOPI, and points between its nodes."""
+    pointers = b"".join(struct.pack("<BIBBBB", 120, to, 255, 255, topi, 255) for to, topi in ends)
+    return fields((b"VRID", struct.pack("<BIHB", 130, number, 1, 1)), (b"VRPT", pointers), (b"SG2D", plane(points)))
+
+
+def from_to(number, first, last, points=()):
+    return edge(number, [(first, 1), (last, 2)], points)
+
+
+def area(edges):
+    """A depth area whose outer boundary goes forward along edges."""
+    pointers = b"".join(struct.pack("<BIBBB", 130, number, 1, 1, 255) for number in edges)
+    return fields((b"FRID", struct.pack("<BIBBHHB", 100, 1, 3, 1, 42, 1, 1)), (b"FOID", struct.pack("<HIH", 550, 1, 1)), (b"FSPT", pointers))
+
+
+def line(number, points):
+    """An edge along points, with the nodes at its two ends."""
+    first = 2 * number - 1
+    return [node(first, points[0]), node(first + 1, points[-1]), from_to(number, first, first + 1, points[1:-1])]
+
+
+def shape(name, size, by=(0, 0)):
+    """Points in short steps, or to and fro in long strokes, none of whose segments meet, moved by so much."""
+
+    def point(place):
+        step, stroke, bend = 100 * place, STROKE * (place % 2), 30 * (place % 2)
+        return {
+            "STAIRS": (step, step + bend),
+            "NORTH_SOUTH": (stroke, step),
+            "EAST_WEST": (step, stroke),
+            "SLANTING": (stroke + step, stroke - step),
+        }[name]
+
+    return [(latitude + by[0], longitude + by[1]) for latitude, longitude in map(point, range(size))]
+
+
+def corner(place, count):
+    """A point of a flat ring of so many points."""
+    north, steps = (5_000, place) if place < count // 2 else (0, count - place)
+    return north + 30 * (place % 2), 100 * steps
+
+
+def ring(nodes):
+    """Nodes, and an edge from each to the next."""
+    count = len(nodes)
+    yield from (node(k + 1, point) for k, point in enumerate(nodes))
+    yield from (from_to(k, k, k % count + 1) for k in range(1, count + 1))
+
+
+def snake(count, columns=32, apart=10_000):
+    """Nodes in rows from west to east and back in turn, and a ring of edges of four segments each along them."""
+
+    def place(k):
+        row, column = divmod(k, columns)
+        return row * apart, (columns - 1 - column if row % 2 else column) * apart
+
+    def quarters(one, other):
+        for k in (1, 2, 3):
+            yield tuple(a + (b - a) // 4 * k + 100 * (k == 2) for a, b in zip(one, other))
+
+    yield from (node(k + 1, place(k)) for k in range(count))
+    yield from (from_to(k, k, k + 1, quarters(place(k - 1), place(k))) for k in range(1, count))
+    north = place(count - 1)[0] + 20_000
+    yield from_to(count, count, 1, [(north, place(count - 1)[1]), (north, -20_000), (0, -20_000)])
+
+
+def far_apart(number):
+    return tuple(number * step % 2_000_000_000 - 1_000_000_000 for step in (7919, 104729))
 
 
 def write_cell(name, records):
@@ -46,22 +111,37 @@ def write_cell(name, records):
         file.write(head + b"".join(records))
 
 
-def write_text(name, lines):
+def write_text(name, text):
     with open(f"{folder}/{name}", "w") as file:
-        file.writelines(f"{line}\n" for line in lines)
+        file.write(text)
 
 
-def spread(number, step):
-    return number * step % 2_000_000_000 - 1_000_000_000
-
-
+MOVES = {
+    "STAIRS": (396_000, 396_060),
+    "NORTH_SOUTH": (500_000, 0),
+    "EAST_WEST": (0, 500_000),
+    "SLANTING": (500_000, 500_000),
+}
+for name, by in MOVES.items():
+    write_cell(f"EDGE_{name}", line(1, shape(name, 8_000)))
+    write_cell(f"PAIR_{name}", line(1, shape(name, 4_000)) + line(2, shape(name, 4_000, by)))
+write_cell("EDGE_KNOTTED", line(1, [*shape("NORTH_SOUTH", 7_999), (1_000_000, -1_000)]))
+write_cell("EDGE_ENDS", [node(1, (0, 0)), edge(1, 11_000 * [(1, 1)])])
+write_cell("PAIR_CROSSED", line(1, shape("NORTH_SOUTH", 4_000)) + line(2, shape("NORTH_SOUTH", 4_000, (0, 50))))
+write_cell("AREA_RING", [*ring([corner(k, 12_000) for k in range(12_000)]), area(range(1, 12_001))])
+write_cell("AREA_CLOSED", [node(1, corner(0, 8_000)), from_to(1, 1, 1, [corner(k, 8_000) for k in range(1, 8_000)]), area(12_000 * [1])])
+write_cell("SNAKE", snake(1_000))
+write_cell("RING", ring([(k, k) for k in range(1, 501)]))
 for count in (10_000, 20_000, 40_000, 80_000):
-    write_cell(f"PLACED_{count}", (node(n, spread(n, 7919), spread(n, 104729)) for n in range(1, count + 1)))
+    write_cell(f"PLACED_{count}", (node(k, far_apart(k)) for k in range(1, count + 1)))
 for count in (724, 240_000):
-    write_cell(f"HEAP_{count}", (node(n, 0, 0) for n in range(1, count + 1)))
-numbers = range(1, NODES + 1)
-write_cell("RING", [*(node(n, n, n) for n in numbers), *map(edge, numbers)])
-write_text("ADDED", [*(f"add vc {n} 1 p=0,0" for n in range(1_000, 5_096)), "commit"])
-write_text("MOVES", (f"set vc {n % NODES + 1} 2 p={n},{n}\nview\ncommit" for n in range(COMMITS)))
-for count in (1, 2 * COMMITS):
-    write_text(f"ORDER_{count}", ["order" + count * " 1"])
+    write_cell(f"HEAP_{count}", (node(k, (0, 0)) for k in range(1, count + 1)))
+# 4,096 more nodes at the place of a heap, in one commit
+write_text("ADDED", "".join(f"add vc {k} 1 p=0,0\n" for k in range(1_000, 5_096)) + "commit\n")
+# one node of the ring moved in each of 2,000 commits, and the cell viewed before each
+write_text("MOVES", "".join(f"set vc {k % 500 + 1} 2 p={k},{k}\nview\ncommit\n" for k in range(2_000)))
+# 50,000 commands, and 1,048,576 bytes
+write_text("DELETIONS", 50_000 * "del vc 4294967295\n")
+write_text("EDGES", "".join("add ve 1 1" + points * " p=-500000,400000" + "\n" for points in [*20 * [3_000], 1_667]) + "#end.\n")
+for count in (0, 1, 4_000):
+    write_text(f"ORDER_{count}", "order" + count * " 1" + "\n")

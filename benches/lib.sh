@@ -1,28 +1,53 @@
 # What run.sh is made of. It sets `benches`, this folder, `work`, a folder for what is built and timed, `case_name` and `runs`.
 top=$(dirname "$benches")
 minimal=$top/crates/enc_cell/data/minimal.000
-TIMEFORMAT=%3U
-
-# builds `measure`, and the case's program in plain Rust
-build_measure() {
-    (cd "$top/crates/measure" && rt run measure -- baseline 1) >"$work/log" 2>&1 || { cat "$work/log" >&2; exit 1; }
-    cp "$top/crates/measure/out/measure" "$work/measure"
-    [ ! -f "$benches/plain/$case_name.rs" ] || rustc -O -o "$work/plain" "$benches/plain/$case_name.rs"
-}
+TIMEFORMAT='%3U %3R'
 
 # builds `enc_cell`, and writes the files of its runs
 build_program() {
     "$top/enc_cell" check "$minimal" >"$work/log"
+    cp "$top/crates/enc_cell/out/enc_cell" "$work/program"
     python3 "$benches/cells.py" "$minimal" "$work"
 }
 
-# one run of a program: its user seconds and the nanoseconds that it says go to NAME.times, the last word of its output to NAME.said
+build_measure() {
+    (cd "$top/crates/measure" && rt run measure -- baseline 1) >"$work/log" 2>&1 || { cat "$work/log" >&2; exit 1; }
+    cp "$top/crates/measure/out/measure" "$work/measure"
+}
+
+build_plain() {
+    [ ! -f "$benches/plain/$case_name.rs" ] || rustc -O -o "$work/plain" "$benches/plain/$case_name.rs"
+}
+
+# one run of a program: user seconds, seconds and the nanoseconds that it says go to NAME.times, the last word of its output to NAME.said
 one_run() {
     local name=$1
     shift
-    { time "$@" >"$work/output" 2>"$work/errors"; } 2>"$work/user"
-    echo "$(cat "$work/user") $(sed -n 's/ ns$//p' "$work/errors")" >>"$work/$name.times"
+    { time (cd "$work" && "$@" >output 2>errors) || echo "status $?" >>"$work/output"; } 2>"$work/time"
+    echo "$(cat "$work/time") $(sed -n 's/ ns$//p' "$work/errors")" >>"$work/$name.times"
     awk '{ last = $NF } END { print last }' "$work/output" >"$work/$name.said"
+}
+
+# the time of a rank among the runs: user seconds in column 1, seconds by the clock in 2, nanoseconds in 3
+time_of() {
+    sort -n -k "$2,$2" "$work/$1.times" | awk -v rank="$3" -v column="$2" 'NR == rank { print $column }'
+}
+
+# the most memory of a run
+megabytes() {
+    (cd "$work" && command time -f %M "$@" 2>&1 >output) | awk 'END { printf "%.0f", $1 / 1024 }'
+}
+
+# a row of a program that runs alone
+alone_row() {
+    local program=$1
+    shift
+    rm -f "$work"/main.*
+    for _ in $(seq "$runs"); do
+        one_run main "$work/$program" "$@"
+    done
+    awk -v name="$program $*" -v user="$(time_of main 1 1)" -v clock="$(time_of main 2 1)" -v memory="$(megabytes "$work/$program" "$@")" -v said="$(cat "$work/main.said")" \
+        'BEGIN { printf "%-45s %8.0f ms %8.0f ms by the clock %5d MB, ends with %s\n", name, user * 1e3, clock * 1e3, memory, said }'
 }
 
 # plain Rust's word for a work of `measure`
@@ -31,7 +56,7 @@ plain_work() {
     [ "$1" = plain ] && echo "$same" || echo "$1_$same"
 }
 
-# runs of `measure MEASURED SIZE` and of the works of plain Rust; they take turns, since other work may disturb them, and say the same
+# runs of a work of `measure` and of works of plain Rust, which take turns, since other work may disturb them, and say the same
 take_turns() {
     local kind=$1 measured=$2 size=$3 name
     shift 3
@@ -44,16 +69,10 @@ take_turns() {
     done
 }
 
-# the time of a rank among the runs: user seconds in column 1, nanoseconds in column 2
-time_of() {
-    sort -n -k "$2,$2" "$work/$1.times" | awk -v rank="$3" -v column="$2" 'NR == rank { print $column }'
-}
-
 # the least time of `measure` or of a work of plain Rust, in the unit of HOW
 figure() {
-    local how=$1 name=$2 size=$3 column=2 unit base=0
+    local how=$1 name=$2 size=$3 column=3 unit base=0
     case $how in
-        whole) column=1 unit=1e-3 ;;
         each) column=1 unit=${size}e-6 ;;
         clock | net:*) unit=1e6 ;;
         calls) unit=$((size - 1))e6 ;;
@@ -64,8 +83,7 @@ figure() {
 
 # a row of times: `measure`, then each work of plain Rust with the ratio to it
 timed_row() {
-    local how=$1 measured=${case_name}_$2 size=$3 name ours theirs
-    [ "$how" != calls ] || measured=$2
+    local how=$1 measured=$2 size=$3 name ours theirs
     shift 3
     rm -f "$work"/main.* "$work"/base.*
     take_turns main "$measured" "$size" "$@"
@@ -74,12 +92,12 @@ timed_row() {
         calls) take_turns base "$measured" 1 "$@" ;;
     esac
     ours=$(figure "$how" measure "$size")
-    printf '%-22s %8s %10s %-9s' "$measured" "$size" "$ours" "$how"
+    printf '%-20s %8s %10s %-14s' "$measured" "$size" "$ours" "$how"
     for name in "$@"; do
         theirs=$(figure "$how" "$name" "$size")
         printf ' %10s %-6s %5s' "$theirs" "$name" "$(awk -v a="$ours" -v b="$theirs" 'BEGIN { if (b > 0) printf "%.2f", a / b }')"
     done
-    printf '   says %s\n' "$(cat "$work/main.measure.said")"
+    echo
 }
 
 # a row of turns a second, the best and the middle
@@ -91,32 +109,20 @@ turns_row() {
     printf '%2d threads' "$threads"
     for name in measure "$@"; do
         for rank in 1 $(((runs + 1) / 2)); do
-            printf ' %12s' "$(awk -v n="$threads" -v time="$(time_of "main.$name" 2 "$rank")" 'BEGIN { printf "%.0f", int(320000 / n) * n * 1e9 / time }')"
+            printf ' %12s' "$(awk -v n="$threads" -v time="$(time_of "main.$name" 3 "$rank")" 'BEGIN { printf "%.0f", int(320000 / n) * n * 1e9 / time }')"
         done
         printf ' %-8s' "$name"
     done
     echo
 }
 
-# a row of the most memory, in megabytes
+# a row of the most memory
 memory_row() {
-    local measured=${case_name}_$1 size=$2 name
+    local measured=$1 size=$2 name
     shift 2
-    printf '%-22s %8s %10s MB' "$measured" "$size" "$(megabytes "$work/measure" "$measured" "$size")"
+    printf '%-20s %8s %10s MB            ' "$measured" "$size" "$(megabytes "$work/measure" "$measured" "$size")"
     for name in "$@"; do
         printf ' %10s %-6s' "$(megabytes "$work/plain" "$(plain_work "$name" "$measured")" "$size")" "$name"
     done
     echo
-}
-
-megabytes() {
-    command time -f %M "$@" 2>&1 >/dev/null | awk 'END { printf "%.0f", $1 / 1024 }'
-}
-
-# runs of the whole program, each with its times and its memory
-program_rows() {
-    echo "enc_cell $*"
-    for _ in $(seq "$runs"); do
-        (cd "$work" && command time -f '%e s, %U s of the processor, %M KB' "$top/crates/enc_cell/out/enc_cell" "$@" 2>&1 >output) | tail -n 1
-    done
 }

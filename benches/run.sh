@@ -13,11 +13,15 @@ fi
 work=$(mktemp -d)
 trap 'rm -rf "$work"' EXIT
 . "$benches/lib.sh"
-if [ "$case_name" = program ]; then build_program; else build_measure; fi
+case " ${rows[*]} " in
+    *" program "*) build_program ;;
+    *) build_measure ;;
+esac
+build_plain
 for row in "${rows[@]}"; do
     read -r -a words <<<"$row"
     case ${words[1]} in
-        program) program_rows "${words[@]:2}" ;;
+        program | plain) alone_row "${words[@]:1}" ;;
         memory) memory_row "${words[@]:2}" ;;
         turns) turns_row "${words[@]:2}" ;;
         *) timed_row "${words[@]:1}" ;;
