@@ -1,8 +1,8 @@
 -- A writable cell is writable after edits that it takes.
-use Rattle.std.proofs.Common.{◌≡◌, ◌&&◌, ℕ, ◌<◌, Bool, true, false, List, [], ◌∷◌, ◌++◌, length, map, Option, None, Some, refl, sym, subst, ◌∙◌, arith}
+use Rattle.std.proofs.Common.{◌≡◌, ℕ, ◌<◌, Bool, true, false, List, [], ◌∷◌, ◌++◌, length, map, Option, None, Some, refl, sym, subst, ◌∙◌, arith}
 use Rattle.std.specs.Prelude.{cond, not, nat_le, is_some, IfSome, filter_map, find}
 use Rattle.std.specs.List.{AllByRecursion, IsDistinct, list_all, cons_option}
-use Rattle.std.proofs.lemmas.Bool.{leb-true}
+use Rattle.std.proofs.lemmas.Bool.{and_parts, leb-true}
 use Rattle.std.proofs.lemmas.List.{length-map, get_or-map, map-append}
 use Rattle.std.proofs.lemmas.List.Elements.{recursion_from_All, All-from_recursion}
 use Rattle.std.proofs.lemmas.Map.Keys.{IsDistinct-from_apart}
@@ -25,14 +25,6 @@ use Rattle.file_spec.proofs.EachItem.{each_append, each_front, each_back, each_w
 use Rattle.edit_laws.proofs.DistinctNames.{IsApart, distinct_front, distinct_back, kinds_apart, apart_from_both}
 use Rattle.edit_laws.proofs.EditedRecords.{Leaves}
 use Rattle.edit_laws.proofs.EditedLists.{IsOfKind, list_is_of_kind, list_has, list_is_distinct, distinct_lists}
-
-and_left : (a b : Bool) → (a && b) ≡ true → a ≡ true
-and_left true b h = refl
-and_left false b h = absurd cc
-
-and_right : (a b : Bool) → (a && b) ≡ true → b ≡ true
-and_right true b h = h
-and_right false b h = absurd cc
 
 -- additions have new names
 not_first : (named : Bool) (r : Rec) (later : Option Rec) → cond named (Some r) later ≡ None → (named ≡ false) × (later ≡ None)
@@ -60,8 +52,8 @@ additions_are_new : (c : Cell) (edits : List Edit) → list_all (has_its_record 
 additions_are_new c [] all = tt
 additions_are_new c (edit ∷ edits) all =
     names_behind (IsApart (map name_of (all_records c))) (added_by edit) (filter_map added_by edits)
-    (addition_is_new c edit (and_left (has_its_record c edit) (list_all (has_its_record c) edits) all))
-    (additions_are_new c edits (and_right (has_its_record c edit) (list_all (has_its_record c) edits) all))
+    (addition_is_new c edit (and_parts (has_its_record c edit) (list_all (has_its_record c) edits) all).0)
+    (additions_are_new c edits (and_parts (has_its_record c edit) (list_all (has_its_record c) edits) all).1)
 
 -- an edit set's edits have distinct names, and leave records that can be written
 different_names : (nall : ℕ) (edits : List Edit) → IsFormed nall edits → IsDistinct same_name (map name_of_edit edits)
@@ -124,8 +116,9 @@ pub edits_keep_writable : EditsKeepWritable
 unfolding apply_edits
 edits_keep_writable c edits w no_fault applicable =
     let form : IsFormed c.head.nall edits = formed c.head.nall edits no_fault in
-    let new = additions_are_new c edits (and_left (list_all (has_its_record c) edits) (nat_le (length (all_records (apply_edits edits c))) 262144) applicable) in
-    let small = and_right (list_all (has_its_record c) edits) (nat_le (length (all_records (apply_edits edits c))) 262144) applicable in
+    let parts = and_parts (list_all (has_its_record c) edits) (nat_le (length (all_records (apply_edits edits c))) 262144) applicable in
+    let new = additions_are_new c edits parts.0 in
+    let small = parts.1 in
     let fits : Rec → Type 0 = λ r. unfitness c.head.nall r ≡ None in
     let leaves : AllByRecursion (Leaves fits) edits = each_weaker (λ edit. unfitness_of_edit c.head.nall edit ≡ None) (Leaves fits) (leaves_fit c.head.nall) edits (recursion_from_All (λ edit. unfitness_of_edit c.head.nall edit ≡ None) edits form.fit) in
     let fit_before : AllByRecursion fits (all_records c) = recursion_from_All fits (all_records c) w.records_fit in
