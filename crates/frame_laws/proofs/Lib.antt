@@ -1,4 +1,8 @@
 pub mod Lists
+pub mod Ascents
+pub mod AscendingLoops
+pub mod AscendingRules
+pub mod AscendingSubjects
 pub mod Keys
 pub mod EdgeLines
 pub mod RuleFindings

@@ -20,6 +20,10 @@ pub each_back : {X : Type 0} (P : X → Type 0) (xs ys : List X) → AllByRecurs
 each_back P [] ys all = all
 each_back P (x ∷ xs) ys all = each_back P xs ys all.1
 
+pub each_joined : {X : Type 0} (P : X → Type 0) (xs ys : List X) → AllByRecursion P xs → AllByRecursion P ys → AllByRecursion P (xs ++ ys)
+each_joined P [] ys first second = second
+each_joined P (x ∷ xs) ys first second = (first.0, each_joined P xs ys first.1 second)
+
 pub each_mapped : {X Y : Type 0} (P : Y → Type 0) (f : X → Y) (xs : List X) → AllByRecursion P (map f xs) → AllByRecursion (λ x. P (f x)) xs
 each_mapped P f [] all = tt
 each_mapped P f (x ∷ xs) all = (all.0, each_mapped P f xs all.1)

@@ -1,5 +1,5 @@
 -- The rules on two nodes or edges give the same in two cells that answer alike to what they look up.
-use Rattle.std.proofs.Common.{◌≡◌, ℕ, ◌&&◌, ◌||◌, Bool, true, List, [], ◌∷◌, ◌++◌, Option, None, Some, cond, find, is_some, IfSome, refl, ap, ◌∙◌}
+use Rattle.std.proofs.Common.{◌≡◌, ℕ, ◌&&◌, ◌||◌, Bool, true, [], ◌∷◌, ◌++◌, Option, None, Some, cond, find, is_some, IfSome, refl, ap, ◌∙◌}
 use Rattle.std.specs.List.{AllByRecursion, enumerate_from}
 use Rattle.std.specs.Option.{option_map_or}
 use Rattle.s57_types.specs.declared.name.RecName.{RecName}

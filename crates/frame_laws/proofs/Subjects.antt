@@ -1,5 +1,4 @@
 -- The findings about each subject follow its read set.
-use Rattle.std.proofs.Common.{ℕ, List}
 use Rattle.std.specs.List.{AllByRecursion}
 use Rattle.s57_types.specs.declared.cell.Cell.{Cell}
 use Rattle.cell_spec.specs.declared.key.Subject.{Subject}

@@ -1,5 +1,5 @@
 -- The rules on vector records give the same in two cells that answer alike to what they look up.
-use Rattle.std.proofs.Common.{◌≡◌, ℕ, Bool, true, false, List, [], None, Some, cond, not, is_some, refl, ap}
+use Rattle.std.proofs.Common.{◌≡◌, Bool, true, false, [], None, Some, cond, not, is_some, refl, ap}
 use Rattle.std.specs.List.{AllByRecursion}
 use Rattle.std.specs.Option.{option_map_or}
 use Rattle.s57_types.specs.declared.record.End.{End}

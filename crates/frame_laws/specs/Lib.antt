@@ -1,1 +1,2 @@
+pub mod FindingsAscend
 pub mod FindingsFollowReads

@@ -1,10 +1,8 @@
 -- The lines of edits and of answers.
 use Rattle.std.specs.Prelude.{◌≡◌, ℕ, List, [], ◌∷◌, ◌++◌, map, pos, negsuc, codes}
-use Rattle.s57_types.specs.declared.name.Lnam.{Lnam}
 use Rattle.s57_types.specs.declared.fault.Unfit.TheVariants.{TooLong, BadText, BadName}
 use Rattle.s57_types.specs.declared.record.Rec.{Rec}
 use Rattle.s57_types.specs.declared.record.Rec.TheVariants.{V, F}
-use Rattle.cell_spec.specs.declared.edit.Edit.{Edit}
 use Rattle.cell_spec.specs.declared.edit.Edit.TheVariants.{Add, Set, Del}
 use Rattle.edit_sets.specs.declared.fault.FormFault.TheVariants.{Empty, TooMany, Twice, Unfit as UnfitAt}
 use Rattle.sample_cells.specs.Parts.{vi, vc, ve, fe, at, node, edge, end_of, vector, spot}

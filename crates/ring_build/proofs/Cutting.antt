@@ -12,7 +12,7 @@ use Rattle.rule_spec.specs.Loops as loops
 use Rattle.ring_build.specs.declared.ring.Block.{Block}
 use Rattle.ring_build.specs.declared.ring.RingCut.{RingCut}
 use Rattle.ring_build.specs.declared.ring.RingCut.TheVariants.{Whole, OpenAt}
-use Rattle.ring_build.specs.Partition.{blocks_after, IsCut, IsOnlyCut, cut_by, cut_of}
+use Rattle.ring_build.specs.Partition.{blocks_after, IsCut, ComputedCutIsOnly, cut_by, cut_of}
 use Rattle.ring_build.proofs.FrontLoop.{goes_round, returns_at, is_loop-round, front_loop, none_counted, same_name-self}
 
 -- the walk finds a chain that goes round, whatever stands behind it
@@ -203,7 +203,7 @@ cut_alone arcs (OpenAt place) h =
     ap OpenAt same ∙ sym (open_cut arcs h.before rest together h.cut.each (none_found rest h.open_here) (omega (arith, from_one, within, length-drop (place - 1) arcs)))
 
 -- what the lengths say is the cut, and there is no other
-pub only_cut : (arcs : List Arc) → IsOnlyCut arcs (cut_of arcs)
+pub only_cut : ComputedCutIsOnly
 only_cut arcs = let c = cutting arcs in record { holds = cut_holds arcs c.pieces c.rest c.together c.loops c.no_more; only = cut_alone arcs }
 
 -- ---- the cut, by the pieces that are done and the rest

@@ -34,3 +34,7 @@ cut_by lengths (Some place) = OpenAt place
 
 abbrev pub cut_of : List Arc → RingCut
 cut_of arcs = cut_by (loop_lengths arcs) (first_open_place arcs)
+
+-- what is computed of any list is its cut, and the list has no other
+abbrev pub ComputedCutIsOnly : Type 0
+ComputedCutIsOnly = (arcs : List Arc) → IsOnlyCut arcs (cut_of arcs)

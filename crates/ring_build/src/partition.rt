@@ -4,6 +4,7 @@ ghost use Rattle.std.specs.Prelude.{◌≡◌, ◌<◌, ◌≤◌, IfOk, IfSome,
 ghost use Rattle.rule_spec.specs.Loops.{loop_length as loop_length_of};
 ghost use Rattle.ring_build.specs.Partition.{IsOnlyCut, cut_of};
 
+use crate::law::computed_cut_is_only;
 use crate::ring::{Block, Blocks, RingCut};
 use s57_types::RecName;
 use std::alloc::{AllocError, Global};
@@ -37,6 +38,7 @@ pub fn cut(alloc: Global, ends: &[(RecName, RecName)]) -> Result<RingCut, AllocE
     ensures exact { IfOk result (λ found. IsOnlyCut ends.now found) }
     ensures computed { IfOk result (λ found. found ≡ cut_of ends.now) }
 {
+    computed_cut_is_only();
     let mut loops = Blocks::make(alloc);
     let mut rest = ends;
     let mut done: u32 = 0;

@@ -2,7 +2,7 @@ use Rattle.std.proofs.Common.{◌≡◌, ◌+◌, ◌∷◌, [], ◌++◌, Some,
 use Rattle.rule_spec.specs.Loops.{loop_length, loop_lengths}
 use Rattle.ring_build.specs.declared.ring.RingCut.TheVariants.{OpenAt, Whole}
 use Rattle.ring_build.specs.Partition.{blocks_after, IsOnlyCut, cut_of}
-use Rattle.ring_build.proofs.Cutting.{lengths_step, lengths_sum, open_at, whole_at, only_cut}
+use Rattle.ring_build.proofs.Cutting.{lengths_step, lengths_sum, open_at, whole_at}
 use Rattle.ring_build.proofs.partition.cut.Goals as goal
 use Rattle.ring_build.proofs.partition.cut.Goals.{After-drop-loops-inside, After-loop-rest}
 
@@ -31,13 +31,13 @@ is_whole : (c : After-loop-rest) → Whole c.loop-rest.loops ≡ cut_of c.args.e
 is_whole c = whole_at c.args.ends.now c.loop-rest.rest.now c.loop-rest.loops c.loop-rest.done (search rules) c.loop-rest.invariant.placed c.loop-rest.invariant.counted c.loop-rest.invariant.left
 
 pub returns-in_default-clause-exact : goal.returns-in_default-clause-exact
-returns-in_default-clause-exact c = subst (IsOnlyCut c.args.ends.now) (sym (is_open c)) (only_cut c.args.ends.now)
+returns-in_default-clause-exact c = subst (IsOnlyCut c.args.ends.now) (sym (is_open c)) (c.computed_cut_is_only.ensures c.args.ends.now)
 
 pub returns-in_default-clause-computed : goal.returns-in_default-clause-computed
 returns-in_default-clause-computed c = is_open c
 
 pub returns-clause-exact : goal.returns-clause-exact
-returns-clause-exact c = subst (IsOnlyCut c.args.ends.now) (sym (is_whole c)) (only_cut c.args.ends.now)
+returns-clause-exact c = subst (IsOnlyCut c.args.ends.now) (sym (is_whole c)) (c.computed_cut_is_only.ensures c.args.ends.now)
 
 pub returns-clause-computed : goal.returns-clause-computed
 returns-clause-computed c = is_whole c
