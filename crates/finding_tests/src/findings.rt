@@ -4,6 +4,10 @@ ghost use Rattle.cell_spec.specs.Writable.{IsWritable};
 use crate::sheet::{Line, Sketch, cell_of};
 use cell_findings::{FindingRefusal, find_all, push_cell};
 use cell_spec::{Finding, Subject};
+use rule_spec::{
+    DANGLING_END, NODE_ON_EDGE, ORPHAN, SAME_PLACE, SIDE_OVERLAP, SIDE_UNBALANCED, TWICE_FOID,
+    WRONG_GROUP,
+};
 use s57_types::{Cell, Kind, Lnam, RecName};
 use std::alloc::{AllocError, Global};
 use std::process::Abort;
@@ -55,22 +59,6 @@ fn coastline<'a>(fidn: u32, edges: &'a [(u32, u8)]) -> Sketch<'a> {
         edges,
     }
 }
-
-const DANGLING_END: u8 = 3;
-
-const SAME_PLACE: u8 = 10;
-
-const NODE_ON_EDGE: u8 = 11;
-
-const WRONG_GROUP: u8 = 20;
-
-const ORPHAN: u8 = 21;
-
-const SIDE_OVERLAP: u8 = 22;
-
-const SIDE_UNBALANCED: u8 = 23;
-
-const TWICE_FOID: u8 = 25;
 
 const LINES: &[u8] =
     b"cell vi 0 vc 4 ve 4 fe 3\nfindings 8\nrec ve 4 DanglingEnd 2\nrec fe 3 WrongGroup\nside ve 2 Orphan\nside ve 4 Orphan\npair vc 3 vc 4 SamePlace\npair vc 4 ve 2 NodeOnEdge 1\npair vc 4 ve 3 NodeOnEdge 1\nident 1 7 1 TwiceFoid 3\nend\n";

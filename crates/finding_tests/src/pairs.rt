@@ -3,11 +3,12 @@ ghost use Rattle.cell_spec.specs.Writable.{IsWritable};
 
 use crate::sheet::{Line, cell_of};
 use cell_spec::{Finding, Key, Row, Subject};
-use chain_topo::{ListLook};
+use chain_topo::ListLook;
 use check_pairs::verdict_pair;
 use geometry_spec::Point;
-use plain_lookups::is_chain_part;
 use look_counter::start_counter;
+use plain_lookups::is_chain_part;
+use rule_spec::{COINCIDE, CROSS, NODE_ON_EDGE, SAME_PLACE, TOUCH};
 use s57_types::{Cell, Kind, RecName};
 use std::alloc::{AllocError, Global};
 use std::marker::Brand;
@@ -97,16 +98,6 @@ fn check_pair(rt: &impl Abort, alloc: Global, chart: Chart, a: RecName, b: RecNa
         None => assert!(rt; findings.is_empty()),
     }
 }
-
-const CROSS: u8 = 7;
-
-const TOUCH: u8 = 8;
-
-const COINCIDE: u8 = 9;
-
-const SAME_PLACE: u8 = 10;
-
-const NODE_ON_EDGE: u8 = 11;
 
 const DIAGONALS: [Point; 4] = [
     (LEAST, LEAST),
