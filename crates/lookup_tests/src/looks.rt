@@ -3,8 +3,8 @@ ghost use Rattle.cell_spec.specs.Lookup.{lookup_record};
 
 use crate::sample::{SHARED, end, of, sample, vector};
 use chain_topo::{ListLook, Look, Steps, edge_of, edge_points, node_at, position_of};
-use plain_lookups::name_of;
 use look_counter::start_counter;
+use plain_lookups::name_of;
 use s57_types::{Attrs, Deep, Items, Kind, Lnam, Rec, RecName, Vector};
 use std::alloc::{AllocError, Global};
 use std::marker::Brand;

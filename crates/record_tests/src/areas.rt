@@ -3,11 +3,12 @@ ghost use Rattle.chain_topo.specs.Readable.{IsReadable};
 
 use crate::charts::{Name, Shape, Sketch, at, bare, chart_of, named};
 use cell_spec::{Finding, Key};
-use chain_topo::{ListLook};
+use chain_topo::ListLook;
 use check_area::area_findings;
 use geometry_spec::Point;
 use look_counter::start_counter;
 use near_records::gather;
+use rule_spec::{MIXED_RING, OPEN_RING, OUTER_COUNT, WRONG_TURN};
 use s57_types::Kind::{Vc, Ve};
 use s57_types::{Cell as Chart, Rec};
 use std::alloc::{AllocError, Global};
@@ -166,17 +167,20 @@ fn check_cases(rt: &impl Abort, alloc: Global, cases: &[Case]) -> Result<(), All
 const CLOSED: [Case; 10] = [
     // A square that turns clockwise, without its last side, and out of order.
     (&[(1, 1, 1), (2, 1, 1), (3, 1, 1), (4, 1, 1)], &[]),
-    (&[(1, 1, 1), (2, 1, 1), (3, 1, 1)], &[(15, 1)]),
-    (&[(1, 1, 1), (3, 1, 1), (2, 1, 1), (4, 1, 1)], &[(15, 1)]),
+    (&[(1, 1, 1), (2, 1, 1), (3, 1, 1)], &[(OPEN_RING, 1)]),
+    (
+        &[(1, 1, 1), (3, 1, 1), (2, 1, 1), (4, 1, 1)],
+        &[(OPEN_RING, 1)],
+    ),
     // A closed edge before an open end, which hides that the loop is mixed.
-    (&[(8, 1, 1), (1, 1, 2), (2, 1, 1)], &[(15, 2)]),
+    (&[(8, 1, 1), (1, 1, 2), (2, 1, 1)], &[(OPEN_RING, 2)]),
     // A closed edge, forward and in reverse.
     (&[(8, 1, 1)], &[]),
-    (&[(8, 2, 1)], &[(18, 1)]),
+    (&[(8, 2, 1)], &[(WRONG_TURN, 1)]),
     // A figure of eight from the node where it crosses, and from another one.
     (
         &[(1, 1, 1), (2, 1, 1), (3, 1, 1), (4, 1, 1), (11, 1, 1)],
-        &[(17, 2)],
+        &[(OUTER_COUNT, 2)],
     ),
     (
         &[(2, 1, 1), (3, 1, 1), (4, 1, 1), (11, 1, 1), (1, 1, 1)],
@@ -197,19 +201,28 @@ const SIDES: [Case; 9] = [
     // Two exterior loops, of which one turns the wrong way.
     (
         &[(1, 1, 1), (2, 1, 1), (3, 1, 1), (4, 1, 1), (8, 1, 1)],
-        &[(17, 2)],
+        &[(OUTER_COUNT, 2)],
     ),
     (
         &[(1, 1, 1), (2, 1, 1), (3, 1, 1), (4, 1, 1), (8, 2, 1)],
-        &[(17, 2), (18, 5)],
+        &[(OUTER_COUNT, 2), (WRONG_TURN, 5)],
     ),
     // A hole, the same turned wrongly, and a hole alone.
     (&[(8, 1, 1), (5, 1, 2), (6, 1, 2), (7, 1, 2)], &[]),
-    (&[(8, 1, 1), (7, 2, 2), (6, 2, 2), (5, 2, 2)], &[(18, 2)]),
-    (&[(5, 1, 2), (6, 1, 2), (7, 1, 2)], &[(17, 0)]),
+    (
+        &[(8, 1, 1), (7, 2, 2), (6, 2, 2), (5, 2, 2)],
+        &[(WRONG_TURN, 2)],
+    ),
+    (&[(5, 1, 2), (6, 1, 2), (7, 1, 2)], &[(OUTER_COUNT, 0)]),
     // Mixed usage, which hides the number of exterior loops and their turn.
-    (&[(1, 1, 1), (2, 1, 2), (3, 1, 1), (4, 1, 1)], &[(16, 1)]),
-    (&[(8, 2, 1), (5, 1, 2), (6, 1, 3), (7, 1, 2)], &[(16, 2)]),
+    (
+        &[(1, 1, 1), (2, 1, 2), (3, 1, 1), (4, 1, 1)],
+        &[(MIXED_RING, 1)],
+    ),
+    (
+        &[(8, 2, 1), (5, 1, 2), (6, 1, 3), (7, 1, 2)],
+        &[(MIXED_RING, 2)],
+    ),
     // The data limit is exterior.
     (&[(1, 1, 3), (2, 1, 1), (3, 1, 3), (4, 1, 1)], &[]),
     (&[(8, 1, 3)], &[]),
@@ -224,14 +237,14 @@ fn loops_are_exterior_or_interior(rt: HostRuntime) -> Result<(), Fail> {
 const TURNS: [Case; 5] = [
     // Edges with points, forward and in reverse.
     (&[(9, 1, 1), (10, 2, 1)], &[]),
-    (&[(9, 2, 1), (10, 1, 1)], &[(18, 1)]),
+    (&[(9, 2, 1), (10, 1, 1)], &[(WRONG_TURN, 1)]),
     // There and back along one edge.
-    (&[(1, 1, 1), (1, 2, 1)], &[(18, 1)]),
-    (&[(8, 1, 1), (9, 1, 2), (9, 2, 2)], &[(18, 2)]),
+    (&[(1, 1, 1), (1, 2, 1)], &[(WRONG_TURN, 1)]),
+    (&[(8, 1, 1), (9, 1, 2), (9, 2, 2)], &[(WRONG_TURN, 2)]),
     // A figure of eight whose two squares turn against each other.
     (
         &[(2, 1, 1), (3, 1, 1), (4, 1, 1), (11, 2, 1), (1, 1, 1)],
-        &[(18, 1)],
+        &[(WRONG_TURN, 1)],
     ),
 ];
 
@@ -247,7 +260,7 @@ fn loops_turn_by_their_usage(rt: HostRuntime) -> Result<(), Fail> {
         alloc,
         &moved,
         &[(1, 1, 1), (2, 1, 1), (3, 1, 1), (4, 1, 1)],
-        &[(18, 1)],
+        &[(WRONG_TURN, 1)],
     )?;
     Ok(())
 }

@@ -3,10 +3,14 @@ ghost use Rattle.chain_topo.specs.Readable.{IsReadable};
 
 use crate::charts::{Name, Place, Shape, Sketch, at, bare, chart_of, foid, named};
 use cell_spec::{Finding, Key};
-use chain_topo::{ListLook};
+use chain_topo::ListLook;
 use check_feature::feature_findings;
 use look_counter::start_counter;
 use near_records::gather;
+use rule_spec::{
+    BAD_CODES, DANGLING_FEATURE, DANGLING_REF, MIXED_RING, OPEN_RING, OUTER_COUNT, PRIM_REFS,
+    WRONG_GROUP, WRONG_TURN,
+};
 use s57_types::Kind::{Vc, Ve, Vi};
 use s57_types::{Cell as Chart, Rec};
 use std::alloc::{AllocError, Global};
@@ -120,23 +124,27 @@ const BACK: Place = ((Ve, 1), 2, 1, 255);
 const PRIMITIVES: [Case; 18] = [
     (1, &[NODE], &[]),
     (1, &[JOINT], &[]),
-    (1, &[NODE, NODE], &[(12, 0)]),
-    (1, &[], &[(12, 0)]),
-    (1, &[((Ve, 1), 255, 255, 255)], &[(12, 0)]),
-    (1, &[((Vi, 6), 255, 255, 255)], &[(13, 1)]),
+    (1, &[NODE, NODE], &[(PRIM_REFS, 0)]),
+    (1, &[], &[(PRIM_REFS, 0)]),
+    (1, &[((Ve, 1), 255, 255, 255)], &[(PRIM_REFS, 0)]),
+    (1, &[((Vi, 6), 255, 255, 255)], &[(DANGLING_REF, 1)]),
     (2, &[EDGE], &[]),
     (2, &[EDGE, EDGE], &[]),
-    (2, &[], &[(12, 0)]),
+    (2, &[], &[(PRIM_REFS, 0)]),
     // A node that is there is no dangling reference.
-    (2, &[JOINT], &[(12, 0)]),
-    (2, &[EDGE, NODE], &[(12, 0)]),
-    (2, &[ABSENT_EDGE, EDGE, ABSENT_EDGE], &[(13, 1), (13, 3)]),
-    (3, &[], &[(12, 0)]),
+    (2, &[JOINT], &[(PRIM_REFS, 0)]),
+    (2, &[EDGE, NODE], &[(PRIM_REFS, 0)]),
+    (
+        2,
+        &[ABSENT_EDGE, EDGE, ABSENT_EDGE],
+        &[(DANGLING_REF, 1), (DANGLING_REF, 3)],
+    ),
+    (3, &[], &[(PRIM_REFS, 0)]),
     (255, &[], &[]),
-    (255, &[EDGE], &[(12, 0)]),
-    (255, &[ABSENT_EDGE], &[(12, 0), (13, 1)]),
-    (4, &[], &[(12, 0)]),
-    (4, &[EDGE], &[(12, 0)]),
+    (255, &[EDGE], &[(PRIM_REFS, 0)]),
+    (255, &[ABSENT_EDGE], &[(PRIM_REFS, 0), (DANGLING_REF, 1)]),
+    (4, &[], &[(PRIM_REFS, 0)]),
+    (4, &[EDGE], &[(PRIM_REFS, 0)]),
 ];
 
 #[test]
@@ -155,7 +163,7 @@ fn check_codes(
 ) -> Result<(), AllocError> {
     for (ornt, usag, mask, fit) in cases {
         let places = [(to, *ornt, *usag, *mask)];
-        let found: &[(u8, u32)] = if *fit { &[] } else { &[(14, 1)] };
+        let found: &[(u8, u32)] = if *fit { &[] } else { &[(BAD_CODES, 1)] };
         check(rt, alloc, &bare(prim, &places), found)?;
     }
     Ok(())
@@ -194,10 +202,10 @@ fn check_area_codes(
 ) -> Result<(), AllocError> {
     for (ornt, usag, mask, kind) in cases {
         let places = [OVER, ((Ve, 1), *ornt, *usag, *mask)];
-        let found: &[(u8, u32)] = match kind {
-            14 => &[(14, 2)],
-            15 => &[(15, 1)],
-            16 => &[(16, 1)],
+        let found: &[(u8, u32)] = match *kind {
+            BAD_CODES => &[(BAD_CODES, 2)],
+            OPEN_RING => &[(OPEN_RING, 1)],
+            MIXED_RING => &[(MIXED_RING, 1)],
             _ => &[],
         };
         check(rt, alloc, &bare(3, &places), found)?;
@@ -210,15 +218,15 @@ const AREA_CODES: [(u8, u8, u8, u8); 13] = [
     (2, 1, 2, 0),
     (2, 1, 255, 0),
     (2, 3, 255, 0),
-    (2, 3, 1, 14),
-    (2, 3, 2, 14),
-    (2, 2, 255, 16),
-    (1, 1, 255, 15),
-    (255, 1, 255, 14),
-    (3, 1, 255, 14),
-    (2, 255, 255, 14),
-    (2, 4, 255, 14),
-    (2, 1, 0, 14),
+    (2, 3, 1, BAD_CODES),
+    (2, 3, 2, BAD_CODES),
+    (2, 2, 255, MIXED_RING),
+    (1, 1, 255, OPEN_RING),
+    (255, 1, 255, BAD_CODES),
+    (3, 1, 255, BAD_CODES),
+    (2, 255, 255, BAD_CODES),
+    (2, 4, 255, BAD_CODES),
+    (2, 1, 0, BAD_CODES),
 ];
 
 #[test]
@@ -231,13 +239,21 @@ const BOUNDARIES: [Case; 8] = [
     (3, &[OVER, BACK], &[]),
     (3, &[BACK, OVER], &[]),
     // Without its last edge.
-    (3, &[OVER], &[(15, 1)]),
-    (3, &[((Ve, 1), 1, 1, 255), ((Ve, 2), 1, 1, 255)], &[(18, 1)]),
-    (3, &[((Ve, 1), 1, 2, 255), ((Ve, 2), 1, 2, 255)], &[(17, 0)]),
+    (3, &[OVER], &[(OPEN_RING, 1)]),
+    (
+        3,
+        &[((Ve, 1), 1, 1, 255), ((Ve, 2), 1, 1, 255)],
+        &[(WRONG_TURN, 1)],
+    ),
+    (
+        3,
+        &[((Ve, 1), 1, 2, 255), ((Ve, 2), 1, 2, 255)],
+        &[(OUTER_COUNT, 0)],
+    ),
     // An open boundary isn't judged where something else is wrong with its places.
-    (3, &[OVER, ((Vc, 1), 1, 1, 255)], &[(12, 0)]),
-    (3, &[OVER, ((Ve, 9), 1, 1, 255)], &[(13, 2)]),
-    (3, &[((Ve, 2), 2, 0, 255)], &[(14, 1)]),
+    (3, &[OVER, ((Vc, 1), 1, 1, 255)], &[(PRIM_REFS, 0)]),
+    (3, &[OVER, ((Ve, 9), 1, 1, 255)], &[(DANGLING_REF, 2)]),
+    (3, &[((Ve, 2), 2, 0, 255)], &[(BAD_CODES, 1)]),
 ];
 
 #[test]
@@ -249,9 +265,16 @@ fn boundaries(rt: HostRuntime) -> Result<(), Fail> {
 const PARTNERS: [(&[u32], &[(u8, u32)]); 5] = [
     (&[2], &[]),
     (&[1], &[]),
-    (&[3], &[(19, 1)]),
-    (&[2, 3], &[(19, 2)]),
-    (&[4, 2, 3, 4], &[(19, 1), (19, 3), (19, 4)]),
+    (&[3], &[(DANGLING_FEATURE, 1)]),
+    (&[2, 3], &[(DANGLING_FEATURE, 2)]),
+    (
+        &[4, 2, 3, 4],
+        &[
+            (DANGLING_FEATURE, 1),
+            (DANGLING_FEATURE, 3),
+            (DANGLING_FEATURE, 4),
+        ],
+    ),
 ];
 
 #[test]
@@ -288,7 +311,7 @@ fn check_class(
             objl,
             ..bare(*prim, places)
         };
-        let found: &[(u8, u32)] = if *kind == 0 { &[] } else { &[(20, 0)] };
+        let found: &[(u8, u32)] = if *kind == 0 { &[] } else { &[(WRONG_GROUP, 0)] };
         check(rt, alloc, &sketch, found)?;
     }
     Ok(())
@@ -297,10 +320,22 @@ fn check_class(
 #[test]
 fn groups(rt: HostRuntime) -> Result<(), Fail> {
     for objl in [42, 46, 57, 65, 71, 95, 154] {
-        check_class(&rt, rt.alloc(), objl, &GROUPED, &[0, 20, 20, 0])?;
+        check_class(
+            &rt,
+            rt.alloc(),
+            objl,
+            &GROUPED,
+            &[0, WRONG_GROUP, WRONG_GROUP, 0],
+        )?;
     }
     for objl in [43, 302] {
-        check_class(&rt, rt.alloc(), objl, &GROUPED, &[20, 0, 20, 0])?;
+        check_class(
+            &rt,
+            rt.alloc(),
+            objl,
+            &GROUPED,
+            &[WRONG_GROUP, 0, WRONG_GROUP, 0],
+        )?;
     }
     Ok(())
 }
@@ -314,7 +349,13 @@ fn all_at_once(rt: HostRuntime) -> Result<(), Fail> {
         partners: &[7],
         ..bare(2, &places)
     };
-    let found = [(12, 0), (13, 2), (14, 2), (19, 1), (20, 0)];
+    let found = [
+        (PRIM_REFS, 0),
+        (DANGLING_REF, 2),
+        (BAD_CODES, 2),
+        (DANGLING_FEATURE, 1),
+        (WRONG_GROUP, 0),
+    ];
     check(&rt, rt.alloc(), &sketch, &found)?;
     Ok(())
 }

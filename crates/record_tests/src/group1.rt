@@ -3,9 +3,10 @@ ghost use Rattle.chain_topo.specs.Readable.{IsReadable};
 
 use crate::charts::{Place, Sketch, at, bare, chart_of, named};
 use cell_spec::{Finding, Key, Row, Subject};
-use chain_topo::{ListLook};
+use chain_topo::ListLook;
 use check_group1::{verdict_ident, verdict_side};
 use look_counter::start_counter;
+use rule_spec::{FALSE_TRUNCATION, ORPHAN, SIDE_OVERLAP, SIDE_UNBALANCED, TWICE_FOID};
 use s57_types::Kind::Ve;
 use s57_types::{Cell, Lnam};
 use std::alloc::{AllocError, Global};
@@ -75,7 +76,7 @@ fn check_side(rt: &impl Abort, side: &Row, referrers: usize, found: &[Found]) {
 // Checks the row of the identifier that three features bear.
 fn check_identity(rt: &impl Abort, identity: &Row) {
     let twice = Finding {
-        kind: 25,
+        kind: TWICE_FOID,
         nums: [3, 0, 0, 0],
     };
     assert_eq!(rt; identity.subject, Subject::Ident(IDENTITY));
@@ -133,7 +134,7 @@ fn features_clear_orphans(rt: HostRuntime) -> Result<(), Fail> {
         &rt,
         alloc,
         [nothing(), nothing(), nothing()],
-        &[(21, [0, 0, 0, 0])],
+        &[(ORPHAN, [0, 0, 0, 0])],
     )?;
     check(&rt, alloc, [used, nothing(), nothing()], &[])?;
     Ok(())
@@ -147,14 +148,19 @@ fn areas_are_counted_at_each_side(rt: HostRuntime) -> Result<(), Fail> {
     check(&rt, alloc, [area, covered, nothing()], &[])?;
     // A second area without coverage; the edge named twice by one area, on one side and on both.
     let two = [2, 0, 1, 0];
-    check(&rt, alloc, [area, covered, area], &[(22, two), (23, two)])?;
+    check(
+        &rt,
+        alloc,
+        [area, covered, area],
+        &[(SIDE_OVERLAP, two), (SIDE_UNBALANCED, two)],
+    )?;
     let twice = depth(&[FORWARD, FORWARD]);
     let alone = [2, 0, 0, 0];
     check(
         &rt,
         alloc,
         [twice, nothing(), nothing()],
-        &[(22, alone), (23, alone)],
+        &[(SIDE_OVERLAP, alone), (SIDE_UNBALANCED, alone)],
     )?;
     let both = depth(&[FORWARD, REVERSE]);
     check(&rt, alloc, [both, nothing(), nothing()], &[])?;
@@ -170,7 +176,12 @@ fn coverage_is_said_by_one_byte(rt: HostRuntime) -> Result<(), Fail> {
     for value in [b"2".as_slice(), b"11", b""] {
         let values = [value];
         let other = coverage(&values, &[FORWARD]);
-        check(&rt, alloc, [area, other, nothing()], &[(23, [1, 0, 0, 0])])?;
+        check(
+            &rt,
+            alloc,
+            [area, other, nothing()],
+            &[(SIDE_UNBALANCED, [1, 0, 0, 0])],
+        )?;
     }
     Ok(())
 }
@@ -187,17 +198,22 @@ fn cut_boundaries_are_at_the_limit(rt: HostRuntime) -> Result<(), Fail> {
         &rt,
         alloc,
         [both, nothing(), nothing()],
-        &[(24, [1, 1, 0, 0])],
+        &[(FALSE_TRUNCATION, [1, 1, 0, 0])],
     )?;
     let one = [1, 0, 0, 0];
     check(
         &rt,
         alloc,
         [nothing(), cut, nothing()],
-        &[(23, one), (24, [2, 1, 0, 0])],
+        &[(SIDE_UNBALANCED, one), (FALSE_TRUNCATION, [2, 1, 0, 0])],
     )?;
     // Coverage at one side alone, on a balanced and on an unbalanced edge.
     check(&rt, alloc, [cut, covered, nothing()], &[])?;
-    check(&rt, alloc, [cut, covered, other], &[(23, [1, 1, 1, 0])])?;
+    check(
+        &rt,
+        alloc,
+        [cut, covered, other],
+        &[(SIDE_UNBALANCED, [1, 1, 1, 0])],
+    )?;
     Ok(())
 }

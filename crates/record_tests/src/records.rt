@@ -7,6 +7,10 @@ use chain_topo::{ListLook, Look, Steps};
 use check_record::verdict_rec;
 use geometry_spec::Point;
 use look_counter::start_counter;
+use rule_spec::{
+    BAD_CODES, BAD_SHAPE, DANGLING_END, DANGLING_REF, END_COUNT, NODE_POINTER, OPEN_RING,
+    PRIM_REFS, SELF_MEET, STACKED, WRONG_GROUP, WRONG_TURN,
+};
 use s57_types::Kind::{Fe, Vc, Ve, Vi};
 use s57_types::{Cell as Chart, Lnam, Rec, RecName};
 use std::alloc::{AllocError, Global};
@@ -246,17 +250,17 @@ fn check_features(
 
 // An area and a line of a node, of an edge that isn't there, and of edges with an area's codes.
 const MIXED: [(u32, &[Found]); 2] = [
-    (1, &[(12, 0, 0, 0), (13, 4, 0, 0)]),
+    (1, &[(PRIM_REFS, 0, 0, 0), (DANGLING_REF, 4, 0, 0)]),
     (
         2,
         &[
-            (12, 0, 0, 0),
-            (13, 4, 0, 0),
-            (14, 1, 0, 0),
-            (14, 2, 0, 0),
-            (14, 3, 0, 0),
-            (14, 4, 0, 0),
-            (20, 0, 0, 0),
+            (PRIM_REFS, 0, 0, 0),
+            (DANGLING_REF, 4, 0, 0),
+            (BAD_CODES, 1, 0, 0),
+            (BAD_CODES, 2, 0, 0),
+            (BAD_CODES, 3, 0, 0),
+            (BAD_CODES, 4, 0, 0),
+            (WRONG_GROUP, 0, 0, 0),
         ],
     ),
 ];
@@ -267,12 +271,12 @@ fn places_and_codes_of_features(rt: HostRuntime) -> Result<(), Fail> {
     Ok(())
 }
 
-const RIGHT: [(u32, &[Found]); 3] = [(3, &[]), (4, &[]), (5, &[(15, 1, 0, 0)])];
+const RIGHT: [(u32, &[Found]); 3] = [(3, &[]), (4, &[]), (5, &[(OPEN_RING, 1, 0, 0)])];
 
 const TURNED: [(u32, &[Found]); 3] = [
-    (3, &[(18, 1, 0, 0)]),
-    (4, &[(18, 1, 0, 0)]),
-    (5, &[(15, 1, 0, 0)]),
+    (3, &[(WRONG_TURN, 1, 0, 0)]),
+    (4, &[(WRONG_TURN, 1, 0, 0)]),
+    (5, &[(OPEN_RING, 1, 0, 0)]),
 ];
 
 // Without a position of node 2 no edge has points, and no boundary is judged.
@@ -289,12 +293,12 @@ fn a_moved_node_turns_two_areas(rt: HostRuntime) -> Result<(), Fail> {
 
 const NODES: [Name; 2] = [(Vi, 5), (Vc, 1)];
 
-const BAD_SHAPE: Found = (1, 0, 0, 0);
+const MISSHAPEN: Found = (BAD_SHAPE, 0, 0, 0);
 
 const SOUNDED: [(&[Name], &[Found]); 3] = [
     (&[(Vi, 5)], &[]),
-    (&[(Vc, 1)], &[BAD_SHAPE]),
-    (&[(Ve, 1)], &[BAD_SHAPE, (2, 0, 0, 0)]),
+    (&[(Vc, 1)], &[MISSHAPEN]),
+    (&[(Ve, 1)], &[MISSHAPEN, (END_COUNT, 0, 0, 0)]),
 ];
 
 #[test]
@@ -316,10 +320,15 @@ fn shapes_and_pointers_of_nodes(rt: HostRuntime) -> Result<(), Fail> {
     };
     check_shape(&rt, alloc, at(&[(3, 4)]), &[(&NODES, &[])])?;
     for bad in [at(&[]), at(&[(3, 4), (3, 4)]), both] {
-        check_shape(&rt, alloc, bad, &[(&NODES, &[BAD_SHAPE])])?;
+        check_shape(&rt, alloc, bad, &[(&NODES, &[MISSHAPEN])])?;
     }
     check_shape(&rt, alloc, sounded, &SOUNDED)?;
-    check_shape(&rt, alloc, pointing, &[(&NODES, &[(6, 0, 0, 0)])])?;
+    check_shape(
+        &rt,
+        alloc,
+        pointing,
+        &[(&NODES, &[(NODE_POINTER, 0, 0, 0)])],
+    )?;
     Ok(())
 }
 
@@ -330,19 +339,19 @@ const ENDS: (u8, Name) = (2, (Vc, 2));
 const POINTERS: [(&[(u8, Name)], &[Point], &[Found]); 8] = [
     (&[BEGINS, ENDS], &[], &[]),
     (&[ENDS, BEGINS], &[], &[]),
-    (&[BEGINS], &[], &[(2, 1, 0, 1)]),
-    (&[BEGINS, BEGINS], &[], &[(2, 2, 0, 2)]),
+    (&[BEGINS], &[], &[(END_COUNT, 1, 0, 1)]),
+    (&[BEGINS, BEGINS], &[], &[(END_COUNT, 2, 0, 2)]),
     (
         &[BEGINS, ENDS, (255, (Vc, 2))],
         &[(5, 5), (5, 5)],
-        &[(2, 1, 1, 3), (4, 2, 0, 0)],
+        &[(END_COUNT, 1, 1, 3), (STACKED, 2, 0, 0)],
     ),
-    (&[BEGINS, (2, (Vc, 9))], &[], &[(3, 2, 0, 0)]),
-    (&[(1, (Vi, 5)), ENDS], &[], &[(3, 1, 0, 0)]),
+    (&[BEGINS, (2, (Vc, 9))], &[], &[(DANGLING_END, 2, 0, 0)]),
+    (&[(1, (Vi, 5)), ENDS], &[], &[(DANGLING_END, 1, 0, 0)]),
     (
         &[(1, (Ve, 1)), (2, (Ve, 1))],
         &[],
-        &[(3, 1, 0, 0), (3, 2, 0, 0)],
+        &[(DANGLING_END, 1, 0, 0), (DANGLING_END, 2, 0, 0)],
     ),
 ];
 
@@ -354,16 +363,16 @@ fn ends_of_an_edge(rt: HostRuntime) -> Result<(), Fail> {
 
 const OPEN: [(&[Point], &[Found]); 6] = [
     // The first of two equal pairs of points; no edge with such a pair meets itself.
-    (&[(0, 0), (0, 10)], &[(4, 1, 0, 0)]),
-    (&[(5, 5), (5, 5), (0, 0)], &[(4, 2, 0, 0)]),
+    (&[(0, 0), (0, 10)], &[(STACKED, 1, 0, 0)]),
+    (&[(5, 5), (5, 5), (0, 0)], &[(STACKED, 2, 0, 0)]),
     // The first and the third segment cross; all three overlap; none meet.
-    (&[(5, 9), (5, 1)], &[(5, 1, 3, 0)]),
-    (&[(0, 9), (0, 3)], &[(5, 1, 2, 0)]),
+    (&[(5, 9), (5, 1)], &[(SELF_MEET, 1, 3, 0)]),
+    (&[(0, 9), (0, 3)], &[(SELF_MEET, 1, 2, 0)]),
     (&[(5, 1), (5, 9)], &[]),
     // The third and the fourth segment meet the first, and the fourth and the fifth cross the second.
     (
         &[(10, 0), (10, 5), (5, 0), (20, 3), (0, 4)],
-        &[(5, 1, 3, 0)],
+        &[(SELF_MEET, 1, 3, 0)],
     ),
 ];
 
@@ -376,8 +385,8 @@ fn points_of_an_open_edge(rt: HostRuntime) -> Result<(), Fail> {
 const CLOSED: [(&[Point], &[Found]); 3] = [
     (&[(0, 5), (5, 5)], &[]),
     // It may come back to its beginning no earlier, and meet its first segment in one point alone.
-    (&[(0, 5), (5, 5), (0, 0), (5, -5)], &[(5, 1, 3, 0)]),
-    (&[(0, 5), (5, 5), (0, 9)], &[(5, 1, 4, 0)]),
+    (&[(0, 5), (5, 5), (0, 0), (5, -5)], &[(SELF_MEET, 1, 3, 0)]),
+    (&[(0, 5), (5, 5), (0, 9)], &[(SELF_MEET, 1, 4, 0)]),
 ];
 
 #[test]
@@ -408,7 +417,7 @@ fn each_key_is_looked_up_once(rt: HostRuntime) -> Result<(), Fail> {
     let alloc = rt.alloc();
     // Eleven thousand ends on one node: two keys, and so eight answers at most.
     let many = vec![in alloc; (255, (Vc, 2)); 11_000]?;
-    check_edge(&rt, alloc, &many, &[], &[(2, 0, 0, 11_000)])?;
+    check_edge(&rt, alloc, &many, &[], &[(END_COUNT, 0, 0, 11_000)])?;
     Ok(())
 }
 
