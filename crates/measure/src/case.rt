@@ -1,6 +1,6 @@
 //! The cases by their names.
 
-use crate::{cells, fields, lookups, table};
+use crate::{cells, fields, lookups, table, versions};
 use std::fmt;
 
 /// What is timed.
@@ -14,6 +14,8 @@ pub enum Case {
     Turns,
     /// Work with a sorted table.
     Table(table::Work),
+    /// Work with a table of which copies share pieces.
+    Versions(versions::Work),
     /// Look-ups in a cell.
     Lookups(lookups::Work),
     /// Fields read or written; the size is how often.
@@ -31,6 +33,7 @@ impl Case {
             "turns" => Some(Case::Turns),
             _ => table::Work::of(name)
                 .map(Case::Table)
+                .or_else(|| versions::Work::of(name).map(Case::Versions))
                 .or_else(|| lookups::Work::of(name).map(Case::Lookups))
                 .or_else(|| fields::Work::of(name).map(Case::Fields))
                 .or_else(|| cells::Work::of(name).map(Case::Cells)),
@@ -45,6 +48,7 @@ impl fmt::Display for Case {
             Case::Segments => f.write_str("segments"),
             Case::Turns => f.write_str("turns"),
             Case::Table(work) => work.fmt(f),
+            Case::Versions(work) => work.fmt(f),
             Case::Lookups(work) => work.fmt(f),
             Case::Fields(work) => work.fmt(f),
             Case::Cells(work) => work.fmt(f),

@@ -12,6 +12,7 @@ mod lookups;
 mod segments;
 mod table;
 mod turns;
+mod versions;
 
 use case::Case;
 use std::alloc::{AllocError, Global};
@@ -34,6 +35,7 @@ fn outcome<R: Threads + Wait + Sync>(
         Case::Segments => segments::meetings(alloc, size),
         Case::Turns => turns::sum_of_numbers(rt, alloc, size),
         Case::Table(work) => table::outcome(alloc, work, size),
+        Case::Versions(work) => versions::outcome(alloc, work, size),
         Case::Lookups(work) => lookups::outcome(alloc, work, size),
         Case::Fields(work) => fields::outcome(alloc, work, size),
         Case::Cells(work) => cells::outcome(alloc, work, size),

@@ -45,19 +45,19 @@ impl fmt::Display for Work {
 }
 
 /// The next of a row of numbers that look random and are the same on every machine.
-fn next_number(seed: u64) -> u64 {
+pub fn next_number(seed: u64) -> u64 {
     seed.wrapping_mul(6_364_136_223_846_793_005)
         .wrapping_add(1_442_695_040_888_963_407)
 }
 
 /// A key below twice the number of rows: the even ones are there.
-fn random_key(seed: u64, size: u32) -> u32 {
+pub fn random_key(seed: u64, size: u32) -> u32 {
     let keys = size.saturating_mul(2).saturating_add(2);
     ((seed >> 20) % u64::from(keys)) as u32
 }
 
 /// Rows with the even keys from 0, each with its place as its value.
-fn ascending_rows(alloc: Global, size: u32) -> Result<Vec<(u32, u64)>, AllocError> {
+pub fn ascending_rows(alloc: Global, size: u32) -> Result<Vec<(u32, u64)>, AllocError> {
     let mut rows = Vec::with_capacity(alloc, size as usize)?;
     for place in 0..size {
         rows.push((place.wrapping_mul(2), u64::from(place)))?;

@@ -1,0 +1,3 @@
+mod Absent
+mod Parts
+mod Places

@@ -1,0 +1,255 @@
+//! Pieces one after another, each with its first key.
+
+ghost use Rattle.std.specs.Prelude.{◌≡◌, ◌+◌, ◌^◌, ◌<◌, ◌≤◌, [], List, length, IfOk, IfSome, OnOk, OnErr, MatchOption};
+ghost use Rattle.std.specs.Option.{option_copied};
+ghost use Rattle.row_table.specs.Rows.{IsAscending, value_of, with_row, without_key, lower_bound};
+ghost use Rattle.row_table.specs.Blocks.{IsBlockFor, IsBlockAt, rows_before};
+ghost use Rattle.shared_table.specs.Pieces.{BeginsWith, AreHalves, AreParts, IsRunAt, blocks_of, rows_of};
+
+use crate::entry::Entry;
+use crate::piece::{ChangingPiece, PIECE_ROWS, Piece};
+use std::alloc::{AllocError, Global};
+use std::marker::Model;
+
+/// Pieces one after another, each with its first key. Seen as its parts: the key and the rows of each piece.
+#[derive(Drop)]
+pub(crate) struct Layer<K: Ord + Drop, V, P: Piece<K, V>> {
+    entries: Vec<Entry<K, V, P>>,
+    len: usize,
+}
+
+impl<K: Ord + Drop, V, P: Piece<K, V>> Model for Layer<K, V, P> {
+    ghost use Rattle.std.specs.Prelude.{◌≡◌, List, length};
+    ghost use Rattle.shared_table.specs.Pieces.{AreParts, rows_of};
+
+    ghost Value = { List (K × List (K × V)) };
+
+    ghost view = { λ l. l.entries.items };
+
+    ghost invariant = { λ l. AreParts K.cmp l.entries.items × (l.len ≡ length (rows_of l.entries.items)) };
+}
+
+impl<K: Ord + Drop, V: Drop, P: Piece<K, V>> Layer<K, V, P> {
+    // The place of the piece that has the key or that the key goes to.
+    fn place_for(&self, key: &K) -> usize
+        requires { 0 < length self.now }
+        ensures { IsBlockFor K.cmp (blocks_of self.now) key.now result }
+    {
+        self.entries
+            .partition_point(|entry| entry.key().cmp(key).is_le())
+            .saturating_sub(1)
+    }
+
+    // How many rows the pieces before a place have.
+    fn rows_before(&self, place: usize) -> usize
+        requires { place ≤ length self.now }
+        ensures { result ≡ rows_before (blocks_of self.now) place }
+    {
+        // No sum is greater than this one.
+        let _total = self.len();
+        let mut count = 0;
+        for entry in &self.entries[..place] {
+            count += entry.len();
+        }
+        count
+    }
+
+    // The piece that has the row at a place among all rows, and the row's place in it.
+    fn find(&self, place: usize) -> (usize, usize)
+        requires { place < length (rows_of self.now) }
+        ensures piece { IsBlockAt (blocks_of self.now) place result.0 }
+        ensures place { rows_before (blocks_of self.now) result.0 + result.1 ≡ place }
+    {
+        let mut piece = 0;
+        let mut left = place;
+        while left >= self.entries[piece].len() {
+            left -= self.entries[piece].len();
+            piece += 1;
+        }
+        (piece, left)
+    }
+}
+
+impl<K: Ord + Copy + Drop, V: Drop, P: ChangingPiece<K, V>> Layer<K, V, P> {
+    // Where a full piece is cut: in the middle, but the last one near its end, so that rows that come in ascending order fill pieces.
+    fn cut_place(&self, place: usize) -> usize
+        ensures { (0 < result) × (result < 16) }
+    {
+        if self.entries.len() <= place.saturating_add(1) {
+            PIECE_ROWS - 1
+        } else {
+            PIECE_ROWS / 2
+        }
+    }
+
+    // Cuts a piece in two where it is full.
+    fn cut(&mut self, alloc: Global, place: usize) -> Result<(), AllocError>
+        requires { place < length self.old }
+        ensures rows { rows_of self.new ≡ rows_of self.old }
+        ensures some { 0 < length self.new }
+    {
+        let at = self.cut_place(place);
+        if let Some((lower, upper)) = self.entries[place].halves(alloc, at)? {
+            let Ok(()) = self.entries.insert(place + 1, upper) else {
+                return Err(AllocError);
+            };
+            self.entries[place] = lower;
+        }
+        Ok(())
+    }
+
+    // Puts the first row.
+    fn put_first(&mut self, alloc: Global, key: K, value: V) -> Result<(), AllocError>
+        requires { self.old ≡ [] }
+        ensures ok { OnOk result (rows_of self.new ≡ with_row K.cmp (rows_of self.old) key value) }
+        ensures err { OnErr result (rows_of self.new ≡ rows_of self.old) }
+    {
+        let mut piece = P::make(alloc);
+        piece.put(alloc, key, value)?;
+        self.entries.push(Entry::make(alloc, key, piece)?)?;
+        self.len = 1;
+        Ok(())
+    }
+
+    // Puts a row into the piece for it.
+    fn put_at(&mut self, alloc: Global, place: usize, key: K, value: V) -> Result<(), AllocError>
+        requires block { IsBlockFor K.cmp (blocks_of self.old) key place }
+        requires fits { length (rows_of self.old) + 1 < 2 ^ 64 }
+        ensures ok { OnOk result (rows_of self.new ≡ with_row K.cmp (rows_of self.old) key value) }
+        ensures err { OnErr result (rows_of self.new ≡ rows_of self.old) }
+    {
+        let entry = &mut self.entries[place];
+        let before = entry.len();
+        entry.put(alloc, key, value)?;
+        let after = entry.len();
+        self.len = self.len - before + after;
+        Ok(())
+    }
+
+    // Takes a key's row out of the piece for it, and the piece where no row is left.
+    fn take_at(&mut self, alloc: Global, place: usize, key: &K) -> Result<(), AllocError>
+        requires { IsBlockFor K.cmp (blocks_of self.old) key.now place }
+        ensures ok { OnOk result (rows_of self.new ≡ without_key K.cmp (rows_of self.old) key.now) }
+        ensures err { OnErr result (rows_of self.new ≡ rows_of self.old) }
+    {
+        let entry = &mut self.entries[place];
+        let before = entry.len();
+        entry.take(alloc, key)?;
+        let left = entry.len();
+        self.len = self.len - before + left;
+        if left == 0 {
+            let _gone = self.entries.remove(place);
+        }
+        Ok(())
+    }
+}
+
+// The same entries, of which the pieces are shared.
+fn share_entries<K: Ord + Copy + Drop, V: Drop, P: Piece<K, V>>(
+    alloc: Global,
+    entries: &[Entry<K, V, P>],
+) -> Result<Vec<Entry<K, V, P>>, AllocError>
+    ensures { IfOk result (λ twins. twins.items ≡ entries.now) }
+{
+    let mut twins = Vec::with_capacity(alloc, entries.len())?;
+    for entry in entries {
+        twins.push(entry.share()?)?;
+    }
+    Ok(twins)
+}
+
+impl<K: Ord + Drop, V: Drop, P: Piece<K, V>> Piece<K, V> for Layer<K, V, P> {
+    ghost rows = { λ l. rows_of l };
+
+    fn len(&self) -> usize {
+        self.len
+    }
+
+    fn first(&self) -> Option<&K> {
+        match self.entries.first() {
+            Some(entry) => Some(entry.key()),
+            None => None,
+        }
+    }
+
+    fn get(&self, key: &K) -> Option<&V> {
+        if self.entries.is_empty() {
+            return None;
+        }
+        let place = self.place_for(key);
+        self.entries[place].piece().get(key)
+    }
+
+    fn place_of(&self, key: &K) -> usize {
+        if self.entries.is_empty() {
+            return 0;
+        }
+        // The sum is no greater than this one.
+        let _total = self.len();
+        let place = self.place_for(key);
+        self.rows_before(place) + self.entries[place].piece().place_of(key)
+    }
+
+    fn run_at(&self, place: usize) -> &[(K, V)] {
+        let (piece, left) = self.find(place);
+        self.entries[piece].piece().run_at(left)
+    }
+}
+
+impl<K: Ord + Copy + Drop, V: Drop, P: ChangingPiece<K, V>> ChangingPiece<K, V> for Layer<K, V, P> {
+    fn make(alloc: Global) -> Layer<K, V, P> {
+        Layer {
+            entries: Vec::new(alloc),
+            len: 0,
+        }
+    }
+
+    fn copy(&self, alloc: Global) -> Result<Layer<K, V, P>, AllocError> {
+        Ok(Layer {
+            entries: share_entries(alloc, &self.entries)?,
+            len: self.len,
+        })
+    }
+
+    fn halves(
+        &self,
+        alloc: Global,
+        at: usize,
+    ) -> Result<Option<(Layer<K, V, P>, K, Layer<K, V, P>)>, AllocError> {
+        if self.entries.len() < PIECE_ROWS {
+            return Ok(None);
+        }
+        let start = *self.entries[at].key();
+        let count = self.rows_before(at);
+        let lower = Layer {
+            entries: share_entries(alloc, &self.entries[..at])?,
+            len: count,
+        };
+        let upper = Layer {
+            entries: share_entries(alloc, &self.entries[at..])?,
+            len: self.len - count,
+        };
+        Ok(Some((lower, start, upper)))
+    }
+
+    fn put(&mut self, alloc: Global, key: K, value: V) -> Result<(), AllocError> {
+        if self.len == usize::MAX {
+            return Err(AllocError);
+        }
+        if self.entries.is_empty() {
+            return self.put_first(alloc, key, value);
+        }
+        let place = self.place_for(&key);
+        self.cut(alloc, place)?;
+        let place = self.place_for(&key);
+        self.put_at(alloc, place, key, value)
+    }
+
+    fn take(&mut self, alloc: Global, key: &K) -> Result<(), AllocError> {
+        if self.entries.is_empty() {
+            return Ok(());
+        }
+        let place = self.place_for(key);
+        self.take_at(alloc, place, key)
+    }
+}

@@ -1,0 +1,16 @@
+//! Sorted tables in pieces that copies share, and values that copies share.
+#![tactic(auto)]
+
+mod entry;
+mod layer;
+mod piece;
+mod rows;
+mod run;
+mod shared;
+mod table;
+mod threads;
+
+pub use rows::SharedRows;
+pub use shared::Shared;
+pub use table::SharedTable;
+pub use threads::{tables_cross_threads, values_cross_threads};

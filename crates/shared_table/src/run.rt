@@ -1,0 +1,137 @@
+//! Rows in one vector.
+
+ghost use Rattle.std.specs.Prelude.{◌≡◌, ◌<◌, [], List, IfOk, IfSome, OnOk, OnErr, MatchOption, MatchResult, length};
+ghost use Rattle.std.specs.Option.{option_copied};
+ghost use Rattle.row_table.specs.Rows.{IsAscending, value_of, with_row, without_key, lower_bound, IsRowAt, IsGapAt};
+ghost use Rattle.shared_table.specs.Pieces.{IsRunAt, BeginsWith, AreHalves};
+
+use crate::piece::{ChangingPiece, PIECE_ROWS, Piece};
+use s57_types::Duplicate;
+use std::alloc::{AllocError, Global};
+use std::marker::Model;
+
+/// Rows in one vector.
+#[derive(Drop)]
+pub(crate) struct Run<K: Ord, V> {
+    rows: Vec<(K, V)>,
+}
+
+impl<K: Ord, V> Model for Run<K, V> {
+    ghost use Rattle.std.specs.Prelude.{List};
+    ghost use Rattle.row_table.specs.Rows.{IsAscending};
+
+    ghost Value = { List (K × V) };
+
+    ghost view = { λ r. r.rows.items };
+
+    ghost invariant = { λ r. IsAscending K.cmp r.rows.items };
+}
+
+impl<K: Ord + Drop, V: Drop> Run<K, V> {
+    // Where the key's row is, or where it would go.
+    fn search(&self, key: &K) -> Result<usize, usize>
+        ensures { MatchResult result (IsRowAt K.cmp self.now key.now) (IsGapAt K.cmp self.now key.now) }
+    {
+        self.rows.binary_search_by(|row| row.0.cmp(key))
+    }
+}
+
+impl<K: Ord + Drop, V: Drop> Piece<K, V> for Run<K, V> {
+    ghost rows = { λ r. r };
+
+    fn len(&self) -> usize {
+        self.rows.len()
+    }
+
+    fn first(&self) -> Option<&K> {
+        match self.rows.first() {
+            Some(row) => Some(&row.0),
+            None => None,
+        }
+    }
+
+    fn get(&self, key: &K) -> Option<&V> {
+        match self.search(key) {
+            Ok(place) => Some(&self.rows[place].1),
+            Err(_) => None,
+        }
+    }
+
+    fn place_of(&self, key: &K) -> usize {
+        match self.search(key) {
+            Ok(place) => place,
+            Err(place) => place,
+        }
+    }
+
+    fn run_at(&self, place: usize) -> &[(K, V)] {
+        &self.rows[place..]
+    }
+}
+
+impl<K: Ord + Copy + Drop, V: Duplicate + Drop> ChangingPiece<K, V> for Run<K, V> {
+    fn make(alloc: Global) -> Run<K, V> {
+        Run {
+            rows: Vec::new(alloc),
+        }
+    }
+
+    fn copy(&self, alloc: Global) -> Result<Run<K, V>, AllocError> {
+        Ok(Run {
+            rows: copy_rows(alloc, &self.rows)?,
+        })
+    }
+
+    fn halves(
+        &self,
+        alloc: Global,
+        at: usize,
+    ) -> Result<Option<(Run<K, V>, K, Run<K, V>)>, AllocError> {
+        if self.rows.len() < PIECE_ROWS {
+            return Ok(None);
+        }
+        let lower = Run {
+            rows: copy_rows(alloc, &self.rows[..at])?,
+        };
+        let upper = Run {
+            rows: copy_rows(alloc, &self.rows[at..])?,
+        };
+        Ok(Some((lower, self.rows[at].0, upper)))
+    }
+
+    fn put(&mut self, _alloc: Global, key: K, value: V) -> Result<(), AllocError> {
+        match self.search(&key) {
+            Ok(place) => {
+                self.rows[place] = (key, value);
+                Ok(())
+            }
+            Err(place) => {
+                let Ok(()) = self.rows.insert(place, (key, value)) else {
+                    return Err(AllocError);
+                };
+                Ok(())
+            }
+        }
+    }
+
+    fn take(&mut self, _alloc: Global, key: &K) -> Result<(), AllocError> {
+        if let Ok(place) = self.search(key) {
+            let _row = self.rows.remove(place);
+        }
+        Ok(())
+    }
+}
+
+// The same rows, with copies of the values.
+fn copy_rows<K: Copy + Drop, V: Duplicate + Drop>(
+    alloc: Global,
+    rows: &[(K, V)],
+) -> Result<Vec<(K, V)>, AllocError>
+    ensures { IfOk result (λ twins. twins.items ≡ rows.now) }
+{
+    let mut twins = Vec::with_capacity(alloc, rows.len())?;
+    for (key, value) in rows {
+        twins.push((*key, value.copy(alloc)?))?;
+    }
+    Ok(twins)
+}

@@ -1,0 +1,165 @@
+//! Sorted tables in pieces that copies share.
+
+ghost use Rattle.std.specs.Prelude.{◌≡◌, ◌<◌, [], List, length, drop, IfOk, OnOk, OnErr, Some, slice_get};
+ghost use Rattle.std.specs.Option.{option_copied};
+ghost use Rattle.std.specs.Arc.{arc_value};
+ghost use Rattle.row_table.specs.Rows.{IsAscending, value_of, with_row, without_key, lower_bound};
+ghost use Rattle.shared_table.specs.Pieces.{IsRunAt};
+
+use crate::layer::Layer;
+use crate::piece::{ChangingPiece, Piece, put_shared, take_shared};
+use crate::rows::SharedRows;
+use crate::run::Run;
+use s57_types::Duplicate;
+use std::alloc::{AllocError, Global};
+use std::marker::Model;
+use std::sync::Arc;
+
+// The pieces of a table in five levels, of which the top has as many pieces as come.
+type Root<K, V> = Layer<K, V, Layer<K, V, Layer<K, V, Layer<K, V, Run<K, V>>>>>;
+
+/// A sorted table, seen as its rows in ascending order of their keys. A copy is a count and shares all pieces, and a change of one of
+/// the two leaves the other as it is. An `Err` is want of memory, and leaves the table as it was.
+#[derive(Drop)]
+pub struct SharedTable<K: Ord + Drop, V: Drop> {
+    root: Option<Arc<Root<K, V>, Global>>,
+}
+
+impl<K: Ord + Drop, V: Drop> Model for SharedTable<K, V> {
+    ghost use Rattle.std.specs.Prelude.{List};
+    ghost use Rattle.std.specs.Arc.{arc_value};
+    ghost use Rattle.shared_table.specs.Pieces.{rows_at, rows_of};
+
+    ghost Value = { List (K × V) };
+
+    ghost view = { λ t. rows_at (λ root. rows_of (arc_value root)) t.root };
+}
+
+impl<K: Ord + Drop, V: Drop> SharedTable<K, V> {
+    /// An empty table.
+    pub fn make() -> SharedTable<K, V>
+        ensures { result ≡ [] }
+    {
+        SharedTable { root: None }
+    }
+
+    /// The same table, which shares all that it holds.
+    pub fn share(&self) -> Result<SharedTable<K, V>, AllocError>
+        ensures { IfOk result (λ table. table ≡ self.now) }
+    {
+        match &self.root {
+            Some(root) => Ok(SharedTable {
+                root: Some(Arc::try_clone(root)?),
+            }),
+            None => Ok(SharedTable::make()),
+        }
+    }
+
+    /// The number of rows. Their keys ascend.
+    pub fn len(&self) -> usize
+        ensures len { result ≡ length self.now }
+        ensures ascending { IsAscending K.cmp self.now }
+    {
+        match &self.root {
+            Some(root) => root.len(),
+            None => 0,
+        }
+    }
+
+    /// The value of the key, if there is one.
+    pub fn get(&self, key: &K) -> Option<&V>
+        ensures { option_copied result ≡ value_of K.cmp self.now key.now }
+    {
+        match &self.root {
+            Some(root) => root.get(key),
+            None => None,
+        }
+    }
+
+    /// The row at a place, counted from 0 in ascending order.
+    pub fn row(&self, place: usize) -> (&K, &V)
+        requires { place < length self.now }
+        ensures { slice_get self.now place ≡ Some (result.0.now, result.1.now) }
+    {
+        let row = &self.run_at(place)[0];
+        (&row.0, &row.1)
+    }
+
+    /// The rows in ascending order.
+    pub fn rows(&self) -> SharedRows<'_, K, V>
+        ensures { result ≡ self.now }
+    {
+        SharedRows::from(self, 0)
+    }
+
+    /// The rows from the first whose key is not below this one, in ascending order.
+    pub fn rows_from(&self, from: &K) -> SharedRows<'_, K, V>
+        ensures { result ≡ drop (lower_bound K.cmp self.now from.now) self.now }
+    {
+        SharedRows::from(self, self.place_of(from))
+    }
+
+    /// The rows from a place on, as many as stand in one vector.
+    pub(crate) fn run_at(&self, place: usize) -> &[(K, V)]
+        requires { place < length self.now }
+        ensures { IsRunAt self.now place result.now }
+    {
+        match &self.root {
+            Some(root) => root.run_at(place),
+            None => unreachable!(),
+        }
+    }
+
+    /// The place of the first key that is not below this one, or the number of rows.
+    fn place_of(&self, key: &K) -> usize
+        ensures { result ≡ lower_bound K.cmp self.now key.now }
+    {
+        match &self.root {
+            Some(root) => root.place_of(key),
+            None => 0,
+        }
+    }
+}
+
+impl<K: Ord + Copy + Drop, V: Duplicate + Drop> SharedTable<K, V> {
+    /// The table of rows whose keys ascend already.
+    pub fn from_ascending(alloc: Global, rows: Vec<(K, V)>) -> Result<SharedTable<K, V>, AllocError>
+        requires { IsAscending K.cmp rows.items }
+        ensures { IfOk result (λ table. table ≡ rows.items) }
+    {
+        let mut table = SharedTable::make();
+        for (key, value) in rows {
+            table.put(alloc, key, value)?;
+        }
+        Ok(table)
+    }
+
+    /// Puts the value at the key.
+    pub fn put(&mut self, alloc: Global, key: K, value: V) -> Result<(), AllocError>
+        ensures ok { OnOk result (self.new ≡ with_row K.cmp self.old key value) }
+        ensures err { OnErr result (self.new ≡ self.old) }
+    {
+        if let Some(root) = &mut self.root {
+            return put_shared(root, alloc, key, value);
+        }
+        let mut root = Root::make(alloc);
+        root.put(alloc, key, value)?;
+        self.root = Some(Arc::new(alloc, root)?);
+        Ok(())
+    }
+
+    /// Takes the key's row out, if there is one.
+    pub fn take(&mut self, alloc: Global, key: &K) -> Result<(), AllocError>
+        ensures ok { OnOk result (self.new ≡ without_key K.cmp self.old key.now) }
+        ensures err { OnErr result (self.new ≡ self.old) }
+    {
+        // A key that isn't there changes nothing, so no piece is copied for it.
+        if self.get(key).is_none() {
+            return Ok(());
+        }
+        match &mut self.root {
+            Some(root) => take_shared(root, alloc, key),
+            None => Ok(()),
+        }
+    }
+}
