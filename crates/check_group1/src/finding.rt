@@ -3,6 +3,7 @@
 ghost use Rattle.std.specs.Prelude.{◌≡◌, ◌==◌, ◌++◌, [], ◌∷◌, IfOk, OnOk, ℕ, find, length, map, not, if◌then◌else◌};
 ghost use Rattle.s57_types.specs.declared.cell.Cell.{Cell as SpecCell};
 ghost use Rattle.s57_types.specs.declared.name.RecName.{RecName as SpecRecName};
+ghost use Rattle.rule_spec.specs.declared.kind.TheConstants.{FALSE_TRUNCATION, ORPHAN, SIDE_OVERLAP, SIDE_UNBALANCED};
 ghost use Rattle.rule_spec.specs.Findings.{finding as finding_of, findings_of_rules};
 ghost use Rattle.rule_spec.specs.Rule.{found_if};
 ghost use Rattle.rule_spec.specs.Rules.{side_rules};
@@ -15,7 +16,7 @@ use std::alloc::{AllocError, Global};
 
 /// Orphan: no feature uses the edge.
 fn push_orphan(findings: &mut Vec<Finding>, uses: &[EdgeUse]) -> Result<(), AllocError>
-    ensures { OnOk result (findings.new.items ≡ findings.old.items ++ map (finding_of 21) (found_if (length uses.now == 0) [])) }
+    ensures { OnOk result (findings.new.items ≡ findings.old.items ++ map (finding_of ORPHAN) (found_if (length uses.now == 0) [])) }
 {
     if uses.is_empty() {
         findings.push(Finding {
@@ -45,7 +46,7 @@ fn overlaps(n: EdgeSideCounts) -> bool
 
 /// SideOverlap: two areas of Group 1 lie at one side of the edge.
 fn push_overlap(findings: &mut Vec<Finding>, n: EdgeSideCounts) -> Result<(), AllocError>
-    ensures { OnOk result (findings.new.items ≡ findings.old.items ++ map (finding_of 22) (found_if (do_overlap n) (counts_as_numbers n))) }
+    ensures { OnOk result (findings.new.items ≡ findings.old.items ++ map (finding_of SIDE_OVERLAP) (found_if (do_overlap n) (counts_as_numbers n))) }
 {
     if overlaps(n) {
         findings.push(Finding {
@@ -65,7 +66,7 @@ fn is_balanced(n: EdgeSideCounts) -> bool
 
 /// SideUnbalanced: Group 1 and the coverage don't change alike from one side of the edge to the other.
 fn push_unbalanced(findings: &mut Vec<Finding>, n: EdgeSideCounts) -> Result<(), AllocError>
-    ensures { OnOk result (findings.new.items ≡ findings.old.items ++ map (finding_of 23) (found_if (not (are_balanced n)) (counts_as_numbers n))) }
+    ensures { OnOk result (findings.new.items ≡ findings.old.items ++ map (finding_of SIDE_UNBALANCED) (found_if (not (are_balanced n)) (counts_as_numbers n))) }
 {
     if !is_balanced(n) {
         findings.push(Finding {
@@ -82,7 +83,7 @@ fn push_truncation(
     n: EdgeSideCounts,
     first: Option<EdgeUse>,
 ) -> Result<(), AllocError>
-    ensures { OnOk result (findings.new.items ≡ findings.old.items ++ map (finding_of 24) (if n.coverage_forward == n.coverage_reverse then found_use first else [])) }
+    ensures { OnOk result (findings.new.items ≡ findings.old.items ++ map (finding_of FALSE_TRUNCATION) (if n.coverage_forward == n.coverage_reverse then found_use first else [])) }
 {
     if n.coverage_forward != n.coverage_reverse {
         return Ok(());

@@ -11,6 +11,7 @@ use Rattle.geometry_spec.specs.declared.segment.MeetCase.{MeetCase}
 use Rattle.geometry_spec.specs.declared.segment.MeetCase.TheVariants.{Apart, At, Along}
 use Rattle.geometry_spec.specs.Points.{Point}
 use Rattle.geometry_spec.specs.Signs.{lies_on}
+use Rattle.rule_spec.specs.declared.kind.TheConstants.{COINCIDE, CROSS, TOUCH}
 use Rattle.rule_spec.specs.declared.line.EdgeLine.{EdgeLine}
 use Rattle.rule_spec.specs.EdgePoints.{Segment, same_point, segments_of, edge_line_of, node_position}
 use Rattle.rule_spec.specs.Records.{edge_named}
@@ -49,11 +50,11 @@ first_illegal_contact c a b =
 abbrev pub touch_at_an_end : Segment → Segment → Bool
 touch_at_an_end s t = (is_on t s.0 || is_on t s.1) || (is_on s t.0 || is_on s t.1)
 
--- the number of the kind of an illegal contact: 9 where the segments overlap, 8 where an end of one lies on the other, 7 elsewhere
+-- the kind of an illegal contact: whether the segments overlap, or an end of one lies on the other, or neither
 abbrev pub kind_of_contact : Segment → Segment → MeetCase → ℕ
 kind_of_contact s t Apart = 0
-kind_of_contact s t At = if touch_at_an_end s t then 8 else 7
-kind_of_contact s t Along = 9
+kind_of_contact s t At = if touch_at_an_end s t then TOUCH else CROSS
+kind_of_contact s t Along = COINCIDE
 
 abbrev pub is_contact_of_kind : ℕ → Numbered × Numbered → Bool
 is_contact_of_kind kind pair = kind_of_contact pair.0.1 pair.1.1 (meeting_of_segments pair.0.1 pair.1.1) == kind
@@ -72,13 +73,13 @@ contact_of_lines kind c (Some a) (Some b) = found_contact kind (first_illegal_co
 -- Cross, Touch, Coincide: two edges with points cross, touch or overlap away from a shared node; the numbers of the segments of the first
 -- illegal contact
 abbrev pub cross : Cell → RecName → RecName → Found
-cross c a b = contact_of_lines 7 c (edge_line_of c a) (edge_line_of c b)
+cross c a b = contact_of_lines CROSS c (edge_line_of c a) (edge_line_of c b)
 
 abbrev pub touch : Cell → RecName → RecName → Found
-touch c a b = contact_of_lines 8 c (edge_line_of c a) (edge_line_of c b)
+touch c a b = contact_of_lines TOUCH c (edge_line_of c a) (edge_line_of c b)
 
 abbrev pub coincide : Cell → RecName → RecName → Found
-coincide c a b = contact_of_lines 9 c (edge_line_of c a) (edge_line_of c b)
+coincide c a b = contact_of_lines COINCIDE c (edge_line_of c a) (edge_line_of c b)
 
 abbrev pub are_same_place : Option Point → Option Point → Bool
 are_same_place None q = false
