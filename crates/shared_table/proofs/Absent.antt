@@ -1,5 +1,5 @@
 -- A key that no row has.
-use Rattle.std.proofs.Common.{◌≡◌, List, [], ◌∷◌, Bor, Option, Some, None, is_some, refl, sym, ap, Ordering, is_eq, true, false, cond, true≢false}
+use Rattle.std.proofs.Common.{◌≡◌, List, [], ◌∷◌, Bor, Option, Some, None, is_some, refl, ap, Ordering, is_eq, true, false, cond, true≢false}
 use Rattle.std.specs.Option.{option_copied}
 use Rattle.row_table.specs.Rows.{value_of, without_key}
 

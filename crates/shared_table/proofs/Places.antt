@@ -1,9 +1,9 @@
 -- The rows from a place on, piece by piece.
-use Rattle.std.proofs.Common.{◌≡◌, ℕ, zero, suc, ◌+◌, ◌<◌, ◌≤◌, List, [], ◌∷◌, ◌++◌, length, take, drop, sym, refl, ap, ◌∙◌, arith, append_assoc, length-append, length-drop, inl, inr}
+use Rattle.std.proofs.Common.{◌≡◌, ℕ, suc, ◌+◌, ◌<◌, ◌≤◌, List, ◌++◌, length, take, drop, sym, ap, ◌∙◌, arith, append_assoc, length-append, length-drop, inl, inr}
 use Rattle.std.proofs.Math.Seq.{drop-append-add}
 use Rattle.std.proofs.lemmas.Bool.{cases_lt}
 use Rattle.std.proofs.lemmas.List.{drop-append-le}
-use Rattle.row_table.specs.Blocks.{joined, block_at, rows_before, IsBlockAt}
+use Rattle.row_table.specs.Blocks.{joined, block_at, rows_before}
 use Rattle.row_table.proofs.Joined.{joined_parted, rows_before-length}
 use Rattle.shared_table.specs.Pieces.{IsRunAt}
 

@@ -1,5 +1,4 @@
-use Rattle.std.proofs.Common.{◌+◌, ◌-◌, ◌<◌, ◌≡◌, length, arith, ap, add-one, sym}
-use Rattle.row_table.specs.Blocks.{rows_before}
+use Rattle.std.proofs.Common.{length, arith, ap, add-one}
 use Rattle.row_table.proofs.Joined.{rows_before-suc}
 use Rattle.shared_table.specs.Pieces.{blocks_of}
 use Rattle.shared_table.proofs.Parts.{length-blocks, part_rows}

@@ -1,4 +1,4 @@
-use Rattle.std.proofs.Common.{arith, length, ap, ◌∙◌}
+use Rattle.std.proofs.Common.{arith, ◌∙◌}
 use Rattle.shared_table.proofs.Parts.{rest_from, rows_before-parts, length-drop_parts, AreParts-take, AreParts-drop, layer_halves}
 use Rattle.shared_table.proofs.layer.LayerChangingPiece.halves.Goals as goal
 

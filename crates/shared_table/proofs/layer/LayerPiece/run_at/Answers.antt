@@ -1,4 +1,4 @@
-use Rattle.std.proofs.Common.{arith, ◌∙◌, subst, sym}
+use Rattle.std.proofs.Common.{arith, ◌∙◌, subst}
 use Rattle.shared_table.specs.Pieces.{blocks_of, IsRunAt}
 use Rattle.shared_table.proofs.Parts.{length-blocks, part_rows}
 use Rattle.shared_table.proofs.Places.{run_in_block}
