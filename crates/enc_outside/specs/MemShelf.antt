@@ -15,6 +15,13 @@ next_call shelf = shelf.calls + 1
 abbrev pub failing_call : MemShelf → ℕ
 failing_call shelf = shelf.failing
 
+-- how often a read and a write failed
+abbrev pub failed_reads : MemShelf → ℕ
+failed_reads shelf = shelf.read_faults
+
+abbrev pub failed_writes : MemShelf → ℕ
+failed_writes shelf = shelf.write_faults
+
 -- the next call is to fail
 abbrev pub IsFailing : MemShelf → Type 0
 IsFailing shelf = next_call shelf ≡ failing_call shelf

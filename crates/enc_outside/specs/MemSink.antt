@@ -13,6 +13,10 @@ next_put sink = sink.calls + 1
 abbrev pub failing_put : MemSink → ℕ
 failing_put sink = sink.failing
 
+-- how often a put failed
+abbrev pub failed_puts : MemSink → ℕ
+failed_puts sink = sink.faults
+
 -- the next call is to fail
 abbrev pub IsFailing : MemSink → Type 0
 IsFailing sink = next_put sink ≡ failing_put sink

@@ -71,13 +71,15 @@ impl MemShelf {
     ghost use Rattle.std.specs.Prelude.{◌≡◌, ◌+◌, None, OnOk, OnErr, IsTrue, ◌↔◌};
     ghost use Rattle.std.specs.Option.{option_copied};
     ghost use Rattle.enc_outside.specs.Files.{Writes, SameFiles};
-    ghost use Rattle.enc_outside.specs.MemShelf.{mem_files, next_call, failing_call, IsFailing, IsNext};
+    ghost use Rattle.enc_outside.specs.MemShelf.{mem_files, next_call, failing_call, failed_reads, failed_writes, IsFailing, IsNext};
 
     /// A store without files, of which no call fails.
     pub fn make(alloc: Global) -> MemShelf
         ensures files { (name : _) → mem_files result name ≡ None }
         ensures calls { next_call result ≡ 1 }
         ensures failing { failing_call result ≡ 0 }
+        ensures read_faults { failed_reads result ≡ 0 }
+        ensures write_faults { failed_writes result ≡ 0 }
     {
         MemShelf {
             alloc,
@@ -97,6 +99,8 @@ impl MemShelf {
         ensures err { OnErr result (SameFiles (mem_files self.old) (mem_files self.new)) }
         ensures calls { next_call self.new ≡ next_call self.old }
         ensures failing { failing_call self.new ≡ failing_call self.old }
+        ensures read_faults { failed_reads self.new ≡ failed_reads self.old }
+        ensures write_faults { failed_writes self.new ≡ failed_writes self.old }
     {
         let content = Vec::from_slice(self.alloc, bytes)?;
         put_file(self.alloc, &mut self.files, name, content)
@@ -107,6 +111,8 @@ impl MemShelf {
         ensures files { mem_files self.new ≡ mem_files self.old }
         ensures calls { next_call self.new ≡ next_call self.old }
         ensures failing { failing_call self.new ≡ call }
+        ensures read_faults { failed_reads self.new ≡ failed_reads self.old }
+        ensures write_faults { failed_writes self.new ≡ failed_writes self.old }
     {
         self.failing = call;
     }

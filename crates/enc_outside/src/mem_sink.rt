@@ -17,13 +17,14 @@ pub struct MemSink {
 
 impl MemSink {
     ghost use Rattle.std.specs.Prelude.{◌≡◌, []};
-    ghost use Rattle.enc_outside.specs.MemSink.{sink_bytes, next_put, failing_put};
+    ghost use Rattle.enc_outside.specs.MemSink.{sink_bytes, next_put, failing_put, failed_puts};
 
     /// A sink to which nothing was written, and of which no call fails.
     pub fn make(alloc: Global) -> MemSink
         ensures bytes { sink_bytes result ≡ [] }
         ensures calls { next_put result ≡ 1 }
         ensures failing { failing_put result ≡ 0 }
+        ensures faults { failed_puts result ≡ 0 }
     {
         MemSink {
             bytes: Vec::new(alloc),
@@ -38,6 +39,7 @@ impl MemSink {
         ensures bytes { sink_bytes self.new ≡ sink_bytes self.old }
         ensures calls { next_put self.new ≡ next_put self.old }
         ensures failing { failing_put self.new ≡ call }
+        ensures faults { failed_puts self.new ≡ failed_puts self.old }
     {
         self.failing = call;
     }
