@@ -3,4 +3,5 @@ mod Ranges
 mod SessionNames
 mod Judged
 mod Whole
-mod OrderLines
+pub mod OrderLines
+mod ReadOrders

@@ -1,9 +1,9 @@
 -- The line of an order is read as that order.
-use Rattle.std.proofs.Common.{◌≡◌, ◌≢◌, ◌<◌, ◌≤◌, ◌+◌, ◌-◌, ◌^◌, ◌==◌, ◌&&◌, ℕ, zero, suc, Bool, true, false, List, [], ◌∷◌, ◌++◌, Option, Some, None, Result, Ok, length, map, take, drop, get_or, filter_map, count_by, arith, refl, sym, ◌∙◌, ap, subst, nat_le, cond, rules, if◌then◌else◌}
-use Rattle.std.specs.Prelude.{nat_eq, All}
+use Rattle.std.proofs.Common.{◌≡◌, ◌≢◌, ◌<◌, ◌≤◌, ◌+◌, ◌^◌, ◌==◌, ◌&&◌, ℕ, zero, suc, Bool, true, false, List, [], ◌∷◌, ◌++◌, Some, Result, Ok, length, map, take, drop, get_or, filter_map, count_by, arith, refl, sym, ◌∙◌, ap, nat_le, cond, rules, if◌then◌else◌}
+use Rattle.std.specs.Prelude.{nat_eq}
 use Rattle.std.specs.Cmp.Lexicographic.{pointwise}
 use Rattle.std.specs.Fmt.{decimal}
-use Rattle.std.specs.List.{flat_map, list_all, position_or_len, range_with_len, sum_by}
+use Rattle.std.specs.List.{list_all, position_or_len, range_with_len}
 use Rattle.std.specs.Str.{all_ascii_digits}
 use Rattle.std.specs.Str.Parse.{digits_value}
 use Rattle.std.proofs.lemmas.Bool.Decides.{nat_tests}
@@ -13,7 +13,7 @@ use Rattle.std.proofs.Math.Seq.{take-append_seam, drop-append_seam}
 use Rattle.std.proofs.lemmas.List.Sums.{count_by_more_yes, sum_by-append}
 use Rattle.std.proofs.lemmas.Str.Parse.{IsNumeralModel, numerals_by_value, not_in_digits}
 use Rattle.text_spec.specs.Lines.{spaced_words}
-use Rattle.text_spec.specs.OrderLine.{IsOrder, order_line, order_of, order_items, items_among as items_of_pieces, pieces, with_byte, before_feed, from_feed, session_of, is_bad_item, is_bad_session, first_bad_item, are_all_used, ends_well, quota_of}
+use Rattle.text_spec.specs.OrderLine.{IsOrder, order_line, order_of, order_items, items_among as items_of_pieces, pieces, before_feed, from_feed, session_of, is_bad_item, is_bad_session, are_all_used, ends_well, quota_of}
 use Rattle.order_text.proofs.Judged.{bad_at, has_used}
 use Rattle.order_text.proofs.Ranges.{find-none}
 use Rattle.order_text.proofs.SessionNames.{session_of-inside}
