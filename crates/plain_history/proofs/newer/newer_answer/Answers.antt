@@ -9,7 +9,7 @@ pub returns-clause-same : goal.returns-clause-same
 returns-clause-same c =
     let commits = c.args.commits.now in
     let before = c.min-before.result in
-    let least : before ≡ min c.args.base (length commits) = c.min-before.ensures ∙ ap (min c.args.base) c.in_ok-number.ensures in
+    let least : before ≡ min c.args.base (length commits) = c.min-before.ensures ∙ ap (min c.args.base) c.in_ok-number.ensures.same in
     let same = ap (λ xs. first_of (filter_map (clash_with c.args.edits.now) xs))
     ((let e : before + 1 ≡ 1 + before = omega arith in ap (λ n. enumerate_from n c.split_at.result.1.now) e)
     ∙ ap (enumerate_from (1 + before)) c.split_at.ensures.back ∙ numbered_from before c.args.base 1 commits least) in

@@ -8,7 +8,7 @@ pub returns-clause-ok : goal.returns-clause-ok
 returns-clause-ok c =
     let before : KeptHistory = record { cell = c.self.inside.cell; commits = c.self.inside.commits; bases = c.self.inside.bases } in
     let known : c.args.self.now ≡ before = sym c.self.view_is in
-    let counted : c.in_ok-before.before + 1 ≡ length before.commits + 1 = (let is = c.in_ok-before.ensures in let len = c.len.ensures in omega (arith, is, len)) in
+    let counted : c.in_ok-before.before + 1 ≡ length before.commits + 1 = (let is = c.in_ok-before.ensures.same in let len = c.len.ensures in omega (arith, is, len)) in
     let within : c.args.desk < length before.bases = (let few = c.requires.desk in let all = c.self.invariant.bases_are in omega (arith, few, all)) in
     let edited : c.args.cell ≡ apply_edits c.args.set.edits before.cell = c.requires.edited ∙ ap (λ (kept : KeptHistory). apply_edits c.args.set.edits kept.cell) known in (
       accepted_reply c.args.self.now before _ _ _ known counted (c.len-total.ensures ∙ c.requires.findings.count),
