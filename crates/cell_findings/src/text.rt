@@ -1,6 +1,6 @@
 //! The part of a report that tells of a cell.
 
-ghost use Rattle.std.specs.Prelude.{◌≡◌, ◌++◌, ◌∷◌, [], List, decimal, map, OnOk};
+ghost use Rattle.std.specs.Prelude.{◌≡◌, ◌++◌, ◌∷◌, [], List, decimal, map, OnErr, OnOk};
 ghost use Rattle.std.specs.List.{flat_map};
 ghost use Rattle.cell_spec.specs.declared.finding.Finding.{Finding as SpecFinding};
 ghost use Rattle.cell_spec.specs.declared.key.Subject.{Subject as SpecSubject};
@@ -14,7 +14,7 @@ use itoa::Buffer;
 use rule_spec::{kind_name, number_count};
 use s57_types::{Cell, Lnam};
 use std::alloc::AllocError;
-use text_lines::{push_name, push_number, push_text, push_word};
+use text_lines::{push_bytes, push_name, push_number, push_text, push_word};
 
 /// Appends the words of a feature object identifier.
 fn push_identity(out: &mut Vec<u8>, lnam: Lnam) -> Result<(), AllocError>
@@ -73,8 +73,18 @@ fn push_finding(out: &mut Vec<u8>, found: &SubjectFinding) -> Result<(), AllocEr
 
 /// Appends the lines of findings.
 ///
-/// An `Err` is want of memory.
+/// An `Err` is want of memory, and leaves the text as it was.
 pub fn push_findings(out: &mut Vec<u8>, findings: &[SubjectFinding]) -> Result<(), AllocError>
+    ensures ok { OnOk result (out.new.items ≡ out.old.items ++ flat_map line_of findings.now) }
+    ensures err { OnErr result (out.new.items ≡ out.old.items) }
+{
+    let mut lines = Vec::new(*out.allocator());
+    push_lines(&mut lines, findings)?;
+    push_bytes(out, &lines)
+}
+
+/// Appends the lines of findings, and after an `Err` perhaps some of them.
+fn push_lines(out: &mut Vec<u8>, findings: &[SubjectFinding]) -> Result<(), AllocError>
     ensures { OnOk result (out.new.items ≡ out.old.items ++ flat_map line_of findings.now) }
 {
     for found in findings {
@@ -117,13 +127,23 @@ fn push_total(out: &mut Vec<u8>, total: usize) -> Result<(), AllocError>
 /// Appends the part of a report that tells of a cell: how many records of each kind it has, and its findings, a line
 /// each.
 ///
-/// An `Err` is want of memory.
+/// An `Err` is want of memory, and leaves the text as it was.
 pub fn push_cell(out: &mut Vec<u8>, cell: &Cell, findings: &Findings) -> Result<(), AllocError>
+    ensures ok { (rows : List (SpecSubject × List SpecFinding)) → findings.now ≡ findings_of_rows rows → OnOk result (out.new.items ≡ out.old.items ++ text_with cell.now rows) }
+    ensures err { OnErr result (out.new.items ≡ out.old.items) }
+{
+    let mut part = Vec::new(*out.allocator());
+    push_part(&mut part, cell, findings)?;
+    push_bytes(out, &part)
+}
+
+/// Appends the same, and after an `Err` perhaps a beginning of it.
+fn push_part(out: &mut Vec<u8>, cell: &Cell, findings: &Findings) -> Result<(), AllocError>
     ensures { (rows : List (SpecSubject × List SpecFinding)) → findings.now ≡ findings_of_rows rows → OnOk result (out.new.items ≡ out.old.items ++ text_with cell.now rows) }
 {
     push_counts(out, cell)?;
     push_total(out, findings.len())?;
-    push_findings(out, findings.as_slice())?;
+    push_lines(out, findings.as_slice())?;
     push_text(out, "end\n")?;
     Ok(())
 }

@@ -1,6 +1,6 @@
 //! The part of an accepted commit.
 
-ghost use Rattle.std.specs.Prelude.{◌≡◌, ◌++◌, ◌∷◌, [], All, OnOk, codes, decimal, true};
+ghost use Rattle.std.specs.Prelude.{◌≡◌, ◌++◌, ◌∷◌, [], All, OnErr, OnOk, codes, decimal, true};
 ghost use Rattle.std.specs.List.{flat_map};
 ghost use Rattle.cell_spec.specs.declared.edit.Edit.{Edit as SpecEdit};
 ghost use Rattle.text_spec.specs.EditLine.{edit_line, has_line};
@@ -9,7 +9,7 @@ ghost use Rattle.text_spec.specs.Lines.{line};
 use cell_spec::Edit;
 use edit_sets::EditSet;
 use std::alloc::{AllocError, Global};
-use text_lines::{push_number, push_numbered, push_text, write_edit};
+use text_lines::{push_bytes, push_number, push_numbered, push_text, write_edit};
 
 /// Each edit of a set has a line, since its record has a name of its own sort.
 pub fn known_lines(set: &EditSet)
@@ -44,7 +44,7 @@ fn push_edits(alloc: Global, out: &mut Vec<u8>, edits: &[Edit]) -> Result<(), Al
 /// Appends an accepted commit's part of the history: its number, its desk, how many findings the cell has after it, and
 /// its edits.
 ///
-/// An `Err` is want of memory.
+/// An `Err` is want of memory, and leaves the text as it was.
 pub fn push_commit(
     alloc: Global,
     out: &mut Vec<u8>,
@@ -54,10 +54,13 @@ pub fn push_commit(
     edits: &[Edit],
 ) -> Result<(), AllocError>
     requires { All (λ (edit : SpecEdit). has_line edit ≡ true) edits.now }
-    ensures { OnOk result (out.new.items ≡ out.old.items
+    ensures ok { OnOk result (out.new.items ≡ out.old.items
         ++ (line (codes "commit") (decimal number ∷ codes "desk" ∷ decimal desk ∷ codes "findings" ∷ decimal findings ∷ [])
         ++ flat_map edit_line edits.now)) }
+    ensures err { OnErr result (out.new.items ≡ out.old.items) }
 {
-    push_head(out, number, desk, findings)?;
-    push_edits(alloc, out, edits)
+    let mut part = Vec::new(alloc);
+    push_head(&mut part, number, desk, findings)?;
+    push_edits(alloc, &mut part, edits)?;
+    push_bytes(out, &part)
 }

@@ -1,11 +1,11 @@
 //! The order line.
 
-ghost use Rattle.std.specs.Prelude.{◌≡◌, ◌++◌, OnOk, decimal, map};
+ghost use Rattle.std.specs.Prelude.{◌≡◌, ◌++◌, OnErr, OnOk, decimal, map};
 ghost use Rattle.text_spec.specs.Lines.{spaced_words};
 ghost use Rattle.text_spec.specs.OrderLine.{order_line};
 
 use std::alloc::AllocError;
-use text_lines::{push_number, push_text};
+use text_lines::{push_bytes, push_number, push_text};
 
 /// Appends numbers, each behind a space.
 fn push_numbers(out: &mut Vec<u8>, numbers: &[u32]) -> Result<(), AllocError>
@@ -19,11 +19,14 @@ fn push_numbers(out: &mut Vec<u8>, numbers: &[u32]) -> Result<(), AllocError>
 
 /// Appends the line that tells of which session each shared command was.
 ///
-/// An `Err` is want of memory.
+/// An `Err` is want of memory, and leaves the text as it was.
 pub fn push_order(out: &mut Vec<u8>, order: &[u32]) -> Result<(), AllocError>
-    ensures { OnOk result (out.new.items ≡ out.old.items ++ order_line order.now) }
+    ensures ok { OnOk result (out.new.items ≡ out.old.items ++ order_line order.now) }
+    ensures err { OnErr result (out.new.items ≡ out.old.items) }
 {
-    push_text(out, "order")?;
-    push_numbers(out, order)?;
-    push_text(out, "\n")
+    let mut line = Vec::new(*out.allocator());
+    push_text(&mut line, "order")?;
+    push_numbers(&mut line, order)?;
+    push_text(&mut line, "\n")?;
+    push_bytes(out, &line)
 }

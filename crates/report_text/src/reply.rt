@@ -1,6 +1,6 @@
 //! The line of an answer.
 
-ghost use Rattle.std.specs.Prelude.{◌≡◌, ◌++◌, ◌∷◌, [], OnOk, codes, decimal};
+ghost use Rattle.std.specs.Prelude.{◌≡◌, ◌++◌, ◌∷◌, [], OnErr, OnOk, codes, decimal};
 ghost use Rattle.text_spec.specs.Lines.{line, spaced_words};
 ghost use Rattle.history_spec.specs.ReportText.{form_words, refusal_words, refused_line, reply_line, unfit_words};
 ghost use Rattle.report_text.specs.Newer.{newer_words};
@@ -9,7 +9,7 @@ use edit_sets::FormFault;
 use history_spec::{Reply, StateRefusal};
 use s57_types::{RecName, Unfit};
 use std::alloc::AllocError;
-use text_lines::{push_name, push_number, push_numbered, push_text};
+use text_lines::{push_bytes, push_name, push_number, push_numbered, push_text};
 
 /// Appends the words of why a record can't be written.
 fn push_unfit(out: &mut Vec<u8>, why: Unfit) -> Result<(), AllocError>
@@ -125,8 +125,18 @@ pub(crate) fn push_state(
 
 /// Appends the line of an answer.
 ///
-/// An `Err` is want of memory.
+/// An `Err` is want of memory, and leaves the text as it was.
 pub fn push_reply(out: &mut Vec<u8>, reply: &Reply) -> Result<(), AllocError>
+    ensures ok { OnOk result (out.new.items ≡ out.old.items ++ reply_line reply.now) }
+    ensures err { OnErr result (out.new.items ≡ out.old.items) }
+{
+    let mut line = Vec::new(*out.allocator());
+    push_reply_line(&mut line, reply)?;
+    push_bytes(out, &line)
+}
+
+/// Appends the same, and after an `Err` perhaps a part of the line.
+pub(crate) fn push_reply_line(out: &mut Vec<u8>, reply: &Reply) -> Result<(), AllocError>
     ensures { OnOk result (out.new.items ≡ out.old.items ++ reply_line reply.now) }
 {
     match reply {

@@ -1,6 +1,6 @@
 //! The part of a session.
 
-ghost use Rattle.std.specs.Prelude.{◌≡◌, ◌++◌, ◌<◌, ◌+◌, ◌^◌, ◌∷◌, [], All, OnOk, ℕ, codes, decimal, length, map};
+ghost use Rattle.std.specs.Prelude.{◌≡◌, ◌++◌, ◌<◌, ◌+◌, ◌^◌, ◌∷◌, [], All, OnErr, OnOk, ℕ, codes, decimal, length, map};
 ghost use Rattle.s57_types.specs.declared.cell.Cell.{Cell as SpecCell};
 ghost use Rattle.text_spec.specs.Lines.{line};
 ghost use Rattle.text_spec.specs.ScriptLines.{is_shared as is_shared_lem};
@@ -8,12 +8,12 @@ ghost use Rattle.history_spec.specs.ReportText.{base_after as base_after_lem, se
 ghost use Rattle.report_text.specs.SeenFindings.{AreSeen, ShowsAtMost};
 ghost use Rattle.report_text.specs.Transcript.{IsBaseBelow, drafted_after as drafted_after_lem, local_lines, transcript};
 
-use crate::draft::push_draft;
-use crate::reply::push_reply;
+use crate::draft::push_draft_line;
+use crate::reply::push_reply_line;
 use crate::seen::{Seen, push_list};
 use history_spec::Reply;
 use std::alloc::AllocError;
-use text_lines::{push_number, push_text};
+use text_lines::{push_bytes, push_number, push_text};
 use text_spec::Command;
 
 /// Whether a command has an answer: a view or a commit.
@@ -68,7 +68,7 @@ fn push_local(
 {
     match command {
         Command::List(shown) => push_list(out, base, *shown, &seen[base as usize]),
-        _ => push_draft(out, drafted),
+        _ => push_draft_line(out, drafted),
     }
 }
 
@@ -94,7 +94,7 @@ fn push_transcript(
             let Some(reply) = replies.get(used) else {
                 return Ok(());
             };
-            push_reply(out, reply)?;
+            push_reply_line(out, reply)?;
             base = base_after(reply, base);
             used += 1;
         } else {
@@ -109,7 +109,7 @@ fn push_transcript(
 /// that the last answer to a view or the last accepted commit names. `seen` tells of the cell after no commit, one commit
 /// and so on.
 ///
-/// An `Err` is want of memory.
+/// An `Err` is want of memory, and leaves the text as it was.
 pub fn push_session(
     out: &mut Vec<u8>,
     session: u32,
@@ -120,9 +120,12 @@ pub fn push_session(
     requires few { length commands.now < 2 ^ 32 }
     requires opened { 0 < length seen.now }
     requires bases { All (IsBaseBelow (length seen.now)) (map (λ reply. reply.now) replies.now) }
-    ensures { (limit : ℕ) (at : ℕ → SpecCell) → AreSeen limit at seen.now → All (ShowsAtMost limit) commands.now
+    ensures ok { (limit : ℕ) (at : ℕ → SpecCell) → AreSeen limit at seen.now → All (ShowsAtMost limit) commands.now
         → OnOk result (out.new.items ≡ out.old.items ++ session_text at session commands.now (map (λ reply. reply.now) replies.now)) }
+    ensures err { OnErr result (out.new.items ≡ out.old.items) }
 {
-    push_head(out, session)?;
-    push_transcript(out, commands, replies, seen)
+    let mut part = Vec::new(*out.allocator());
+    push_head(&mut part, session)?;
+    push_transcript(&mut part, commands, replies, seen)?;
+    push_bytes(out, &part)
 }

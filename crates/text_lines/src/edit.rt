@@ -1,20 +1,31 @@
 //! The line of an edit.
 
-ghost use Rattle.std.specs.Prelude.{◌≡◌, ◌++◌, ◌∷◌, [], codes, decimal, map, true, OnOk};
+ghost use Rattle.std.specs.Prelude.{◌≡◌, ◌++◌, ◌∷◌, [], codes, decimal, map, true, OnErr, OnOk};
 ghost use Rattle.text_spec.specs.CellText.{name_words};
 ghost use Rattle.text_spec.specs.EditLine.{attribute_item, edit_line, feature_words, has_line, partner_item, place_item, record_words, vector_words};
 ghost use Rattle.text_spec.specs.Lines.{spaced, spaced_words};
 
 use crate::item::{push_attributes, push_deep, push_ends, push_partners, push_places, push_plane};
-use crate::words::{push_name, push_number, push_text};
+use crate::words::{push_bytes, push_name, push_number, push_text};
 use cell_spec::Edit;
 use s57_types::{Feature, Lnam, Rec, Vector};
 use std::alloc::{AllocError, Global};
 
-/// Appends the line of an edit. The record has a name of its own sort.
+/// Appends the line of an edit, or nothing. The record has a name of its own sort.
 ///
 /// An `Err` is want of memory.
-pub fn write_edit(_alloc: Global, edit: &Edit, out: &mut Vec<u8>) -> Result<(), AllocError>
+pub fn write_edit(alloc: Global, edit: &Edit, out: &mut Vec<u8>) -> Result<(), AllocError>
+    requires { has_line edit.now ≡ true }
+    ensures ok { OnOk result (out.new.items ≡ out.old.items ++ edit_line edit.now) }
+    ensures err { OnErr result (out.new.items ≡ out.old.items) }
+{
+    let mut line = Vec::new(alloc);
+    push_edit(&mut line, edit)?;
+    push_bytes(out, &line)
+}
+
+/// Appends the line of an edit.
+fn push_edit(out: &mut Vec<u8>, edit: &Edit) -> Result<(), AllocError>
     requires { has_line edit.now ≡ true }
     ensures { OnOk result (out.new.items ≡ out.old.items ++ edit_line edit.now) }
 {

@@ -1,6 +1,6 @@
 //! Words and numbers.
 
-ghost use Rattle.std.specs.Prelude.{◌≡◌, ◌++◌, ◌∷◌, [], decimal, OnOk};
+ghost use Rattle.std.specs.Prelude.{◌≡◌, ◌++◌, ◌∷◌, [], decimal, take, OnErr, OnOk};
 ghost use Rattle.text_spec.specs.CellText.{kind_word, name_words};
 ghost use Rattle.text_spec.specs.Lines.{spaced, spaced_words};
 
@@ -20,43 +20,74 @@ pub fn word_of_kind(kind: Kind) -> &'static str
     }
 }
 
-/// Appends a text as it is.
+/// Appends bytes, all or none.
+pub fn push_bytes(out: &mut Vec<u8>, bytes: &[u8]) -> Result<(), AllocError>
+    ensures ok { OnOk result (out.new.items ≡ out.old.items ++ bytes.now) }
+    ensures err { OnErr result (out.new.items ≡ out.old.items) }
+{
+    out.extend_from_slice(bytes)?;
+    Ok(())
+}
+
+/// Appends a text as it is, or nothing.
 pub fn push_text(out: &mut Vec<u8>, text: &str) -> Result<(), AllocError>
-    ensures { OnOk result (out.new.items ≡ out.old.items ++ text.now) }
+    ensures ok { OnOk result (out.new.items ≡ out.old.items ++ text.now) }
+    ensures err { OnErr result (out.new.items ≡ out.old.items) }
 {
-    out.extend_from_slice(text.as_bytes())?;
-    Ok(())
+    push_bytes(out, text.as_bytes())
 }
 
-/// Appends a word behind a space.
+/// Cuts a text back to its length before a call that failed.
+fn cut_back(
+    out: &mut Vec<u8>,
+    length: usize,
+    pushed: Result<(), AllocError>,
+) -> Result<(), AllocError>
+    ensures same { result ≡ pushed }
+    ensures ok { OnOk result (out.new.items ≡ out.old.items) }
+    ensures err { OnErr result (out.new.items ≡ take length out.old.items) }
+{
+    if pushed.is_err() {
+        out.truncate(length);
+    }
+    pushed
+}
+
+/// Appends a word behind a space, or nothing.
 pub fn push_word(out: &mut Vec<u8>, word: &str) -> Result<(), AllocError>
-    ensures { OnOk result (out.new.items ≡ out.old.items ++ spaced word.now) }
+    ensures ok { OnOk result (out.new.items ≡ out.old.items ++ spaced word.now) }
+    ensures err { OnErr result (out.new.items ≡ out.old.items) }
 {
+    let length = out.len();
     out.push(b' ')?;
-    out.extend_from_slice(word.as_bytes())?;
-    Ok(())
+    let pushed = push_text(out, word);
+    cut_back(out, length, pushed)
 }
 
-/// Appends a number behind a space.
+/// Appends a number behind a space, or nothing.
 pub fn push_number(out: &mut Vec<u8>, number: u32) -> Result<(), AllocError>
-    ensures { OnOk result (out.new.items ≡ out.old.items ++ spaced (decimal number)) }
+    ensures ok { OnOk result (out.new.items ≡ out.old.items ++ spaced (decimal number)) }
+    ensures err { OnErr result (out.new.items ≡ out.old.items) }
 {
     let mut buffer = Buffer::new();
     push_word(out, buffer.format(number))
 }
 
-/// Appends a word and its number.
+/// Appends a word and its number, or nothing.
 pub fn push_numbered(out: &mut Vec<u8>, word: &str, number: u32) -> Result<(), AllocError>
-    ensures { OnOk result (out.new.items ≡ out.old.items ++ spaced_words (word.now ∷ decimal number ∷ [])) }
+    ensures ok { OnOk result (out.new.items ≡ out.old.items ++ spaced_words (word.now ∷ decimal number ∷ [])) }
+    ensures err { OnErr result (out.new.items ≡ out.old.items) }
 {
+    let length = out.len();
     push_word(out, word)?;
-    push_number(out, number)
+    let pushed = push_number(out, number);
+    cut_back(out, length, pushed)
 }
 
-/// Appends the words of a record's name.
+/// Appends the words of a record's name, or nothing.
 pub fn push_name(out: &mut Vec<u8>, name: RecName) -> Result<(), AllocError>
-    ensures { OnOk result (out.new.items ≡ out.old.items ++ spaced_words (name_words name)) }
+    ensures ok { OnOk result (out.new.items ≡ out.old.items ++ spaced_words (name_words name)) }
+    ensures err { OnErr result (out.new.items ≡ out.old.items) }
 {
-    push_word(out, word_of_kind(name.kind))?;
-    push_number(out, name.id)
+    push_numbered(out, word_of_kind(name.kind), name.id)
 }

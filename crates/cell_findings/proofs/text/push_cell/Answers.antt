@@ -1,7 +1,10 @@
-use Rattle.cell_findings.proofs.RowTexts.{text_with-findings}
+use Rattle.std.proofs.Common.{◌≡◌, ◌++◌, ◌∙◌, ap}
+use Rattle.std.proofs.lemmas.Result.{on_ok_weaker}
+use Rattle.text_spec.specs.CellText.{text_with}
 use Rattle.cell_findings.proofs.text.push_cell.Goals as goal
 
-pub returns : goal.returns
-returns c = λ rows is.
-    rw (c.in_ok-push_text.ensures, c.in_ok-push_findings.ensures, c.as_slice.ensures, c.in_ok-push_total.ensures, c.len.ensures, c.in_ok-push_counts.ensures)
-    (text_with-findings c.args.out.now.items c.args.cell.now rows c.args.findings.now is)
+pub returns-clause-ok : goal.returns-clause-ok
+returns-clause-ok c = λ rows is.
+    let out = c.args.out.now.items in
+    let part = c.deref.ensures.value ∙ c.in_ok-push_part.ensures rows is ∙ ap (λ text. text ++ text_with c.args.cell.now rows) c.new-part.ensures.items in
+    on_ok_weaker c.push_bytes.result (λ (written : c.push_bytes.new.out.items ≡ out ++ c.deref.result.now). written ∙ ap (λ text. out ++ text) part) c.push_bytes.ensures.ok

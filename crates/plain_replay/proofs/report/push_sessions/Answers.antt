@@ -23,7 +23,7 @@ loop-k-preserved c = λ limit at seen shown.
     let text : ℕ → List ℕ = λ session. session_text at session (script_of scripts session) (replies_to session replies) in
     let script = c.commands.ensures ∙ sym (script_there scripts k c.index-scripts-k.result within c.index-scripts-k.is) in
     let found = ap (map (λ reply. reply.now)) c.deref.ensures.value ∙ c.in_ok-found.ensures in
-    c.in_ok-push_session.ensures limit at seen (subst (All (ShowsAtMost limit)) (sym c.commands.ensures) (one_script limit scripts k c.index-scripts-k.result within c.index-scripts-k.is shown))
+    c.in_ok-push_session.ensures.ok limit at seen (subst (All (ShowsAtMost limit)) (sym c.commands.ensures) (one_script limit scripts k c.index-scripts-k.result within c.index-scripts-k.is shown))
     ∙ (λ i. c.loop-k.invariant limit at seen shown i ++ session_text at (k + 1) (script i) (found i))
     ∙ append_assoc c.args.out.now.items (flat_map text (take k (range_with_len 1 (length scripts)))) (text (k + 1))
     ∙ ap (λ part. c.args.out.now.items ++ part) (sym (session_more text (length scripts) k within))

@@ -51,14 +51,14 @@ returns-clause-report c =
     let limit = c.most_shown-limit.result in
     let ran = subst (λ lists. IsRun limit cell (filter_map (asked_at (asked_lists lists) order) (enumerate_from 0 order)) run) c.deref.ensures.value (c.in_ok-run.ensures cell c.open-history.ensures) in
     let at : ℕ → Cell = λ n. cell_after n run.history.commits cell in
-    let first = c.in_ok-push_order.ensures ∙ ap (λ text. text ++ order_line order) c.new-out.ensures.items in
+    let first = c.in_ok-push_order.ensures.ok ∙ ap (λ text. text ++ order_line order) c.new-out.ensures.items in
     let seen = subst (AreSeen limit at) (sym c.deref-3.ensures.value) (seen_cells limit cell scripts order run _ (c.in_ok-run.ensures cell c.open-history.ensures)) in
     let second = c.in_ok-push_sessions.ensures limit at seen c.most_shown-limit.ensures
     ∙ (λ i. first i ++ flat_map (λ session. session_text at session (script_of scripts session) (replies_to session (c.deref-2.ensures.value i))) (range_with_len 1 (length scripts))) in
     let third = c.in_ok-push_history.ensures ∙ (λ i. second i ++ (line (codes "history") [] ++ c.deref-4.ensures.value i)) in
     let rows = all_findings run.history.cell in
     whole_report limit cell scripts order run (asked_lists c.in_ok-requests.requests.items) c.push_cell.new.out.items c.in_ok-requests.ensures.asked ran
-    (c.in_ok-push_cell.ensures rows c.findings.ensures.all ∙ (λ i. third i ++ text_with (c.cell.ensures i) rows))
+    (c.in_ok-push_cell.ensures.ok rows c.findings.ensures.all ∙ (λ i. third i ++ text_with (c.cell.ensures i) rows))
 
 pub returns-clause-cell : goal.returns-clause-cell
 returns-clause-cell c =

@@ -1,10 +1,13 @@
-use Rattle.std.proofs.Common.{◌-◌, ◌<◌, ◌≤◌, ◌++◌, ap, length, option_to_list, filter_map, get_or, take, take_all, subst, sym, ◌∙◌, refl, arith}
+use Rattle.std.proofs.Common.{◌-◌, ◌<◌, ◌≤◌, ◌++◌, ℕ, List, ap, length, option_to_list, filter_map, get_or, take, take_all, subst, sym, ◌∙◌, refl, arith}
 use Rattle.std.specs.List.{enumerate_from}
 use Rattle.std.specs.Prelude.{◌==◌, slice_index}
 use Rattle.std.proofs.Common.{◌+◌, rules}
 use Rattle.std.proofs.lemmas.List.{length-take}
 use Rattle.std.proofs.lemmas.List.FromFn.{length-enumerate_from}
 use Rattle.std.proofs.lemmas.List.Sums.{count_by-le-length}
+use Rattle.s57_types.specs.declared.cell.Cell.{Cell}
+use Rattle.history_spec.specs.Sessions.{Request as Asked}
+use Rattle.plain_replay.specs.declared.run.Run.{Run}
 use Rattle.plain_replay.specs.Runs.{IsRun, asked_after, asked_at, asked_lists}
 use Rattle.plain_replay.proofs.Places.{asked_more, counts_more, read_there}
 use Rattle.plain_replay.proofs.run.run_in_order.Goals as goal
@@ -42,8 +45,12 @@ loop-session-preserved c =
       (λ cell opened. subst (λ told. IsRun c.args.limit cell told c.answer_next.new.run) (sym asked) (c.in_ok-answer_next.ensures c.args.limit cell _ (before.2 cell opened))),
     )
 
+run_to_end : (limit : ℕ) (cell : Cell) (lists : List (List Asked)) (order : List ℕ) (k : ℕ) (run : Run) → length order ≤ k
+    → IsRun limit cell (filter_map (asked_at lists order) (take k (enumerate_from 0 order))) run → IsRun limit cell (filter_map (asked_at lists order) (enumerate_from 0 order)) run
+run_to_end limit cell lists order k run past is =
+    subst (λ told. IsRun limit cell (filter_map (asked_at lists order) told) run) (take_all k (enumerate_from 0 order) (omega (arith, past, length-enumerate_from 0 order))) is
+
 pub returns : goal.returns
 returns c = λ cell opened.
-    subst (λ told. IsRun c.args.limit cell (filter_map (asked_at (asked_lists c.args.requests.now) c.args.order.now) told) c.loop-session.run)
-    (take_all c.loop-session.session-index (enumerate_from 0 c.args.order.now) (let all = c.loop-session-test.false in omega (arith, all, length-enumerate_from 0 c.args.order.now)))
+    run_to_end c.args.limit cell (asked_lists c.args.requests.now) c.args.order.now c.loop-session.session-index c.loop-session.run (omega (arith, c.loop-session-test.false))
     (c.loop-session.invariant.2 cell (c.in_ok-run.ensures cell opened))

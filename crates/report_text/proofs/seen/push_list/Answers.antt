@@ -11,4 +11,4 @@ returns c = λ cell limit is within.
     on_ok_weaker c.push_findings.result
     (λ (written : c.push_findings.new.out.items ≡ c.push_state.new.out.items ++ flat_map line_of c.at_most.result.now).
     lines_shown limit c.args.base c.args.shown cell c.args.seen.now _ _ _ is within c.in_ok-push_state.ensures (written ∙ ap (λ found. c.push_state.new.out.items ++ flat_map line_of found) listed))
-    c.push_findings.ensures
+    c.push_findings.ensures.ok

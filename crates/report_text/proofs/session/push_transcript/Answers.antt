@@ -5,7 +5,7 @@ use Rattle.report_text.specs.SeenFindings.{ShowsAtMost}
 use Rattle.report_text.specs.Transcript.{IsBaseBelow, local_lines}
 use Rattle.report_text.proofs.Steps.{base_below, none_left, one_mapped, one_of, drafted_after-le, unanswered, answered, told_alone}
 use Rattle.report_text.proofs.session.push_transcript.Goals as goal
-use Rattle.report_text.proofs.session.push_transcript.Goals.{then-is_shared+in-Some+in_ok-push_reply, else-is_shared+in_ok-push_local}
+use Rattle.report_text.proofs.session.push_transcript.Goals.{then-is_shared+in-Some+in_ok-push_reply_line, else-is_shared+in_ok-push_local}
 
 pub returns : goal.returns
 returns c = λ limit at seen shown.
@@ -32,9 +32,9 @@ loop-command-preserved c =
     let before = c.loop-command.invariant in
     let raised = drafted_after-le command drafted in
     elim c.if-is_shared.branch [
-      | then-is_shared+in-Some+in_ok-push_reply w ↦ rw (w.out-is, w.used-is, w.base-is, w.base_after-base.ensures, c.drafted_after-drafted.ensures) record {
+      | then-is_shared+in-Some+in_ok-push_reply_line w ↦ rw (w.out-is, w.used-is, w.base-is, w.base_after-base.ensures, c.drafted_after-drafted.ensures) record {
         text = λ limit at seen shown. answered at (λ reply. reply.now) text _ _ base drafted k used command commands w.in-Some.reply.now c.args.replies.now c.loop-command-test.true c.command-item.is
-            (sym c.is_shared.ensures ∙ w.if-is_shared.true) w.in-Some.ensures.lookup.3.0 w.in-Some.ensures.lookup.1 w.in_ok-push_reply.ensures (before.text limit at seen shown);
+            (sym c.is_shared.ensures ∙ w.if-is_shared.true) w.in-Some.ensures.lookup.3.0 w.in-Some.ensures.lookup.1 w.in_ok-push_reply_line.ensures (before.text limit at seen shown);
         drafted = omega (arith, raised, before.drafted);
         used = omega (arith, before.used);
         base = base_below (length c.args.seen.now) base w.in-Some.reply.now.now before.base
