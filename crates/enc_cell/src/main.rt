@@ -56,3 +56,6 @@ fn main(rt: HostRuntime) -> ExitCode {
     let _ = rt.stderr().write_all(&line);
     ExitCode::from(status.number())
 }
+
+#[cfg(test)]
+mod tests;

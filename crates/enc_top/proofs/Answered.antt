@@ -6,7 +6,7 @@ use Rattle.std.proofs.lemmas.Bool.{cases_lt}
 use Rattle.enc_outside.specs.Count.{Rose}
 use Rattle.enc_outside.specs.Files.{Files}
 use Rattle.text_spec.specs.declared.command.Command.{Command}
-use Rattle.enc_top.specs.Inputs.{AreScripts, IsInputOf, IsInputStatus, OutputIs, ScriptIs, ScriptsAre, Tells}
+use Rattle.enc_top.specs.Inputs.{AreScripts, IsInputOf, IsInputStatus, IsReached, IsReachedScript, OutputIs, ScriptIs, ScriptsAre, Tells}
 use Rattle.enc_top.specs.Outcome.{IsAskedBy, IsBuilt, IsOutput}
 use Rattle.enc_top.specs.Task.{task_of}
 use Rattle.enc_top.specs.Words.{Form}
@@ -22,21 +22,22 @@ pub rose_earlier : (before mid after : ℕ) → before ≤ mid → Rose mid afte
 rose_earlier before mid after le rose = omega (arith, le, rose)
 
 -- the status at which a later step ended, as that of the whole
-pub tells_later : {A B C D : Type 0} (seen : A → B) (other : C → D) (Step : Files → Result B Status → Type 0) (Whole : Files → Result D Status → Type 0) (P : Files → Type 0) (files : Option Files) (before mid after : ℕ) (status : Status)
-    → before ≤ mid → IfSome files P → ((fs : Files) → P fs → Step fs (Err status) → Whole fs (Err status)) → Tells seen Step files mid after (Err status) → Tells other Whole files before after (Err status)
-tells_later seen other Step Whole P files before mid after Done le known make tells = both_told files known tells make
-tells_later seen other Step Whole P files before mid after Usage le known make tells = both_told files known tells make
-tells_later seen other Step Whole P files before mid after (Absent name) le known make tells = both_told files known tells make
-tells_later seen other Step Whole P files before mid after (BadCell fault) le known make tells = both_told files known tells make
-tells_later seen other Step Whole P files before mid after (BadScript session line code) le known make tells = both_told files known tells make
-tells_later seen other Step Whole P files before mid after (ReadFault name) le known make tells = rose_earlier before mid after le tells
-tells_later seen other Step Whole P files before mid after WriteFault le known make tells = both_told files known tells make
-tells_later seen other Step Whole P files before mid after (TooLarge name) le known make tells = both_told files known tells make
-tells_later seen other Step Whole P files before mid after NoMemory le known make tells = tt
-tells_later seen other Step Whole P files before mid after (BadOrder place) le known make tells = both_told files known tells make
-tells_later seen other Step Whole P files before mid after (Stuck desk serial) le known make tells = both_told files known tells make
-tells_later seen other Step Whole P files before mid after TooManyFindings le known make tells = both_told files known tells make
-tells_later seen other Step Whole P files before mid after NotYet le known make tells = both_told files known tells make
+pub tells_later : {A B C D : Type 0} (seen : A → B) (other : C → D) (Step : Files → Result B Status → Type 0) (Whole : Files → Result D Status → Type 0) (Near Far : Files → List ℕ → Type 0) (P : Files → Type 0) (files : Option Files) (before mid after : ℕ) (status : Status)
+    → before ≤ mid → IfSome files P → ((fs : Files) → P fs → Step fs (Err status) → Whole fs (Err status)) → ((fs : Files) (name : List ℕ) → P fs → Near fs name → Far fs name)
+    → Tells seen Step Near files mid after (Err status) → Tells other Whole Far files before after (Err status)
+tells_later seen other Step Whole Near Far P files before mid after Done le known make reach tells = both_told files known tells make
+tells_later seen other Step Whole Near Far P files before mid after Usage le known make reach tells = both_told files known tells make
+tells_later seen other Step Whole Near Far P files before mid after (Absent name) le known make reach tells = both_told files known tells make
+tells_later seen other Step Whole Near Far P files before mid after (BadCell fault) le known make reach tells = both_told files known tells make
+tells_later seen other Step Whole Near Far P files before mid after (BadScript session line code) le known make reach tells = both_told files known tells make
+tells_later seen other Step Whole Near Far P files before mid after (ReadFault name) le known make reach tells = (rose_earlier before mid after le tells.0, both_told files known tells.1 (λ fs p near. reach fs name p near))
+tells_later seen other Step Whole Near Far P files before mid after WriteFault le known make reach tells = both_told files known tells make
+tells_later seen other Step Whole Near Far P files before mid after (TooLarge name) le known make reach tells = both_told files known tells make
+tells_later seen other Step Whole Near Far P files before mid after NoMemory le known make reach tells = tt
+tells_later seen other Step Whole Near Far P files before mid after (BadOrder place) le known make reach tells = both_told files known tells make
+tells_later seen other Step Whole Near Far P files before mid after (Stuck desk serial) le known make reach tells = both_told files known tells make
+tells_later seen other Step Whole Near Far P files before mid after TooManyFindings le known make reach tells = both_told files known tells make
+tells_later seen other Step Whole Near Far P files before mid after NotYet le known make reach tells = both_told files known tells make
 
 pub status_of_more : (P Q : List ℕ → Type 0) (status : Status) → ((name : List ℕ) → P name → Q name) → IsInputStatus P status → IsInputStatus Q status
 status_of_more P Q Done more is = is
@@ -55,13 +56,13 @@ status_of_more P Q NotYet more is = is
 
 -- the status at which the input files of a built form end a call
 pub asked_status : (form : Form) (files : Option Files) (before after : ℕ) (status : Status) → IsBuilt form → IsInputStatus (IsInputOf form) status
-    → Tells task_of (OutputIs form) files before after (Err status) → IsAskedBy form files before after (Err status)
+    → Tells task_of (OutputIs form) (IsReached form) files before after (Err status) → IsAskedBy form files before after (Err status)
 asked_status form files before after Done built is tells = absurd is
 asked_status form files before after Usage built is tells = absurd is
 asked_status form files before after (Absent name) built is tells = (is, built, tells)
 asked_status form files before after (BadCell fault) built is tells = (built, tells)
 asked_status form files before after (BadScript session line code) built is tells = (built, tells)
-asked_status form files before after (ReadFault name) built is tells = (is, tells)
+asked_status form files before after (ReadFault name) built is tells = (is, tells.0, tells.1)
 asked_status form files before after WriteFault built is tells = absurd is
 asked_status form files before after (TooLarge name) built is tells = (is, built, tells)
 asked_status form files before after NoMemory built is tells = built
@@ -100,26 +101,33 @@ pub first_bad : (names : List (List ℕ)) (fs : Files) (scripts : List (List Com
 first_bad names fs scripts name status within there good bad =
     record { before = scripts; within = within; good = good; bad = subst (λ n. ScriptIs (length scripts + 1) n fs (Err status)) (sym there) bad }
 
+-- and one whose file a read failed
+pub reached_script : (names : List (List ℕ)) (fs : Files) (scripts : List (List Command)) (name other : List ℕ) → length scripts < length names → slice_index_or names (length scripts) [] ≡ name
+    → AreScripts names fs scripts → other ≡ name → IsReachedScript names fs other
+reached_script names fs scripts name other within there good is = record { before = scripts; within = within; good = good; is = is ∙ sym there }
+
 any_told : (files : Option Files) → IfSome files (λ fs. Unit {0})
 any_told None = tt
 any_told (Some fs) = tt
 
 -- the status at which a first step ended, as that of the whole
-pub tells_first : {A B C D : Type 0} (seen : A → B) (other : C → D) (Step : Files → Result B Status → Type 0) (Whole : Files → Result D Status → Type 0) (files : Option Files) (before after : ℕ) (status : Status)
-    → ((fs : Files) → Step fs (Err status) → Whole fs (Err status)) → Tells seen Step files before after (Err status) → Tells other Whole files before after (Err status)
-tells_first seen other Step Whole files before after status make tells =
-    tells_later seen other Step Whole (λ fs. Unit {0}) files before before after status (omega arith) (any_told files) (λ fs _ step. make fs step) tells
+pub tells_first : {A B C D : Type 0} (seen : A → B) (other : C → D) (Step : Files → Result B Status → Type 0) (Whole : Files → Result D Status → Type 0) (Near Far : Files → List ℕ → Type 0) (files : Option Files) (before after : ℕ) (status : Status)
+    → ((fs : Files) → Step fs (Err status) → Whole fs (Err status)) → ((fs : Files) (name : List ℕ) → Near fs name → Far fs name)
+    → Tells seen Step Near files before after (Err status) → Tells other Whole Far files before after (Err status)
+tells_first seen other Step Whole Near Far files before after status make reach tells =
+    tells_later seen other Step Whole Near Far (λ fs. Unit {0}) files before before after status (omega arith) (any_told files) (λ fs _ step. make fs step) (λ fs name _ near. reach fs name near) tells
 
 -- what a last step answered, as the answer of the whole
-pub tells_last : {A B : Type 0} (seen : A → B) (Step Whole : Files → Result B Status → Type 0) (P : Files → Type 0) (files : Option Files) (before mid after : ℕ) (result : Result A Status)
-    → before ≤ mid → IfSome files P → ((fs : Files) (answer : Result B Status) → P fs → Step fs answer → Whole fs answer) → Tells seen Step files mid after result → Tells seen Whole files before after result
-tells_last seen Step Whole P files before mid after (Ok a) le known make tells = both_told files known tells (λ fs p step. make fs (Ok (seen a)) p step)
-tells_last seen Step Whole P files before mid after (Err status) le known make tells =
-    tells_later seen seen Step Whole P files before mid after status le known (λ fs p step. make fs (Err status) p step) tells
+pub tells_last : {A B : Type 0} (seen : A → B) (Step Whole : Files → Result B Status → Type 0) (Near Far : Files → List ℕ → Type 0) (P : Files → Type 0) (files : Option Files) (before mid after : ℕ) (result : Result A Status)
+    → before ≤ mid → IfSome files P → ((fs : Files) (answer : Result B Status) → P fs → Step fs answer → Whole fs answer) → ((fs : Files) (name : List ℕ) → P fs → Near fs name → Far fs name)
+    → Tells seen Step Near files mid after result → Tells seen Whole Far files before after result
+tells_last seen Step Whole Near Far P files before mid after (Ok a) le known make reach tells = both_told files known tells (λ fs p step. make fs (Ok (seen a)) p step)
+tells_last seen Step Whole Near Far P files before mid after (Err status) le known make reach tells =
+    tells_later seen seen Step Whole Near Far P files before mid after status le known (λ fs p step. make fs (Err status) p step) reach tells
 
 -- an answer of a built form
-pub asked_answer : (form : Form) (files : Option Files) (before after : ℕ) (result : Result Work Status) → IsBuilt form → IfOk result (λ work. IsOutput form (task_of work)) → IfErr result (IsInputStatus (IsInputOf form))
-    → Tells task_of (OutputIs form) files before after result → IsAskedBy form files before after result
+pub asked_answer : (form : Form) (files : Option Files) (before after : ℕ) (result : Result Work Status) → IsBuilt form → IfOk result (λ work. IsOutput form files (task_of work)) → IfErr result (IsInputStatus (IsInputOf form))
+    → Tells task_of (OutputIs form) (IsReached form) files before after result → IsAskedBy form files before after result
 asked_answer form files before after (Ok work) built output is tells = (output, tells)
 asked_answer form files before after (Err status) built output is tells = asked_status form files before after status built is tells
 

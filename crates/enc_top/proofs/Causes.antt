@@ -11,7 +11,7 @@ use Rattle.enc_top.specs.declared.status.Status.TheVariants.{Done, Usage, Absent
 use Rattle.enc_top.specs.declared.work.Work.{Work}
 
 pub work_cause : (form : Form) (before after : Outside) (work : Work) (status : Status)
-    → IsOutput form (task_of work) → IsAsked before form (Ok (task_of work)) → IsDoneWork (task_of work) before after status → IsCauseOf form before after status
+    → IsOutput form before.files (task_of work) → IsAsked before form (Ok (task_of work)) → IsDoneWork (task_of work) before after status → IsCauseOf form before after status
 work_cause form before after work Done output asked done = (task_of work, output, asked, done)
 work_cause form before after work WriteFault output asked cut = (task_of work, output, asked, cut)
 work_cause form before after work Usage output asked done = absurd done
@@ -34,7 +34,7 @@ refused_cause form before after Usage silent asked = (asked, silent)
 refused_cause form before after (Absent name) silent asked = (asked.0, (asked.1, silent, asked.2))
 refused_cause form before after (BadCell fault) silent asked = (asked.0, silent, asked.1)
 refused_cause form before after (BadScript session line code) silent asked = (asked.0, silent, asked.1)
-refused_cause form before after (ReadFault name) silent asked = (asked.0, silent, asked.1)
+refused_cause form before after (ReadFault name) silent asked = (asked.0, silent, asked.1, asked.2)
 refused_cause form before after (TooLarge name) silent asked = (asked.0, (asked.1, silent, asked.2))
 refused_cause form before after NoMemory silent asked = (asked, silent)
 refused_cause form before after (BadOrder place) silent asked = (asked.0, silent, asked.1)
@@ -84,15 +84,15 @@ no_input form name is none = subst (λ (f : Form). IsInputOf f name) none is
 not_built : (form : Form) → IsBuilt form → form ≡ no_form → ⊥
 not_built form built none = subst IsBuilt none built
 
-no_output : (form : Form) (task : Task) → IsOutput form task → form ≡ no_form → ⊥
-no_output form task output none = subst (λ (f : Form). IsOutput f task) none output
+no_output : (form : Form) (files : Option Files) (task : Task) → IsOutput form files task → form ≡ no_form → ⊥
+no_output form files task output none = subst (λ (f : Form). IsOutput f files task) none output
 
 apart : later_form ≡ no_form → ⊥
 apart is = cc (is)
 
 pub usage_of_none : (form : Form) (before after : Outside) (status : Status) → IsCauseOf form before after status → form ≡ no_form → status ≡ Usage
-usage_of_none form before after Done cause none = absurd (no_output form cause.0 cause.1 none)
-usage_of_none form before after WriteFault cause none = absurd (no_output form cause.0 cause.1 none)
+usage_of_none form before after Done cause none = absurd (no_output form before.files cause.0 cause.1 none)
+usage_of_none form before after WriteFault cause none = absurd (no_output form before.files cause.0 cause.1 none)
 usage_of_none form before after Usage cause none = refl
 usage_of_none form before after (Absent name) cause none = absurd (no_input form name cause.0 none)
 usage_of_none form before after (BadCell fault) cause none = absurd (not_built form cause.0 none)
@@ -114,8 +114,8 @@ later_input form name is later = subst (λ (f : Form). IsInputOf f name) later i
 later_built : (form : Form) → IsBuilt form → form ≡ later_form → ⊥
 later_built form built later = subst IsBuilt later built
 
-pub later_output : (form : Form) (task : Task) → IsOutput form task → form ≡ later_form → ⊥
-later_output form task output later = subst (λ (f : Form). IsOutput f task) later output
+pub later_output : (form : Form) (files : Option Files) (task : Task) → IsOutput form files task → form ≡ later_form → ⊥
+later_output form files task output later = subst (λ (f : Form). IsOutput f files task) later output
 
 pub status_of_later : (form : Form) (files : Option Files) (reads after : ℕ) (status : Status) → IsAskedBy form files reads after (Err status) → form ≡ later_form → status ≡ NotYet
 status_of_later form files reads after Done asked later = absurd asked

@@ -3,7 +3,7 @@ use Rattle.std.proofs.Common.{◌≡◌, ◌≢◌, ◌⊎◌, inl, inr, ℕ, Li
 use Rattle.std.specs.Prelude.{IfSome, IsSome}
 use Rattle.std.proofs.lemmas.Bool.{false≢true}
 use Rattle.enc_outside.specs.Files.{AppendsTo, Files, MayEmpty, SameFiles, StaysUntold, Told, Writes}
-use Rattle.enc_top.specs.Output.{MayHaveFront}
+use Rattle.enc_top.specs.Output.{HasFront, IsBegun}
 
 -- what holds of two changes, one after the other, holds of both where it does where all is told
 told_both : (P Q R : Files → Files → Type 0) (a b c : Option Files) → ((x y z : Files) → P x y → Q y z → R x z) → Told P a b → StaysUntold b c → Told Q b c → Told R a c
@@ -21,10 +21,10 @@ appended_more name x y a b c =
     })
 
 -- a beginning of the bytes is left where an append failed
-pub stopped_there : (name bytes : List ℕ) (n : ℕ) (a b c : Option Files) → Told (Writes name (take n bytes)) a b → StaysUntold b c → Told SameFiles b c → Told (MayHaveFront name bytes) a c
+pub stopped_there : (name bytes : List ℕ) (n : ℕ) (a b c : Option Files) → Told (Writes name (take n bytes)) a b → StaysUntold b c → Told SameFiles b c → Told (HasFront name bytes) a c
 stopped_there name bytes n a b c =
-    told_both (Writes name (take n bytes)) SameFiles (MayHaveFront name bytes) a b c
-    (λ fs gs hs wrote same. record { left = inr (n, same name ∙ wrote.written); others = λ other apart. same other ∙ wrote.others other apart })
+    told_both (Writes name (take n bytes)) SameFiles (HasFront name bytes) a b c
+    (λ fs gs hs wrote same. record { left = (n, same name ∙ wrote.written); others = λ other apart. same other ∙ wrote.others other apart })
 
 pub empty_there : (name : List ℕ) (files : Option Files) → IfSome files (λ fs. fs name ≡ Some []) → Told (Writes name []) files files
 empty_there name None there = tt
@@ -45,20 +45,12 @@ made_and_written name bytes a b c =
     told_both (Writes name []) (Writes name bytes) (Writes name bytes) a b c
     (λ fs gs hs made wrote. record { written = wrote.written; others = λ other apart. wrote.others other apart ∙ made.others other apart })
 
-pub made_and_begun : (name bytes : List ℕ) (a b c : Option Files) → Told (Writes name []) a b → StaysUntold b c → Told (MayHaveFront name bytes) b c → Told (MayHaveFront name bytes) a c
+pub made_and_begun : (name bytes : List ℕ) (a b c : Option Files) → Told (Writes name []) a b → StaysUntold b c → Told (HasFront name bytes) b c → Told (IsBegun name bytes) a c
 made_and_begun name bytes a b c =
-    told_both (Writes name []) (MayHaveFront name bytes) (MayHaveFront name bytes) a b c
-    (λ fs gs hs made begun. record { left = front (hs name) (gs name) made.written begun.left; others = λ other apart. begun.others other apart ∙ made.others other apart })
-  where
-    front : {F : Option (List ℕ)} (new mid : Option (List ℕ)) → mid ≡ Some [] → (new ≡ mid) ⊎ ((n : ℕ) × (new ≡ Some (take n bytes))) → (new ≡ F) ⊎ ((n : ℕ) × (new ≡ Some (take n bytes)))
-    front new mid made (inl same) = inr (0, same ∙ made)
-    front new mid made (inr some) = inr some
+    told_both (Writes name []) (HasFront name bytes) (IsBegun name bytes) a b c
+    (λ fs gs hs made begun. inr (record { left = begun.left; others = λ other apart. begun.others other apart ∙ made.others other apart }))
 
-pub maybe_empty : (name bytes : List ℕ) (a b : Option Files) → Told (MayEmpty name) a b → Told (MayHaveFront name bytes) a b
+pub maybe_empty : (name bytes : List ℕ) (a b : Option Files) → Told (MayEmpty name) a b → Told (IsBegun name bytes) a b
 maybe_empty name bytes None b may = tt
 maybe_empty name bytes (Some fs) None may = tt
-maybe_empty name bytes (Some fs) (Some gs) may = record { left = front may.left; others = may.others }
-  where
-    front : {F G : Option (List ℕ)} → (G ≡ F) ⊎ (G ≡ Some []) → (G ≡ F) ⊎ ((n : ℕ) × (G ≡ Some (take n bytes)))
-    front (inl same) = inl same
-    front (inr empty) = inr (0, empty)
+maybe_empty name bytes (Some fs) (Some gs) may = inl may

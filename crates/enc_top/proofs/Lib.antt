@@ -6,3 +6,5 @@ pub mod Answered
 pub mod Sessions
 pub mod Causes
 pub mod FormWords
+pub mod OneAnswer
+pub mod Completed

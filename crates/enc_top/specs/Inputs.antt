@@ -94,10 +94,9 @@ order_in (Err place) = Err (BadOrder place)
 abbrev pub OrderIs : List ℕ → List ℕ → Files → Result (List ℕ) Status → Type 0
 OrderIs quotas name files = AndThen (FileIs order_limit name files) (λ bytes answer. order_in (order_of quotas bytes) ≡ answer)
 
--- a run of scripts on a cell, in the order of a file; the order is read after all scripts. The file of the cell that is left is read
--- as that cell
+-- a run of scripts on a cell, in the order of a file; the order is read after all scripts
 abbrev pub OrderedRunIs : Cell → List ℕ → List ℕ → List (List Command) → Files → Result Task Status → Type 0
-OrderedRunIs c out order commands files = AndThen (OrderIs (quotas_of commands) order files) (λ sessions answer. (answer ≡ Ok (run_task c out commands sessions)) × IsReadBack c commands sessions)
+OrderedRunIs c out order commands files = AndThen (OrderIs (quotas_of commands) order files) (λ sessions answer. answer ≡ Ok (run_task c out commands sessions))
 
 abbrev pub RunIs : Cell → List ℕ → List ℕ → List (List ℕ) → Files → Result Task Status → Type 0
 RunIs c out order scripts files = AndThen (ScriptsAre scripts files) (λ commands. OrderedRunIs c out order commands files)
@@ -109,17 +108,53 @@ OutputIs (replay_form cell out order scripts) files = AndThen (CellIs cell files
 OutputIs later_form files = λ answer. answer ≡ Err NotYet
 OutputIs no_form files = λ answer. answer ≡ Err Usage
 
--- a run of some scripts on a cell in some order, after which the file of the cell that is left is read as that cell
-abbrev pub IsRunOf : Cell → List ℕ → Task → Type 0
-IsRunOf c out task = (commands : List (List Command)) × (sessions : List ℕ) × (task ≡ run_task c out commands sessions) × IsReadBack c commands sessions
+-- what words and files ask for is one answer
+abbrev pub AsksOneAnswer : Type 0
+AsksOneAnswer = (form : Form) (files : Files) (answer other : Result Task Status) → OutputIs form files answer → OutputIs form files other → answer ≡ other
+
+-- a run of scripts on a cell in some order, where the files are told that of the file, after which the file of the cell that is left
+-- is read as that cell
+pub record IsOrderedRun (c : Cell) (out order : List ℕ) (commands : List (List Command)) (files : Option Files) (task : Task) : Type 0 where
+  pub sessions : List ℕ
+  pub told : IfSome files (λ fs. OrderIs (quotas_of commands) order fs (Ok sessions))
+  pub is : task ≡ run_task c out commands sessions
+  pub read_back : IsReadBack c commands sessions
+
+-- the same of some scripts, where the files are told those of the files
+pub record IsRunOf (c : Cell) (out order : List ℕ) (scripts : List (List ℕ)) (files : Option Files) (task : Task) : Type 0 where
+  pub commands : List (List Command)
+  pub told : IfSome files (λ fs. ScriptsAre scripts fs (Ok commands))
+  pub run : IsOrderedRun c out order commands files task
+
+-- a script to which a call comes: those before it are good
+pub record IsReachedScript (names : List (List ℕ)) (files : Files) (name : List ℕ) : Type 0 where
+  pub before : List (List Command)
+  pub within : length before < length names
+  pub good : AreScripts names files before
+  pub is : name ≡ slice_index_or names (length before) []
+
+-- a file to which a call comes behind a good cell: a script, or the order behind good scripts
+abbrev pub IsReachedInRun : List ℕ → List (List ℕ) → Files → List ℕ → Type 0
+IsReachedInRun order scripts files name = IsReachedScript scripts files name ⊎ ((commands : List (List Command)) × ScriptsAre scripts files (Ok commands) × (name ≡ order))
+
+-- an input file to which a call comes: all before it in the order of refusals are good
+abbrev pub IsReached : Form → Files → List ℕ → Type 0
+IsReached (check_form cell) files name = name ≡ cell
+IsReached (replay_form cell out order scripts) files name = (name ≡ cell) ⊎ ((c : Cell) × CellIs cell files (Ok c) × IsReachedInRun order scripts files name)
+IsReached later_form files name = ⊥
+IsReached no_form files name = ⊥
 
 -- what a step's answer tells, with what it gave seen through a function: where the files are told, the relation of the step
--- holds of it; a fault of reading comes only with a risen count; want of memory is free
-abbrev pub Tells : {A B : Type 0} → (A → B) → (Files → Result B Status → Type 0) → Option Files → ℕ → ℕ → Result A Status → Type 0
-Tells seen Step files before after (Ok a) = IfSome files (λ fs. Step fs (Ok (seen a)))
-Tells seen Step files before after (Err (ReadFault name)) = Rose before after
-Tells seen Step files before after (Err NoMemory) = Unit {0}
-Tells seen Step files before after (Err status) = IfSome files (λ fs. Step fs (Err status))
+-- holds of it; a fault of reading comes only with a risen count, and of a file that the step reaches; want of memory is free
+abbrev pub Tells : {A B : Type 0} → (A → B) → (Files → Result B Status → Type 0) → (Files → List ℕ → Type 0) → Option Files → ℕ → ℕ → Result A Status → Type 0
+Tells seen Step Reached files before after (Ok a) = IfSome files (λ fs. Step fs (Ok (seen a)))
+Tells seen Step Reached files before after (Err (ReadFault name)) = Rose before after × IfSome files (λ fs. Reached fs name)
+Tells seen Step Reached files before after (Err NoMemory) = Unit {0}
+Tells seen Step Reached files before after (Err status) = IfSome files (λ fs. Step fs (Err status))
+
+-- a step that reaches one file alone
+abbrev pub IsFile : List ℕ → Files → List ℕ → Type 0
+IsFile name files other = other ≡ name
 
 -- the statuses at which input files can end a call; a file that is named is one of them
 abbrev pub IsInputStatus : (List ℕ → Type 0) → Status → Type 0

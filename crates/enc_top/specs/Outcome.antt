@@ -2,9 +2,12 @@
 use Rattle.std.specs.Prelude.{◌≡◌, ◌⊎◌, ℕ, List, Option, None, Some, Result, Ok, Err, IfSome}
 use Rattle.enc_outside.specs.Count.{Rose}
 use Rattle.enc_outside.specs.Files.{Files, Told, Writes}
+use Rattle.file_spec.specs.DecodedCell.{decoded_cell}
+use Rattle.history_spec.specs.ReportText.{final_cell}
 use Rattle.s57_types.specs.declared.cell.Cell.{Cell}
-use Rattle.enc_top.specs.Inputs.{IsInputOf, IsRunOf, OutputIs}
-use Rattle.enc_top.specs.Output.{Adds, AddsFront, MayHaveFront}
+use Rattle.text_spec.specs.declared.command.Command.{Command}
+use Rattle.enc_top.specs.Inputs.{CellIs, IsInputOf, IsReached, IsRunOf, OrderIs, OutputIs, ScriptsAre, quotas_of}
+use Rattle.enc_top.specs.Output.{Adds, AddsFront, IsBegun}
 use Rattle.enc_top.specs.Task.{Task, check_task, task_of}
 use Rattle.enc_top.specs.Words.{Form, check_form, replay_form, later_form, no_form, form_of}
 use Rattle.enc_top.specs.declared.status.Status.{Status}
@@ -30,12 +33,24 @@ IsBuilt (replay_form cell out order scripts) = Unit {0}
 IsBuilt later_form = ⊥
 IsBuilt no_form = ⊥
 
+-- the text of a cell, where the files are told that of the file
+pub record IsCheckOf (cell : List ℕ) (files : Option Files) (task : Task) : Type 0 where
+  pub start : Cell
+  pub told : IfSome files (λ fs. CellIs cell fs (Ok start))
+  pub is : task ≡ check_task start
+
+-- the report of scripts on a cell in an order, where the files are told those of the files, and the cell that is left
+pub record IsReplayOf (cell out order : List ℕ) (scripts : List (List ℕ)) (files : Option Files) (task : Task) : Type 0 where
+  pub start : Cell
+  pub told : IfSome files (λ fs. CellIs cell fs (Ok start))
+  pub run : IsRunOf start out order scripts files task
+
 -- what the form may do: put the text of a cell, or the report of scripts on a cell in an order and then write the cell that is left
-abbrev pub IsOutput : Form → Task → Type 0
-IsOutput (check_form cell) task = (c : Cell) × (task ≡ check_task c)
-IsOutput (replay_form cell out order scripts) task = (c : Cell) × IsRunOf c out task
-IsOutput later_form task = ⊥
-IsOutput no_form task = ⊥
+abbrev pub IsOutput : Form → Option Files → Task → Type 0
+IsOutput (check_form cell) files task = IsCheckOf cell files task
+IsOutput (replay_form cell out order scripts) files task = IsReplayOf cell out order scripts files task
+IsOutput later_form files task = ⊥
+IsOutput no_form files task = ⊥
 
 -- where the files are told, this is what they ask for
 abbrev pub IsAsked : Outside → Form → Result Task Status → Type 0
@@ -55,10 +70,10 @@ abbrev pub AreWritten : Option (List ℕ × List ℕ) → Option Files → Optio
 AreWritten None old new = new ≡ old
 AreWritten (Some file) old new = Told (Writes file.0 file.1) old new
 
--- a file is as it was or has a beginning of its bytes now, and the others stay
+-- writing a file failed, and the others stay
 abbrev pub AreBegun : Option (List ℕ × List ℕ) → Option Files → Option Files → Type 0
 AreBegun None old new = ⊥
-AreBegun (Some file) old new = Told (MayHaveFront file.0 file.1) old new
+AreBegun (Some file) old new = Told (IsBegun file.0 file.1) old new
 
 -- the text was put, and then the file was written
 pub record IsFinished (task : Task) (before after : Outside) : Type 0 where
@@ -81,13 +96,13 @@ abbrev pub IsCut : Task → Outside → Outside → Type 0
 IsCut task before after = IsCutText task before after ⊎ IsCutFile task before after
 
 abbrev pub IsCauseOf : Form → Outside → Outside → Status → Type 0
-IsCauseOf form before after Done = (task : Task) × IsOutput form task × IsAsked before form (Ok task) × IsFinished task before after
+IsCauseOf form before after Done = (task : Task) × IsOutput form before.files task × IsAsked before form (Ok task) × IsFinished task before after
 IsCauseOf form before after Usage = (form ≡ no_form) × IsSilent before after
 IsCauseOf form before after (Absent name) = IsInputOf form name × IsRefused form before after (Absent name)
 IsCauseOf form before after (BadCell fault) = IsRefused form before after (BadCell fault)
 IsCauseOf form before after (BadScript session line code) = IsRefused form before after (BadScript session line code)
-IsCauseOf form before after (ReadFault name) = IsInputOf form name × IsSilent before after × Rose before.read_faults after.read_faults
-IsCauseOf form before after WriteFault = (task : Task) × IsOutput form task × IsAsked before form (Ok task) × IsCut task before after
+IsCauseOf form before after (ReadFault name) = IsInputOf form name × IsSilent before after × Rose before.read_faults after.read_faults × IfSome before.files (λ files. IsReached form files name)
+IsCauseOf form before after WriteFault = (task : Task) × IsOutput form before.files task × IsAsked before form (Ok task) × IsCut task before after
 IsCauseOf form before after (TooLarge name) = IsInputOf form name × IsRefused form before after (TooLarge name)
 IsCauseOf form before after NoMemory = IsBuilt form × IsSilent before after
 IsCauseOf form before after (BadOrder place) = IsRefused form before after (BadOrder place)
@@ -112,11 +127,30 @@ IsExpected form files status = OutputIs form files (Err status)
 abbrev pub IsExact : List (List ℕ) → Outside → Outside → Status → Type 0
 IsExact words before after status = (files : Files) → IsSmooth before after files → IsExpected (form_of words) files status ⊎ (status ≡ NoMemory)
 
+-- where all is done, and the files are told before and after, the bytes of OUT are read as the cell that the run leaves
+pub record IsOutReadBack (cell out order : List ℕ) (scripts : List (List ℕ)) (old new : Files) : Type 0 where
+  pub start : Cell
+  pub cell_is : CellIs cell old (Ok start)
+  pub commands : List (List Command)
+  pub scripts_are : ScriptsAre scripts old (Ok commands)
+  pub sessions : List ℕ
+  pub order_is : OrderIs (quotas_of commands) order old (Ok sessions)
+  pub bytes : List ℕ
+  pub there : new out ≡ Some bytes
+  pub decoded : decoded_cell bytes ≡ Ok (final_cell start commands sessions)
+
+abbrev pub IsFormReadBack : Form → Files → Files → Type 0
+IsFormReadBack (replay_form cell out order scripts) old new = IsOutReadBack cell out order scripts old new
+IsFormReadBack other old new = Unit {0}
+
+abbrev pub IsReadBackFrom : List (List ℕ) → Outside → Outside → Status → Type 0
+IsReadBackFrom words before after status = status ≡ Done → Told (IsFormReadBack (form_of words)) before.files after.files
+
 -- the work that a form asks for, or the status at which it ends
 abbrev pub IsAskedBy : Form → Option Files → ℕ → ℕ → Result Work Status → Type 0
-IsAskedBy form files before after (Ok work) = IsOutput form (task_of work) × IfSome files (λ fs. OutputIs form fs (Ok (task_of work)))
+IsAskedBy form files before after (Ok work) = IsOutput form files (task_of work) × IfSome files (λ fs. OutputIs form fs (Ok (task_of work)))
 IsAskedBy form files before after (Err Usage) = form ≡ no_form
-IsAskedBy form files before after (Err (ReadFault name)) = IsInputOf form name × Rose before after
+IsAskedBy form files before after (Err (ReadFault name)) = IsInputOf form name × Rose before after × IfSome files (λ fs. IsReached form fs name)
 IsAskedBy form files before after (Err NoMemory) = IsBuilt form
 IsAskedBy form files before after (Err (Absent name)) = IsInputOf form name × IsBuilt form × IfSome files (λ fs. OutputIs form fs (Err (Absent name)))
 IsAskedBy form files before after (Err (BadCell fault)) = IsBuilt form × IfSome files (λ fs. OutputIs form fs (Err (BadCell fault)))

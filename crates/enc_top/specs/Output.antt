@@ -1,6 +1,6 @@
 -- Writing a text whole, and a file.
 use Rattle.std.specs.Prelude.{◌≡◌, ◌≢◌, ◌⊎◌, ℕ, List, ◌++◌, Some, take}
-use Rattle.enc_outside.specs.Files.{Files}
+use Rattle.enc_outside.specs.Files.{Files, MayEmpty}
 
 -- all bytes were added
 abbrev pub Adds : List ℕ → List ℕ → List ℕ → Type 0
@@ -10,7 +10,11 @@ Adds bytes old new = new ≡ old ++ bytes
 abbrev pub AddsFront : List ℕ → List ℕ → List ℕ → Type 0
 AddsFront bytes old new = (n : ℕ) × (new ≡ old ++ take n bytes)
 
--- a file is as it was or has some first bytes now, and the others stay
-pub record MayHaveFront (name bytes : List ℕ) (old new : Files) : Type 0 where
-  pub left : (new name ≡ old name) ⊎ ((n : ℕ) × (new name ≡ Some (take n bytes)))
+-- a file has some first bytes now, and the others stay
+pub record HasFront (name bytes : List ℕ) (old new : Files) : Type 0 where
+  pub left : (n : ℕ) × (new name ≡ Some (take n bytes))
   pub others : (other : List ℕ) → other ≢ name → new other ≡ old other
+
+-- writing a file failed: it wasn't made, and is as it was or empty, or it was made, and has some first bytes now
+abbrev pub IsBegun : List ℕ → List ℕ → Files → Files → Type 0
+IsBegun name bytes old new = MayEmpty name old new ⊎ HasFront name bytes old new

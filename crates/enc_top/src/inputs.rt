@@ -7,7 +7,7 @@ ghost use Rattle.cell_spec.specs.Writable.{IsWritable};
 ghost use Rattle.history_spec.specs.Steps.{finding_limit};
 ghost use Rattle.plain_replay.specs.Requests.{IsRunnable};
 ghost use Rattle.text_spec.specs.OrderLine.{order_of};
-ghost use Rattle.enc_top.specs.Inputs.{CellIs, FileIs, IsAmong, IsCellOfFile, IsInputStatus, IsJudged, IsJudgedScript, OrderIs, ScriptIs, ScriptsAre, Tells, cell_in, order_in, quotas_of as quotas_of_lem};
+ghost use Rattle.enc_top.specs.Inputs.{CellIs, FileIs, IsAmong, IsCellOfFile, IsFile, IsInputStatus, IsJudged, IsJudgedScript, IsReachedScript, OrderIs, ScriptIs, ScriptsAre, Tells, cell_in, order_in, quotas_of as quotas_of_lem};
 ghost use Rattle.enc_top.specs.Refused.{IsRefusal};
 
 use crate::input::{InputRefusal, read_file};
@@ -62,7 +62,7 @@ fn read_input<H: Shelf>(
     limit: usize,
 ) -> Result<Vec<u8>, Status>
     requires { limit < 2 ^ 32 }
-    ensures tells { Tells (λ bytes. bytes.items) (FileIs limit name.now) (H.files shelf.old) (H.read_faults shelf.old) (H.read_faults shelf.new) result }
+    ensures tells { Tells (λ bytes. bytes.items) (FileIs limit name.now) (IsFile name.now) (H.files shelf.old) (H.read_faults shelf.old) (H.read_faults shelf.new) result }
     ensures status { IfErr result (IsInputStatus (λ n. n ≡ name.now)) }
     ensures within { IfOk result (λ bytes. length bytes.items ≤ limit) }
     ensures files { H.files shelf.new ≡ H.files shelf.old }
@@ -99,7 +99,7 @@ fn judge_cell(alloc: Global, bytes: &[u8]) -> Result<Checked, Status>
 
 /// The cell of an input file, with its findings.
 pub fn read_cell<H: Shelf>(alloc: Global, shelf: &mut H, name: &str) -> Result<Checked, Status>
-    ensures tells { Tells (λ checked. checked.cell) (CellIs name.now) (H.files shelf.old) (H.read_faults shelf.old) (H.read_faults shelf.new) result }
+    ensures tells { Tells (λ checked. checked.cell) (CellIs name.now) (IsFile name.now) (H.files shelf.old) (H.read_faults shelf.old) (H.read_faults shelf.new) result }
     ensures writable { IfOk result (λ checked. IsWritable checked.cell) }
     ensures of_file { IfOk result (λ checked. IsCellOfFile checked.cell) }
     ensures findings { IfOk result (λ checked. IsAllOf checked.cell finding_limit checked.findings) }
@@ -134,7 +134,7 @@ fn read_session<H: Shelf>(
     name: &str,
     session: u32,
 ) -> Result<Script, Status>
-    ensures tells { Tells (λ script. script) (ScriptIs session name.now) (H.files shelf.old) (H.read_faults shelf.old) (H.read_faults shelf.new) result }
+    ensures tells { Tells (λ script. script) (ScriptIs session name.now) (IsFile name.now) (H.files shelf.old) (H.read_faults shelf.old) (H.read_faults shelf.new) result }
     ensures runnable { IfOk result IsRunnable }
     ensures of_text { IfOk result IsScriptOfText }
     ensures status { IfErr result (IsInputStatus (λ n. n ≡ name.now)) }
@@ -161,7 +161,7 @@ pub fn read_scripts<H: Shelf>(
     names: &[String],
 ) -> Result<Vec<Script>, Status>
     requires few { length names.now ≤ 16 }
-    ensures tells { Tells (λ scripts. scripts.items) (ScriptsAre (map string_bytes names.now)) (H.files shelf.old) (H.read_faults shelf.old) (H.read_faults shelf.new) result }
+    ensures tells { Tells (λ scripts. scripts.items) (ScriptsAre (map string_bytes names.now)) (λ fs n. IsReachedScript (map string_bytes names.now) fs n) (H.files shelf.old) (H.read_faults shelf.old) (H.read_faults shelf.new) result }
     ensures many { IfOk result (λ scripts. length scripts.items ≡ length names.now) }
     ensures runnable { IfOk result (λ scripts. All IsRunnable scripts.items) }
     ensures of_texts { IfOk result (λ scripts. All IsScriptOfText scripts.items) }
@@ -216,7 +216,7 @@ pub fn read_sessions<H: Shelf>(
     quotas: &[u32],
 ) -> Result<Order, Status>
     requires few { length quotas.now < 2 ^ 32 }
-    ensures tells { Tells (λ order. order) (OrderIs quotas.now name.now) (H.files shelf.old) (H.read_faults shelf.old) (H.read_faults shelf.new) result }
+    ensures tells { Tells (λ order. order) (OrderIs quotas.now name.now) (IsFile name.now) (H.files shelf.old) (H.read_faults shelf.old) (H.read_faults shelf.new) result }
     ensures sessions { IfOk result (All (λ session. (1 ≤ session) × (session ≤ length quotas.now))) }
     ensures status { IfErr result (IsInputStatus (λ n. n ≡ name.now)) }
     ensures files { H.files shelf.new ≡ H.files shelf.old }

@@ -3,7 +3,7 @@
 ghost use Rattle.std.specs.Prelude.{[], ◌≡◌, ◌≤◌, IsSome, IfSome, OnOk, OnErr, string_bytes, Some};
 ghost use Rattle.enc_outside.specs.Count.{Rose};
 ghost use Rattle.enc_outside.specs.Files.{Told, StaysUntold, Writes};
-ghost use Rattle.enc_top.specs.Output.{Adds, AddsFront, MayHaveFront};
+ghost use Rattle.enc_top.specs.Output.{Adds, AddsFront, HasFront, IsBegun};
 ghost use Rattle.enc_top.specs.Outcome.{IsDoneWork, outside};
 ghost use Rattle.enc_top.specs.Task.{task_of};
 
@@ -30,7 +30,7 @@ pub fn put_all<O: Sink>(out: &mut O, text: &[u8]) -> Result<(), Failed>
 fn append_all<H: Shelf>(shelf: &mut H, name: &str, bytes: &[u8]) -> Result<(), Failed>
     requires there { IfSome (H.files shelf.old) (λ files. files name.now ≡ Some []) }
     ensures ok { OnOk result (Told (Writes name.now bytes.now) (H.files shelf.old) (H.files shelf.new)) }
-    ensures err { OnErr result (Told (MayHaveFront name.now bytes.now) (H.files shelf.old) (H.files shelf.new)) }
+    ensures err { OnErr result (Told (HasFront name.now bytes.now) (H.files shelf.old) (H.files shelf.new)) }
     ensures cause { OnErr result (Rose (H.write_faults shelf.old) (H.write_faults shelf.new)) }
     ensures untold { StaysUntold (H.files shelf.old) (H.files shelf.new) }
     ensures write_faults { H.write_faults shelf.old ≤ H.write_faults shelf.new }
@@ -46,7 +46,7 @@ fn append_all<H: Shelf>(shelf: &mut H, name: &str, bytes: &[u8]) -> Result<(), F
 /// Makes a file with these bytes, in place of one of the same name.
 fn write_file<H: Shelf>(shelf: &mut H, name: &str, bytes: &[u8]) -> Result<(), Failed>
     ensures ok { OnOk result (Told (Writes name.now bytes.now) (H.files shelf.old) (H.files shelf.new)) }
-    ensures err { OnErr result (Told (MayHaveFront name.now bytes.now) (H.files shelf.old) (H.files shelf.new)) }
+    ensures err { OnErr result (Told (IsBegun name.now bytes.now) (H.files shelf.old) (H.files shelf.new)) }
     ensures cause { OnErr result (Rose (H.write_faults shelf.old) (H.write_faults shelf.new)) }
     ensures write_faults { H.write_faults shelf.old ≤ H.write_faults shelf.new }
     ensures read_faults { H.read_faults shelf.new ≡ H.read_faults shelf.old }
@@ -58,7 +58,7 @@ fn write_file<H: Shelf>(shelf: &mut H, name: &str, bytes: &[u8]) -> Result<(), F
 /// Writes the file that is left to write.
 fn export_file<H: Shelf>(shelf: &mut H, export: &Export) -> Result<(), Failed>
     ensures ok { OnOk result (Told (Writes (string_bytes export.now.name) export.now.bytes.items) (H.files shelf.old) (H.files shelf.new)) }
-    ensures err { OnErr result (Told (MayHaveFront (string_bytes export.now.name) export.now.bytes.items) (H.files shelf.old) (H.files shelf.new)) }
+    ensures err { OnErr result (Told (IsBegun (string_bytes export.now.name) export.now.bytes.items) (H.files shelf.old) (H.files shelf.new)) }
     ensures cause { OnErr result (Rose (H.write_faults shelf.old) (H.write_faults shelf.new)) }
     ensures write_faults { H.write_faults shelf.old ≤ H.write_faults shelf.new }
     ensures read_faults { H.read_faults shelf.new ≡ H.read_faults shelf.old }

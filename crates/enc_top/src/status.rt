@@ -1,12 +1,12 @@
 //! How a call ends.
 
-ghost use Rattle.std.specs.Prelude.{◌≡◌, ◌++◌, ◌∷◌, [], OnOk, decimal};
+ghost use Rattle.std.specs.Prelude.{◌≡◌, ◌++◌, ◌∷◌, [], OnErr, OnOk, decimal};
 ghost use Rattle.text_spec.specs.Lines.{line as line_lem};
 ghost use Rattle.enc_top.specs.StatusText.{status_line, status_number};
 
 use s57_types::{CellFault, Text};
 use std::alloc::{AllocError, Global};
-use text_lines::{push_numbered, push_text};
+use text_lines::{push_bytes, push_numbered, push_text};
 
 /// How a call of the program ended.
 #[derive(Debug, Drop)]
@@ -73,7 +73,19 @@ impl From<AllocError> for Status {
 }
 
 /// Appends the line of a status, with its line feed, or nothing where all is done.
-pub fn print_status(_alloc: Global, status: &Status, out: &mut Vec<u8>) -> Result<(), AllocError>
+///
+/// An `Err` is want of memory, and leaves the text as it was.
+pub fn print_status(alloc: Global, status: &Status, out: &mut Vec<u8>) -> Result<(), AllocError>
+    ensures ok { OnOk result (out.new.items ≡ out.old.items ++ status_line status.now) }
+    ensures err { OnErr result (out.new.items ≡ out.old.items) }
+{
+    let mut line = Vec::new(alloc);
+    push_status(&mut line, status)?;
+    push_bytes(out, &line)
+}
+
+/// Appends the same, and after an `Err` perhaps a part of the line.
+fn push_status(out: &mut Vec<u8>, status: &Status) -> Result<(), AllocError>
     ensures { OnOk result (out.new.items ≡ out.old.items ++ status_line status.now) }
 {
     match status {

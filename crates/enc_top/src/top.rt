@@ -6,8 +6,9 @@ ghost use Rattle.cell_spec.specs.Writable.{IsWritable};
 ghost use Rattle.export_laws.specs.ExportedCells.{IsReadBack, IsScriptOfText};
 ghost use Rattle.history_spec.specs.Steps.{finding_limit};
 ghost use Rattle.plain_replay.specs.Requests.{IsRunnable};
-ghost use Rattle.enc_top.specs.Inputs.{IsAmong, IsCellOfFile, IsInputStatus, IsRunOf, OrderedRunIs, RunIs, Tells};
-ghost use Rattle.enc_top.specs.Outcome.{IsAskedBy, IsCause, IsExact, outside};
+ghost use Rattle.enc_top.specs.Complete.{IsComplete};
+ghost use Rattle.enc_top.specs.Inputs.{IsAmong, IsCellOfFile, IsFile, IsInputStatus, IsOrderedRun, IsReachedInRun, IsRunOf, OrderedRunIs, RunIs, Tells};
+ghost use Rattle.enc_top.specs.Outcome.{IsAskedBy, IsCause, IsExact, IsReadBackFrom, outside};
 ghost use Rattle.enc_top.specs.Task.{run_task, task_of};
 ghost use Rattle.enc_top.specs.Words.{check_among, form_of, later_form, no_form, replay_among};
 
@@ -43,6 +44,12 @@ pub fn run<R: Threads + Sync, H: Shelf, O: Sink, M: Meet + Sync>(
     ensures exact { IsExact (map string_bytes words.now)
         (outside (H.files shelf.old) (H.read_faults shelf.old) (H.write_faults shelf.old) (O.written out.old) (O.faults out.old))
         (outside (H.files shelf.new) (H.read_faults shelf.new) (H.write_faults shelf.new) (O.written out.new) (O.faults out.new)) result }
+    ensures complete { IsComplete (map string_bytes words.now)
+        (outside (H.files shelf.old) (H.read_faults shelf.old) (H.write_faults shelf.old) (O.written out.old) (O.faults out.old))
+        (outside (H.files shelf.new) (H.read_faults shelf.new) (H.write_faults shelf.new) (O.written out.new) (O.faults out.new)) result }
+    ensures read_back { IsReadBackFrom (map string_bytes words.now)
+        (outside (H.files shelf.old) (H.read_faults shelf.old) (H.write_faults shelf.old) (O.written out.old) (O.faults out.old))
+        (outside (H.files shelf.new) (H.read_faults shelf.new) (H.write_faults shelf.new) (O.written out.new) (O.faults out.new)) result }
     ensures usage { (result ≡ Status.Usage) ↔ (form_of (map string_bytes words.now) ≡ no_form) }
     ensures later { form_of (map string_bytes words.now) ≡ later_form → (result ≡ Status.NotYet) × (shelf.new ≡ shelf.old) × (out.new ≡ out.old) }
     ensures write_faults { H.write_faults shelf.old ≤ H.write_faults shelf.new }
@@ -62,6 +69,12 @@ pub fn run_plain<R: Threads + Sync, H: Shelf, O: Sink>(
         (outside (H.files shelf.old) (H.read_faults shelf.old) (H.write_faults shelf.old) (O.written out.old) (O.faults out.old))
         (outside (H.files shelf.new) (H.read_faults shelf.new) (H.write_faults shelf.new) (O.written out.new) (O.faults out.new)) result }
     ensures exact { IsExact (map string_bytes words.now)
+        (outside (H.files shelf.old) (H.read_faults shelf.old) (H.write_faults shelf.old) (O.written out.old) (O.faults out.old))
+        (outside (H.files shelf.new) (H.read_faults shelf.new) (H.write_faults shelf.new) (O.written out.new) (O.faults out.new)) result }
+    ensures complete { IsComplete (map string_bytes words.now)
+        (outside (H.files shelf.old) (H.read_faults shelf.old) (H.write_faults shelf.old) (O.written out.old) (O.faults out.old))
+        (outside (H.files shelf.new) (H.read_faults shelf.new) (H.write_faults shelf.new) (O.written out.new) (O.faults out.new)) result }
+    ensures read_back { IsReadBackFrom (map string_bytes words.now)
         (outside (H.files shelf.old) (H.read_faults shelf.old) (H.write_faults shelf.old) (O.written out.old) (O.faults out.old))
         (outside (H.files shelf.new) (H.read_faults shelf.new) (H.write_faults shelf.new) (O.written out.new) (O.faults out.new)) result }
     ensures usage { (result ≡ Status.Usage) ↔ (form_of (map string_bytes words.now) ≡ no_form) }
@@ -148,8 +161,8 @@ fn run_on<H: Shelf>(
     requires of_file { IsCellOfFile checked.cell }
     requires findings { IsAllOf checked.cell finding_limit checked.findings }
     requires few { length names.now ≤ 16 }
-    ensures tells { Tells task_of (RunIs checked.cell out.now order.now (map string_bytes names.now)) (H.files shelf.old) (H.read_faults shelf.old) (H.read_faults shelf.new) result }
-    ensures run { IfOk result (λ work. IsRunOf checked.cell out.now (task_of work)) }
+    ensures tells { Tells task_of (RunIs checked.cell out.now order.now (map string_bytes names.now)) (λ fs n. IsReachedInRun order.now (map string_bytes names.now) fs n) (H.files shelf.old) (H.read_faults shelf.old) (H.read_faults shelf.new) result }
+    ensures run { IfOk result (λ work. IsRunOf checked.cell out.now order.now (map string_bytes names.now) (H.files shelf.old) (task_of work)) }
     ensures status { IfErr result (IsInputStatus (λ n. (n ≡ order.now) ⊎ IsAmong (map string_bytes names.now) n)) }
     ensures files { H.files shelf.new ≡ H.files shelf.old }
     ensures read_faults { H.read_faults shelf.old ≤ H.read_faults shelf.new }
@@ -177,8 +190,8 @@ fn run_in_order_of<H: Shelf>(
     requires few { length scripts.now ≤ 16 }
     requires runnable { All IsRunnable scripts.now }
     requires of_texts { All IsScriptOfText scripts.now }
-    ensures tells { Tells task_of (OrderedRunIs checked.cell out.now order.now scripts.now) (H.files shelf.old) (H.read_faults shelf.old) (H.read_faults shelf.new) result }
-    ensures run { IfOk result (λ work. IsRunOf checked.cell out.now (task_of work)) }
+    ensures tells { Tells task_of (OrderedRunIs checked.cell out.now order.now scripts.now) (IsFile order.now) (H.files shelf.old) (H.read_faults shelf.old) (H.read_faults shelf.new) result }
+    ensures run { IfOk result (λ work. IsOrderedRun checked.cell out.now order.now scripts.now (H.files shelf.old) (task_of work)) }
     ensures status { IfErr result (IsInputStatus (λ n. n ≡ order.now)) }
     ensures files { H.files shelf.new ≡ H.files shelf.old }
     ensures read_faults { H.read_faults shelf.old ≤ H.read_faults shelf.new }

@@ -6,6 +6,8 @@ mod calls;
 #[cfg(test)]
 mod cells;
 #[cfg(test)]
+mod counted;
+#[cfg(test)]
 mod failing;
 #[cfg(test)]
 mod fields;

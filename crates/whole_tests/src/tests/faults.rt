@@ -76,6 +76,7 @@ fn changed_bytes_have_their_faults(rt: HostRuntime) -> Result<(), Fail> {
     let alloc = rt.alloc();
     let clean = "cell vi 0 vc 4 ve 4 fe 2\nfindings 0\nend\n";
     for (place, byte, line) in [
+        (0, 48, clean),
         (0, 120, "enc_cell: bad cell record 1 offset 0 code 2\n"),
         (1_635, 2, "enc_cell: bad cell record 2 offset 1578 code 8\n"),
         (1_681, 3, "enc_cell: bad cell record 2 offset 1578 code 9\n"),
