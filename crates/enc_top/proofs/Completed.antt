@@ -86,11 +86,18 @@ good_output (check_form cell) files few good = (check_task good.start, inl (good
 good_output (replay_form cell out order scripts) files few good =
     let commands = good.1.0 in
     let are = good.1.1 in
-    let sessions = good.1.2.sessions in
-    (run_task good.0.start out commands sessions,
-    inl (good.0.start, cell_is cell files good.0,
-    inl (commands, scripts_are scripts files commands are,
-    inl (sessions, order_is (quotas_of commands) order files good.1.2 (few_quotas scripts commands few are.many), refl))))
+    let sessions = good.1.2.sessions in (
+      run_task good.0.start out commands sessions,
+      inl (
+        good.0.start,
+        cell_is cell files good.0,
+        inl (
+          commands,
+          scripts_are scripts files commands are,
+          inl (sessions, order_is (quotas_of commands) order files good.1.2 (few_quotas scripts commands few are.many), refl),
+        ),
+      ),
+    )
 good_output later_form files few good = absurd good
 good_output no_form files few good = absurd good
 

@@ -39,6 +39,10 @@ returns-clause-run g c =
     let names = map string_bytes c.args.names.now in
     if_ok_more (λ (work : Work). IsOrderedRun c.args.checked.cell c.args.out.now c.args.order.now c.deref.result.now (g.H.Shelf.files c.read_scripts.new.shelf) (task_of work))
     (λ (work : Work). IsRunOf c.args.checked.cell c.args.out.now c.args.order.now names (g.H.Shelf.files c.args.shelf.now) (task_of work)) c.run_in_order_of.result
-    (λ work run. record { commands = c.in-Ok.scripts.items; told = c.in-Ok.ensures.tells; run = subst (λ files. IsOrderedRun c.args.checked.cell c.args.out.now c.args.order.now c.in-Ok.scripts.items files (task_of work)) c.in-Ok.ensures.files
-        (subst (λ scripts. IsOrderedRun c.args.checked.cell c.args.out.now c.args.order.now scripts (g.H.Shelf.files c.read_scripts.new.shelf) (task_of work)) c.deref.ensures.value run) })
+    (λ work run. record {
+      commands = c.in-Ok.scripts.items;
+      told = c.in-Ok.ensures.tells;
+      run = subst (λ files. IsOrderedRun c.args.checked.cell c.args.out.now c.args.order.now c.in-Ok.scripts.items files (task_of work)) c.in-Ok.ensures.files
+          (subst (λ scripts. IsOrderedRun c.args.checked.cell c.args.out.now c.args.order.now scripts (g.H.Shelf.files c.read_scripts.new.shelf) (task_of work)) c.deref.ensures.value run);
+    })
     c.run_in_order_of.ensures.run
