@@ -1,0 +1,12 @@
+pub mod Tests
+pub mod Among
+pub mod Distinct
+pub mod EditedRecords
+pub mod EditedNames
+pub mod FreeNames
+pub mod EditedPointers
+pub mod EditedBearers
+pub mod Untouched
+pub mod AddedUp
+pub mod Counts
+pub mod FormedEdits

@@ -1,0 +1,2 @@
+pub mod EditedAnswers
+pub mod EditedCells

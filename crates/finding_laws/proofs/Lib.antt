@@ -1,0 +1,16 @@
+pub mod Tests
+pub mod Lists
+pub mod Identities
+pub mod Listed
+pub mod FarPairs
+pub mod FarTiles
+pub mod FarExtents
+pub mod KeptReads
+pub mod KeptFindings
+pub mod Considered
+pub mod ValidRows
+pub mod Moved
+pub mod AffectedSet
+pub mod Rows
+pub mod ListedTables
+pub mod Mates
