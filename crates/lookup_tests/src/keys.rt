@@ -1,6 +1,6 @@
 use crate::sample::{SHARED, end, of};
-use cell_spec::Key;
-use read_sets::{ascending_keys, ascending_names, push_vector_keys};
+use cell_spec::{Key, ascending_keys, ascending_names};
+use read_sets::push_vector_keys;
 use s57_types::{Attrs, Deep, Items, Kind, Plane, RecName, Vector};
 use std::alloc::{AllocError, Global};
 use std::test::Fail;

@@ -53,6 +53,8 @@ fn check_names<L: Ledger>(rt: &impl Abort, look: &ListLook, steps: &mut Steps<L>
         (Kind::Vc, 1, true),
         (Kind::Ve, 2, true),
         (Kind::Fe, 7, true),
+        (Kind::Head, 0, true),
+        (Kind::Head, 1, false),
         (Kind::Vc, 5, false),
         (Kind::Fe, 8, false),
     ] {

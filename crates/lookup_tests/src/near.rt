@@ -78,14 +78,19 @@ fn check<L: Ledger>(
         Key::Name(absent),
         Key::Refs(there),
         Key::Name(there),
+        Key::Name(RecName::of_head()),
         Key::Name(there),
         Key::Foid(foid(1)),
     ];
     let near = gather(alloc, &look, &keys, &mut steps)?;
-    assert_eq!(rt; look.answers.get(), 4);
+    assert_eq!(rt; look.answers.get(), 5);
     match near.record(there) {
         Some(Rec::V(vector)) => assert_eq!(rt; vector.name, there),
         _ => panic!(rt; "node 1 isn't near"),
+    }
+    match near.record(RecName::of_head()) {
+        Some(Rec::H(head)) => assert_eq!(rt; head.cscl, 10_000),
+        _ => panic!(rt; "the head isn't near"),
     }
     assert!(rt; near.record(absent).is_none());
     assert!(rt; near.is_borne(foid(1)));

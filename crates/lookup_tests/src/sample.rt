@@ -1,11 +1,11 @@
 //! A small cell, in whose lists the numbers of the records don't ascend.
 
-ghost use Rattle.std.specs.Prelude.{◌≡◌, ◌≤◌, ℕ, not, false, true, None, IfOk, length, map, [], ◌∷◌};
+ghost use Rattle.std.specs.Prelude.{◌≡◌, ◌≤◌, ℕ, true, None, IfOk, length, map, [], ◌∷◌};
 ghost use Rattle.std.specs.List.{All, list_all};
 ghost use Rattle.s57_types.specs.declared.record.End.{End as SpecEnd};
 ghost use Rattle.s57_types.specs.declared.record.Spot.{Spot as SpecSpot};
 ghost use Rattle.s57_types.specs.declared.record.Rec.{Rec as SpecRec};
-ghost use Rattle.s57_types.specs.Fitness.{is_feature_kind, unfitness};
+ghost use Rattle.s57_types.specs.Fitness.{is_vector_kind, unfitness};
 ghost use Rattle.cell_spec.specs.Lookup.{name_of as spec_name};
 ghost use Rattle.cell_spec.specs.Names.{name_parts};
 ghost use Rattle.chain_topo.specs.Readable.{IsReadable};
@@ -24,8 +24,8 @@ pub(crate) fn of(kind: Kind, id: u32) -> RecName
 }
 
 pub(crate) fn vector(alloc: Global, name: RecName, ends: Vec<End>, plane: Vec<(i32, i32)>) -> Rec
-    requires kind { is_feature_kind name.kind ≡ false }
-    requires targets { list_all (λ (e : SpecEnd). not (is_feature_kind e.to.kind)) ends.items ≡ true }
+    requires kind { is_vector_kind name.kind ≡ true }
+    requires targets { list_all (λ (e : SpecEnd). is_vector_kind e.to.kind) ends.items ≡ true }
     requires few_ends { length ends.items ≤ 3 }
     requires few_points { length plane.items ≤ 2 }
     ensures name { spec_name result ≡ name }
@@ -42,7 +42,7 @@ pub(crate) fn vector(alloc: Global, name: RecName, ends: Vec<End>, plane: Vec<(i
 }
 
 fn feature(alloc: Global, id: u32, foid: Lnam, places: Vec<Spot>) -> Rec
-    requires targets { list_all (λ (s : SpecSpot). not (is_feature_kind s.to.kind)) places.items ≡ true }
+    requires targets { list_all (λ (s : SpecSpot). is_vector_kind s.to.kind) places.items ≡ true }
     requires few { length places.items ≤ 4 }
     ensures name { name_parts (spec_name result) ≡ 3 ∷ id ∷ [] }
     ensures fits { (nall : ℕ) → unfitness nall result ≡ None }
@@ -141,7 +141,7 @@ fn connected(alloc: Global) -> Result<Vec<Rec>, AllocError>
 }
 
 fn edge(alloc: Global, id: u32, ends: Vec<End>, plane: Vec<(i32, i32)>) -> Rec
-    requires targets { list_all (λ (e : SpecEnd). not (is_feature_kind e.to.kind)) ends.items ≡ true }
+    requires targets { list_all (λ (e : SpecEnd). is_vector_kind e.to.kind) ends.items ≡ true }
     requires few_ends { length ends.items ≤ 3 }
     requires few_points { length plane.items ≤ 2 }
     ensures name { name_parts (spec_name result) ≡ 2 ∷ id ∷ [] }

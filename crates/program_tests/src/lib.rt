@@ -1,25 +1,5 @@
-//! Tests of the program as one call: its forms, statuses and failing devices.
+//! Tests of the program as one call that no list of cases can say: what they expect depends on what was drawn, or no call of theirs brings it about.
 #![tactic(auto)]
 
 #[cfg(test)]
-mod calls;
-#[cfg(test)]
-mod cells;
-#[cfg(test)]
-mod counted;
-#[cfg(test)]
-mod failing;
-#[cfg(test)]
-mod fields;
-#[cfg(test)]
-mod forms;
-#[cfg(test)]
-mod limits;
-#[cfg(test)]
-mod minimal;
-#[cfg(test)]
-mod sessions;
-#[cfg(test)]
-mod slow;
-#[cfg(test)]
-mod stored;
+mod tests;

@@ -1,12 +1,15 @@
 //! Which heads can be written, and which of their records.
 
 use crate::texts::{long_text, text};
-use record_fit::{head_fits, is_general_information_short, is_geographic_reference_short};
-use s57_types::{Dsid, Dspm, Dssi, Head, Text};
+use record_fit::{
+    has_plain_texts, head_fits, identification_record_length, is_general_information_short,
+    is_geographic_reference_short,
+};
+use s57_types::{Dsid, Dspm, Dssi, Head, HeadEdit, Level, Text};
 use std::alloc::{AllocError, Global};
 use std::test::Fail;
 
-fn head(alloc: Global, comment: Text) -> Result<Head, AllocError> {
+pub fn head(alloc: Global, comment: Text) -> Result<Head, AllocError> {
     Ok(Head {
         dsid_rcid: 1,
         intu: 5,
@@ -55,6 +58,54 @@ fn heads_that_can_be_written(rt: HostRuntime) -> Result<(), Fail> {
     other.nall = 0;
     other.isdt = *b"2024010\x1E";
     assert!(rt; !head_fits(&other));
+    Ok(())
+}
+
+// 49 bytes of leader and directory, and fields of 3, 51 and 36 bytes; with long texts 67 bytes, and 73 where a length has six digits
+#[test]
+fn the_first_head_record_has_its_length(rt: HostRuntime) -> Result<(), Fail> {
+    let alloc = rt.alloc();
+    let mut head = head(alloc, Text::make(alloc))?;
+    assert_eq!(rt; identification_record_length(&head), 139);
+    for (length, bytes, answer) in [
+        (99_843, 99_999, true),
+        (99_844, 100_000, false),
+        (99_999, 100_161, false),
+    ] {
+        head.edtn = long_text(alloc, length)?;
+        assert_eq!(rt; identification_record_length(&head), bytes);
+        assert_eq!(rt; head_fits(&head), answer);
+    }
+    Ok(())
+}
+
+/// An edit of a head with these texts in the places of its edition and update number and of its comment.
+fn edit(alloc: Global, texts: [&[u8]; 3], dates: [[u8; 8]; 2]) -> Result<HeadEdit, AllocError> {
+    let [edtn, updn, comt] = texts;
+    let [uadt, isdt] = dates;
+    Ok(HeadEdit {
+        edtn: text(alloc, edtn)?,
+        updn: text(alloc, updn)?,
+        uadt,
+        isdt,
+        aall: Level::One,
+        comt: text(alloc, comt)?,
+    })
+}
+
+#[test]
+fn no_text_of_an_edit_holds_a_control_byte(rt: HostRuntime) -> Result<(), Fail> {
+    let alloc = rt.alloc();
+    let dates = [*b"20240101", *b"\x1d\x20\0\xff2024"];
+    assert!(rt; has_plain_texts(&edit(alloc, [b"2", b"", b"\xe4\x1d"], dates)?));
+    assert!(rt; !has_plain_texts(&edit(alloc, [b"2\x1e", b"", b""], dates)?));
+    assert!(rt; !has_plain_texts(&edit(alloc, [b"2", b"\x1f", b""], dates)?));
+    assert!(rt; !has_plain_texts(&edit(alloc, [b"2", b"", b"a\x1eb"], dates)?));
+    let [good, _] = dates;
+    for bad in [*b"\x1e0240101", *b"2024010\x1f"] {
+        assert!(rt; !has_plain_texts(&edit(alloc, [b"2", b"", b""], [bad, good])?));
+        assert!(rt; !has_plain_texts(&edit(alloc, [b"2", b"", b""], [good, bad])?));
+    }
     Ok(())
 }
 

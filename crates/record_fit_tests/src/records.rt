@@ -1,5 +1,6 @@
 //! Which records can be written.
 
+use crate::heads::head;
 use crate::texts::{long_text, text};
 use record_fit::fits;
 use s57_types::{
@@ -67,9 +68,21 @@ fn records_of_every_kind_fit_under_their_own_names(rt: HostRuntime) {
         let answer = area_fits(alloc, kind, Attrs::make(alloc), 0);
         assert_eq!(rt; answer, Err(Unfit::BadName));
     }
-    let answer = node_fits(alloc, Kind::Fe, Attrs::make(alloc), 0);
-    assert_eq!(rt; answer, Err(Unfit::BadName));
+    for kind in [Kind::Fe, Kind::Head] {
+        let answer = node_fits(alloc, kind, Attrs::make(alloc), 0);
+        assert_eq!(rt; answer, Err(Unfit::BadName));
+    }
     assert_eq!(rt; area_fits(alloc, Kind::Fe, Attrs::make(alloc), 0), Ok(()));
+    let answer = area_fits(alloc, Kind::Head, Attrs::make(alloc), 0);
+    assert_eq!(rt; answer, Err(Unfit::BadName));
+}
+
+#[test]
+fn a_head_is_no_record_of_a_list(rt: HostRuntime) -> Result<(), Fail> {
+    let alloc = rt.alloc();
+    let head = head(alloc, Text::make(alloc))?;
+    assert_eq!(rt; fits(&Rec::H(head), 2), Err(Unfit::BadName));
+    Ok(())
 }
 
 /// An edge with a pointer to a record of this kind.
@@ -104,7 +117,11 @@ fn area_at(alloc: Global, kind: Kind) -> Result<Rec, AllocError> {
 #[test]
 fn a_pointer_names_a_vector_record(rt: HostRuntime) -> Result<(), Fail> {
     let alloc = rt.alloc();
-    for (kind, answer) in [(Kind::Vc, Ok(())), (Kind::Fe, Err(Unfit::BadName))] {
+    for (kind, answer) in [
+        (Kind::Vc, Ok(())),
+        (Kind::Fe, Err(Unfit::BadName)),
+        (Kind::Head, Err(Unfit::BadName)),
+    ] {
         assert_eq!(rt; fits(&edge_to(alloc, kind)?, 0), answer);
         assert_eq!(rt; fits(&area_at(alloc, kind)?, 0), answer);
     }

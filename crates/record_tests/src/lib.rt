@@ -1,13 +1,5 @@
-//! Tests of the rules on single records and areas.
+//! Tests of what verdicts read, and of boxes.
 #![tactic(auto)]
 
 #[cfg(test)]
-mod areas;
-#[cfg(test)]
-mod charts;
-#[cfg(test)]
-mod features;
-#[cfg(test)]
-mod group1;
-#[cfg(test)]
-mod records;
+mod tests;

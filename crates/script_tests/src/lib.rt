@@ -1,9 +1,5 @@
-//! Tests of scripts, orders and their lines.
+//! Tests of words in lines, and of a session's lines in a report.
 #![tactic(auto)]
 
 #[cfg(test)]
-mod lines;
-#[cfg(test)]
-mod orders;
-#[cfg(test)]
-mod scripts;
+mod tests;

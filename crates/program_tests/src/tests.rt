@@ -1,0 +1,5 @@
+mod calls;
+mod drawn;
+mod draws;
+mod lines;
+mod square;

@@ -1,0 +1,56 @@
+//! Calls of the program on files in memory.
+
+use enc_outside::{MemShelf, MemSink};
+use enc_top::{print_status, run_plain};
+use std::alloc::Global;
+use std::test::Fail;
+use std::thread::Threads;
+
+/// Parts one after the other.
+pub fn joined(alloc: Global, parts: &[&[u8]]) -> Result<Vec<u8>, Fail> {
+    let mut bytes = Vec::new(alloc);
+    for part in parts {
+        bytes.extend_from_slice(part)?;
+    }
+    Ok(bytes)
+}
+
+/// Words from a text with spaces between them.
+fn words(alloc: Global, text: &str) -> Result<Vec<String>, Fail> {
+    let mut words = Vec::new(alloc);
+    for word in text.split_whitespace() {
+        words.push(String::from_str(alloc, word)?)?;
+    }
+    Ok(words)
+}
+
+/// What `check` prints of a cell file: what it puts, and then the line of its status.
+pub fn checked<R: Threads + Sync>(rt: &R, alloc: Global, cell: &[u8]) -> Result<Vec<u8>, Fail> {
+    let mut shelf = MemShelf::make(alloc);
+    shelf.place("CELL", cell)?;
+    let mut out = MemSink::make(alloc);
+    let words = words(alloc, "check CELL")?;
+    let status = run_plain(rt, alloc, &words, &mut shelf, &mut out);
+    let mut text = Vec::from_slice(alloc, out.bytes())?;
+    print_status(alloc, &status, &mut text)?;
+    Ok(text)
+}
+
+/// The file that a run of one script in an order leaves.
+pub fn exported<R: Threads + Sync>(
+    rt: &R,
+    alloc: Global,
+    cell: &[u8],
+    order: &[u8],
+    script: &[u8],
+) -> Result<Vec<u8>, Fail> {
+    let mut shelf = MemShelf::make(alloc);
+    shelf.place("CELL", cell)?;
+    shelf.place("ORDER", order)?;
+    shelf.place("S", script)?;
+    let mut out = MemSink::make(alloc);
+    let words = words(alloc, "replay CELL OUT ORDER S")?;
+    run_plain(rt, alloc, &words, &mut shelf, &mut out);
+    let file = shelf.file("OUT").ok_or("no file was made")?;
+    Ok(Vec::from_slice(alloc, file)?)
+}

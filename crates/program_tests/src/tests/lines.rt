@@ -1,0 +1,17 @@
+//! Lines of statuses that no case brings about.
+
+use enc_top::{Status, print_status};
+use std::test::Fail;
+
+#[test]
+fn statuses_that_no_case_gives_have_their_lines(rt: HostRuntime) -> Result<(), Fail> {
+    for (status, line) in &[
+        (Status::NoMemory, "enc_cell: no memory\n"),
+        (Status::Stuck(1, 2), "enc_cell: stuck desk 1 serial 2\n"),
+    ] {
+        let mut out = Vec::new(rt.alloc());
+        print_status(rt.alloc(), status, &mut out)?;
+        assert_eq!(rt; out.as_slice(), line.as_bytes());
+    }
+    Ok(())
+}

@@ -1,0 +1,5 @@
+mod boxes;
+mod charts;
+mod pairs;
+mod records;
+mod sides;
