@@ -9,15 +9,15 @@ use Rattle.cell_spec.specs.declared.key.Subject.{Subject}
 use Rattle.cell_spec.specs.declared.finding.Finding.{Finding}
 use Rattle.rule_spec.specs.Findings.{all_findings, finding_total}
 use Rattle.edit_sets.specs.declared.fault.FormFault.{FormFault}
-use Rattle.edit_sets.specs.declared.fault.FormFault.TheVariants.{Empty, TooMany, Twice, Unfit as UnfitAt}
+use Rattle.edit_sets.specs.declared.fault.FormFault.TheVariants.{Empty, TooMany, Twice, Unfit as UnfitAt, TooManyGuards}
 use Rattle.text_spec.specs.Lines.{line}
 use Rattle.text_spec.specs.CellText.{name_words, cell_text, finding_line}
 use Rattle.text_spec.specs.EditLine.{edit_line}
 use Rattle.text_spec.specs.OrderLine.{order_line}
 use Rattle.text_spec.specs.declared.command.Command.{Command}
-use Rattle.text_spec.specs.declared.command.Command.TheVariants.{View, Commit, Drop, List as Findings, Push}
+use Rattle.text_spec.specs.declared.command.Command.TheVariants.{View, Commit, Drop, List as Findings, Push, Guard}
 use Rattle.history_spec.specs.declared.refusal.StateRefusal.{StateRefusal}
-use Rattle.history_spec.specs.declared.refusal.StateRefusal.TheVariants.{AddExists, SetMissing, DelMissing, CellFull, FindingsFull}
+use Rattle.history_spec.specs.declared.refusal.StateRefusal.TheVariants.{AddExists, SetMissing, DelMissing, CellFull, FindingsFull, HeadTooLong}
 use Rattle.history_spec.specs.declared.reply.Reply.{Reply}
 use Rattle.history_spec.specs.declared.reply.Reply.TheVariants.{Viewed, Formed, Newer, Refused, Accepted}
 use Rattle.history_spec.specs.Steps.{History, AcceptedCommit, cell_after, opening}
@@ -33,6 +33,7 @@ form_words Empty = codes "empty" ∷ []
 form_words (TooMany count) = codes "too" ∷ codes "many" ∷ decimal count ∷ []
 form_words (Twice place) = codes "twice" ∷ decimal place ∷ []
 form_words (UnfitAt place why) = codes "unfit" ∷ decimal place ∷ unfit_words why
+form_words (TooManyGuards count) = codes "too" ∷ codes "many" ∷ codes "guards" ∷ decimal count ∷ []
 
 abbrev pub refusal_words : StateRefusal → List (List ℕ)
 refusal_words (AddExists n) = codes "exists" ∷ name_words n
@@ -40,6 +41,7 @@ refusal_words (SetMissing n) = codes "set" ∷ codes "missing" ∷ name_words n
 refusal_words (DelMissing n) = codes "del" ∷ codes "missing" ∷ name_words n
 refusal_words (CellFull count) = codes "cell" ∷ codes "full" ∷ decimal count ∷ []
 refusal_words FindingsFull = codes "findings" ∷ codes "full" ∷ []
+refusal_words (HeadTooLong bytes) = codes "head" ∷ codes "too" ∷ codes "long" ∷ decimal bytes ∷ []
 
 abbrev pub refused_line : List (List ℕ) → List ℕ
 refused_line words = line (codes "commit") (codes "refused" ∷ words)
@@ -52,7 +54,7 @@ reply_line (Newer number name desk edit) = refused_line (codes "newer" ∷ decim
 reply_line (Refused refusal) = refused_line (refusal_words refusal)
 reply_line (Accepted number findings) = line (codes "commit") (codes "accepted" ∷ decimal number ∷ codes "findings" ∷ decimal findings ∷ [])
 
--- the line after a local command: how many edits are in the draft
+-- the line after a local command: how many edits, guards not counted, are in the draft
 abbrev pub draft_line : ℕ → List ℕ
 draft_line count = line (codes "draft") (decimal count ∷ [])
 
@@ -79,6 +81,7 @@ transcript_from at base drafted (Commit ∷ commands) (reply ∷ replies) = repl
 transcript_from at base drafted (Drop ∷ commands) replies = draft_line 0 ++ transcript_from at base 0 commands replies
 transcript_from at base drafted (Findings shown ∷ commands) replies = list_lines base shown (at base) ++ transcript_from at base drafted commands replies
 transcript_from at base drafted (Push edit ∷ commands) replies = draft_line (drafted + 1) ++ transcript_from at base (drafted + 1) commands replies
+transcript_from at base drafted (Guard name ∷ commands) replies = draft_line drafted ++ transcript_from at base drafted commands replies
 
 -- a session's part of the report
 abbrev pub session_text : (ℕ → Cell) → ℕ → List Command → List Reply → List ℕ

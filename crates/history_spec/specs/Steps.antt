@@ -1,26 +1,25 @@
 -- One step of the editing history of a cell: a view, a commit with a fault of form, or a commit. This project's own rules.
-use Rattle.std.specs.Prelude.{ℕ, ◌+◌, ◌==◌, nat_lt, List, [], ◌∷◌, ◌++◌, length, map, take, drop, filter, filter_map, find, fold, is_some, Option, None, Some, if◌then◌else◌}
+use Rattle.std.specs.Prelude.{ℕ, ◌+◌, ◌==◌, nat_lt, List, [], ◌∷◌, ◌++◌, length, map, take, drop, filter, filter_map, fold, is_some, Option, None, Some, if◌then◌else◌}
 use Rattle.std.specs.List.{list_any, enumerate_from}
 use Rattle.std.specs.Option.{option_map, option_map_or, option_and_then}
 use Rattle.s57_types.specs.declared.name.RecName.{RecName}
 use Rattle.s57_types.specs.declared.cell.Cell.{Cell}
+use Rattle.s57_types.specs.RecordFields.{identification_length}
 use Rattle.cell_spec.specs.Ascending.{ascending}
-use Rattle.cell_spec.specs.Edits.{name_of_edit, apply_edits}
-use Rattle.cell_spec.specs.Lookup.{all_records, name_of, lookup_record}
+use Rattle.cell_spec.specs.Edits.{name_of_edit, edit_of, head_after, leave_a_long_head, apply_edits}
+use Rattle.cell_spec.specs.Lookup.{all_records, name_of, listed_record}
 use Rattle.cell_spec.specs.Names.{name_order, same_name}
+use Rattle.cell_spec.specs.Writable.{record_limit}
 use Rattle.cell_spec.specs.declared.edit.Edit.{Edit}
-use Rattle.cell_spec.specs.declared.edit.Edit.TheVariants.{Add, Set, Del}
+use Rattle.cell_spec.specs.declared.edit.Edit.TheVariants.{Add, Set, Del, Head}
 use Rattle.rule_spec.specs.Findings.{finding_total}
 use Rattle.edit_sets.specs.declared.fault.FormFault.{FormFault}
 use Rattle.history_spec.specs.declared.refusal.StateRefusal.{StateRefusal}
-use Rattle.history_spec.specs.declared.refusal.StateRefusal.TheVariants.{AddExists, SetMissing, DelMissing, CellFull, FindingsFull}
+use Rattle.history_spec.specs.declared.refusal.StateRefusal.TheVariants.{AddExists, SetMissing, DelMissing, CellFull, FindingsFull, HeadTooLong}
 use Rattle.history_spec.specs.declared.reply.Reply.{Reply}
 use Rattle.history_spec.specs.declared.reply.Reply.TheVariants.{Viewed, Formed, Newer, Refused, Accepted}
 
--- how many records and findings a cell may have
-abbrev pub record_limit : ℕ
-record_limit = 262144
-
+-- how many findings a cell may have
 abbrev pub finding_limit : ℕ
 finding_limit = 262144
 
@@ -40,59 +39,58 @@ pub record History : Type 0 where
 abbrev pub opening : Cell → History
 opening c = record { cell = c; commits = []; bases = λ desk. 0 }
 
--- what a desk may ask: to see the newest state, or to commit edits on a base; a draft with a fault of form is told with its fault
+-- what a desk may ask: to see the newest state, or to commit edits with guards on a base; a draft with a fault of form is told with its fault
 pub data Event : Type 0 where
   view : Event
   faulty : FormFault → Event
-  commit : ℕ → List Edit → Event
+  commit : ℕ → List Edit → List RecName → Event
 
 -- the first of a list
 abbrev pub first_of : {X : Type 0} → List X → Option X
 first_of [] = None
 first_of (x ∷ xs) = Some x
 
--- the names that both of two lists of edits have
-abbrev pub shared_names : List Edit → List Edit → List RecName
-shared_names edits others = filter (λ n. list_any (λ other. same_name n (name_of_edit other)) others) (map name_of_edit edits)
+-- the names that edits and guards rest on and that other edits change
+abbrev pub contested_names : List Edit → List RecName → List Edit → List RecName
+contested_names edits guards others = filter (λ n. list_any (λ other. same_name n (name_of_edit other)) others) (map name_of_edit edits ++ guards)
 
-abbrev pub edit_named : RecName → List Edit → Option Edit
-edit_named n = find (λ edit. same_name n (name_of_edit edit))
-
--- the answer where an accepted commit names a record that the edits name: the least such name in it, and its edit of that name
-abbrev pub clash_with : List Edit → ℕ × AcceptedCommit → Option Reply
-clash_with edits (number, accepted) =
-    option_and_then (λ n. option_map (Newer number n accepted.desk) (edit_named n accepted.edits)) (first_of (ascending name_order (shared_names edits accepted.edits)))
+-- the answer where an accepted commit changes what the edits change or their guards name: the least such name in it, and its edit of that name
+abbrev pub clash_with : List Edit → List RecName → ℕ × AcceptedCommit → Option Reply
+clash_with edits guards (number, accepted) =
+    option_and_then (λ n. option_map (Newer number n accepted.desk) (edit_of n accepted.edits)) (first_of (ascending name_order (contested_names edits guards accepted.edits)))
 
 -- the answer where a commit above the base does: the one with the least number
-abbrev pub newer_answer : List AcceptedCommit → ℕ → List Edit → Option Reply
-newer_answer commits base edits = first_of (filter_map (clash_with edits) (drop base (enumerate_from 1 commits)))
+abbrev pub newer_answer : List AcceptedCommit → ℕ → List Edit → List RecName → Option Reply
+newer_answer commits base edits guards = first_of (filter_map (clash_with edits guards) (drop base (enumerate_from 1 commits)))
 
--- why a cell doesn't take an edit
+-- why a cell doesn't take an edit; it takes each edit of the head
 abbrev pub edit_refusal : Cell → Edit → Option StateRefusal
-edit_refusal c (Add r) = if is_some (lookup_record c (name_of r)) then Some (AddExists (name_of r)) else None
-edit_refusal c (Set r) = if is_some (lookup_record c (name_of r)) then None else Some (SetMissing (name_of r))
-edit_refusal c (Del n) = if is_some (lookup_record c n) then None else Some (DelMissing n)
+edit_refusal c (Add r) = if is_some (listed_record c (name_of r)) then Some (AddExists (name_of r)) else None
+edit_refusal c (Set r) = if is_some (listed_record c (name_of r)) then None else Some (SetMissing (name_of r))
+edit_refusal c (Del n) = if is_some (listed_record c n) then None else Some (DelMissing n)
+edit_refusal c (Head e) = None
 
--- why the cell that edits would leave is too large
-abbrev pub size_refusal : Cell → Option StateRefusal
-size_refusal edited =
-    if nat_lt record_limit (length (all_records edited)) then Some (CellFull (length (all_records edited))) else
-    (if nat_lt finding_limit (finding_total edited) then Some FindingsFull else None)
+-- why the cell that edits would leave is too large: its records, then its head where they edit it, then its findings
+abbrev pub size_refusal : Cell → List Edit → Option StateRefusal
+size_refusal c edits =
+    if nat_lt record_limit (length (all_records (apply_edits edits c))) then Some (CellFull (length (all_records (apply_edits edits c)))) else
+    (if leave_a_long_head edits c then Some (HeadTooLong (identification_length (head_after edits c.head))) else
+    (if nat_lt finding_limit (finding_total (apply_edits edits c)) then Some FindingsFull else None))
 
 -- why a cell doesn't take edits: the first edit that it doesn't take, then the size of the edited cell
 abbrev pub state_refusal : Cell → List Edit → Option StateRefusal
-state_refusal c edits = option_map_or Some (first_of (filter_map (edit_refusal c) edits)) (size_refusal (apply_edits edits c))
+state_refusal c edits = option_map_or Some (first_of (filter_map (edit_refusal c) edits)) (size_refusal c edits)
 
 -- the answer to a commit: a newer commit goes before a refusal of the cell
-abbrev pub commit_answer : History → ℕ → List Edit → Reply
-commit_answer h base edits = option_map_or (λ reply. reply) (newer_answer h.commits base edits)
+abbrev pub commit_answer : History → ℕ → List Edit → List RecName → Reply
+commit_answer h base edits guards = option_map_or (λ reply. reply) (newer_answer h.commits base edits guards)
     (option_map_or Refused (state_refusal h.cell edits) (Accepted (length h.commits + 1) (finding_total (apply_edits edits h.cell))))
 
 -- the answer to what a desk asks
 abbrev pub answer : History → Event → Reply
 answer h view = Viewed (length h.commits) (finding_total h.cell)
 answer h (faulty fault) = Formed fault
-answer h (commit base edits) = commit_answer h base edits
+answer h (commit base edits guards) = commit_answer h base edits guards
 
 -- the base of one desk is now another
 abbrev pub with_base : ℕ → ℕ → (ℕ → ℕ) → ℕ → ℕ
@@ -109,7 +107,7 @@ with_commit desk edits h = record {
 abbrev pub edits_asked : Event → List Edit
 edits_asked view = []
 edits_asked (faulty fault) = []
-edits_asked (commit base edits) = edits
+edits_asked (commit base edits guards) = edits
 
 -- what an answer leaves: only an accepted commit changes the cell, and a view moves the desk's base
 abbrev pub left_after : ℕ → Event → Reply → History → History

@@ -15,4 +15,6 @@ pub enum StateRefusal {
     CellFull(u32),
     /// The edited cell would have more findings than the limit.
     FindingsFull,
+    /// The first head record of the edited cell would have so many bytes, which is over the limit.
+    HeadTooLong(u32),
 }

@@ -15,8 +15,8 @@ pub enum Reply {
     },
     /// The draft has this fault.
     Formed(FormFault),
-    /// An accepted commit above the base names a record that this one names: the least number of such a commit, the
-    /// least such name in it, the desk of that commit, and its edit of that name.
+    /// An accepted commit above the base edits a record or the head, and this one edits or guards the same: the least number of such a commit,
+    /// the least such name in it, the desk of that commit, and its edit of that name.
     Newer {
         number: u32,
         name: RecName,

@@ -1,0 +1,3 @@
+pub mod Interleaved
+pub mod Orders
+pub mod Served
