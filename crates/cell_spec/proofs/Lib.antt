@@ -1,3 +1,4 @@
 pub mod Ascending
+pub mod Deduplicated
 pub mod Orders
 pub mod SubjectOrder

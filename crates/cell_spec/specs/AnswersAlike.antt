@@ -5,7 +5,7 @@ use Rattle.cell_spec.specs.declared.key.Key.{Key}
 use Rattle.cell_spec.specs.declared.key.Key.TheVariants.{Name, Refs, Foid}
 use Rattle.cell_spec.specs.Lookup.{lookup_record, lookup_pointers, lookup_identity}
 
--- two cells answer alike to a key: they have the same record of a name, the same pointers to it, the same bearers of an identifier
+-- two cells answer alike to a key: they have the same record or head of a name, the same pointers to it, the same bearers of an identifier
 abbrev pub AnswerAlike : Cell → Cell → Key → Type 0
 AnswerAlike c d (Name n) = lookup_record c n ≡ lookup_record d n
 AnswerAlike c d (Refs n) = lookup_pointers c n ≡ lookup_pointers d n

@@ -3,9 +3,10 @@ use Rattle.std.specs.Prelude.{ℕ, ◌==◌, ◌&&◌, Bool, List, [], ◌∷◌
 use Rattle.std.specs.declared.cmp.Ordering.{Ordering}
 use Rattle.std.specs.Ordering.{is_eq}
 use Rattle.s57_types.specs.declared.name.Kind.{Kind}
-use Rattle.s57_types.specs.declared.name.Kind.TheVariants.{Vi, Vc, Ve, Fe}
+use Rattle.s57_types.specs.declared.name.Kind.TheVariants.{Vi, Vc, Ve, Fe, Head}
 use Rattle.s57_types.specs.declared.name.RecName.{RecName}
 use Rattle.s57_types.specs.declared.name.Lnam.{Lnam}
+use Rattle.s57_types.specs.Heads.{head_name}
 use Rattle.cell_spec.specs.declared.finding.Finding.{Finding}
 use Rattle.cell_spec.specs.declared.key.Key.{Key}
 use Rattle.cell_spec.specs.declared.key.Key.TheVariants.{Name, Refs, Foid}
@@ -20,6 +21,7 @@ kind_rank Vi = 0
 kind_rank Vc = 1
 kind_rank Ve = 2
 kind_rank Fe = 3
+kind_rank Head = 4
 
 -- names by kind, then by number
 abbrev pub name_parts : RecName → List ℕ
@@ -75,6 +77,10 @@ same_name a b = (kind_rank a.kind == kind_rank b.kind) && (a.id == b.id)
 -- whether two feature object identifiers are one
 abbrev pub same_identity : Lnam → Lnam → Bool
 same_identity a b = (a.agen == b.agen) && (a.fidn == b.fidn) && (a.fids == b.fids)
+
+-- whether a name is that of a head
+abbrev pub is_head_name : RecName → Bool
+is_head_name n = same_name n head_name
 
 -- whether a name is of a kind
 abbrev pub is_of_kind : Kind → RecName → Bool

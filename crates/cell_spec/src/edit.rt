@@ -1,40 +1,42 @@
-//! A record edit.
+//! An edit of a record or of the head.
 
 ghost use Rattle.std.specs.Prelude.{◌≡◌};
 ghost use Rattle.std.specs.Option.{option_copied};
 ghost use Rattle.cell_spec.specs.Lookup.{name_of as name_of_record};
 
-use s57_types::{Duplicate, Rec, RecName};
+use s57_types::{Duplicate, HeadEdit, Rec, RecName};
 use std::alloc::{AllocError, Global};
 
-/// One edit of a cell: a new record, a record in place of the one that has its name, or the end of a record.
+/// One edit of a cell: a new record, a record in place of the one that has its name, the end of a record, or new values of the head.
 #[derive(Debug, Drop)]
 pub enum Edit {
     Add(Rec),
     Set(Rec),
     Del(RecName),
+    Head(HeadEdit),
 }
 
 impl Edit {
     ghost use Rattle.cell_spec.specs.Edits.{name_of_edit, left_by};
 
-    /// The name of the record that the edit is about.
+    /// The name of the record or head that the edit is about.
     pub fn name(&self) -> RecName
         ensures { result ≡ name_of_edit self.now }
     {
         match self {
             Edit::Add(rec) | Edit::Set(rec) => name_of(rec),
             Edit::Del(name) => *name,
+            Edit::Head(_) => RecName::of_head(),
         }
     }
 
-    /// The record that the edit leaves under its name. A deletion leaves none.
+    /// The record that the edit leaves under its name. A deletion leaves none, nor does an edit of the head.
     pub fn record(&self) -> Option<&Rec>
         ensures { option_copied result ≡ left_by self.now }
     {
         match self {
             Edit::Add(rec) | Edit::Set(rec) => Some(rec),
-            Edit::Del(_) => None,
+            Edit::Del(_) | Edit::Head(_) => None,
         }
     }
 }
@@ -45,6 +47,7 @@ fn name_of(rec: &Rec) -> RecName
     match rec {
         Rec::V(vector) => vector.name,
         Rec::F(feature) => feature.name,
+        Rec::H(_) => RecName::of_head(),
     }
 }
 
@@ -54,6 +57,7 @@ impl Duplicate for Edit {
             Edit::Add(rec) => Edit::Add(rec.copy(alloc)?),
             Edit::Set(rec) => Edit::Set(rec.copy(alloc)?),
             Edit::Del(name) => Edit::Del(*name),
+            Edit::Head(edit) => Edit::Head(edit.copy(alloc)?),
         })
     }
 }

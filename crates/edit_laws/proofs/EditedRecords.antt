@@ -8,10 +8,10 @@ use Rattle.cell_spec.specs.Edits.{name_of_edit, added_by, left_by, changed_by, e
 use Rattle.cell_spec.specs.Lookup.{name_of}
 use Rattle.cell_spec.specs.Names.{same_name}
 use Rattle.cell_spec.specs.declared.edit.Edit.{Edit}
-use Rattle.cell_spec.specs.declared.edit.Edit.TheVariants.{Add, Set, Del}
+use Rattle.cell_spec.specs.declared.edit.Edit.TheVariants.{Add, Set, Del, Head}
 use Rattle.cell_spec.proofs.Orders.{one_when_same}
 
--- what an edit leaves has a property
+-- the record that an edit leaves has a property
 abbrev pub Leaves : (Rec → Type 0) → Edit → Type 0
 Leaves P edit = IfSome (left_by edit) P
 
@@ -20,6 +20,7 @@ name_kept_by : (r : Rec) (edit : Edit) (named : Bool) → same_name (name_of_edi
 name_kept_by r (Add s) true is later rest = refl
 name_kept_by r (Set s) true is later rest = one_when_same (name_of s) (name_of r) is
 name_kept_by r (Del n) true is later rest = tt
+name_kept_by r (Head e) true is later rest = refl
 name_kept_by r edit false is later rest = rest
 
 -- a record keeps its name
@@ -32,6 +33,7 @@ property_kept_by : (P : Rec → Type 0) (r : Rec) (edit : Edit) (named : Bool) (
 property_kept_by P r (Add s) true later here leaves rest = here
 property_kept_by P r (Set s) true later here leaves rest = leaves
 property_kept_by P r (Del n) true later here leaves rest = tt
+property_kept_by P r (Head e) true later here leaves rest = here
 property_kept_by P r edit false later here leaves rest = rest
 
 -- what a record has, and what edits leave has, the edited record has
@@ -53,6 +55,7 @@ added_is : (P : Rec → Type 0) (edit : Edit) → Leaves P edit → IfSome (adde
 added_is P (Add s) leaves = leaves
 added_is P (Set s) leaves = tt
 added_is P (Del n) leaves = tt
+added_is P (Head e) leaves = tt
 
 -- what edits leave has, additions have
 pub each_added : (P : Rec → Type 0) (edits : List Edit) → AllByRecursion (Leaves P) edits → AllByRecursion P (filter_map added_by edits)
@@ -72,6 +75,7 @@ added_name : (edit : Edit) → IfSome (added_by edit) (λ s. name_of s ≡ name_
 added_name (Add s) = refl
 added_name (Set s) = tt
 added_name (Del n) = tt
+added_name (Head e) = tt
 
 -- the names of additions are some of the edits' names
 pub names_added : (Q : RecName → Type 0) (edits : List Edit) → AllByRecursion Q (map name_of_edit edits) → AllByRecursion Q (map name_of (filter_map added_by edits))

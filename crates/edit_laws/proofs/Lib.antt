@@ -1,7 +1,9 @@
 pub mod DistinctNames
 pub mod EditedRecords
 pub mod EditedLists
+pub mod EditedHead
 pub mod EditedCell
+pub mod TakenLines
 pub mod Refusals
 pub mod Runs
 pub mod TypedEdits

@@ -5,14 +5,16 @@ use Rattle.std.specs.List.{list_all, cons_option}
 use Rattle.std.specs.Option.{option_map_or}
 use Rattle.std.proofs.lemmas.Bool.Decides.{nat_tests}
 use Rattle.s57_types.specs.declared.cell.Cell.{Cell}
-use Rattle.cell_spec.specs.Edits.{apply_edits, has_its_record}
-use Rattle.cell_spec.specs.Lookup.{all_records, name_of, lookup_record}
+use Rattle.cell_spec.specs.Edits.{apply_edits, find_their_records, has_its_record, head_after, leave_a_long_head}
+use Rattle.cell_spec.specs.Lookup.{all_records, name_of, listed_record}
 use Rattle.cell_spec.specs.declared.edit.Edit.{Edit}
-use Rattle.cell_spec.specs.declared.edit.Edit.TheVariants.{Add, Set, Del}
+use Rattle.cell_spec.specs.declared.edit.Edit.TheVariants.{Add, Set, Del, Head}
+use Rattle.cell_spec.specs.Writable.{record_limit}
+use Rattle.s57_types.specs.RecordFields.{identification_length}
 use Rattle.rule_spec.specs.Findings.{finding_total}
-use Rattle.history_spec.specs.Steps.{first_of, edit_refusal, size_refusal, finding_limit, record_limit}
+use Rattle.history_spec.specs.Steps.{first_of, edit_refusal, size_refusal, finding_limit}
 use Rattle.history_spec.specs.declared.refusal.StateRefusal.{StateRefusal}
-use Rattle.history_spec.specs.declared.refusal.StateRefusal.TheVariants.{AddExists, SetMissing, DelMissing, CellFull, FindingsFull}
+use Rattle.history_spec.specs.declared.refusal.StateRefusal.TheVariants.{AddExists, SetMissing, DelMissing, CellFull, FindingsFull, HeadTooLong}
 use Rattle.edit_laws.specs.KeptWritable.{is_taken, RefusalsAreExact}
 
 -- the refusal of the first edit that has one, or else another
@@ -21,17 +23,18 @@ first_or refusals last = option_map_or Some (first_of refusals) last
 
 first_edit : (c : Cell) (edit : Edit) (refusals : List StateRefusal) (last : Option StateRefusal) (rest : Bool) → is_taken (first_or refusals last) ≡ rest
     → is_taken (first_or (cons_option (edit_refusal c edit) refusals) last) ≡ (has_its_record c edit && rest)
-first_edit c (Add r) refusals last rest others = by (is_some (lookup_record c (name_of r)))
+first_edit c (Add r) refusals last rest others = by (is_some (listed_record c (name_of r)))
   where
     by : (there : Bool) → is_taken (first_or (cons_option (if there then Some (AddExists (name_of r)) else None) refusals) last) ≡ (not there && rest)
     by true = refl
     by false = others
-first_edit c (Set r) refusals last rest others = by (is_some (lookup_record c (name_of r)))
+first_edit c (Set r) refusals last rest others = by (is_some (listed_record c (name_of r)))
   where
     by : (there : Bool) → is_taken (first_or (cons_option (if there then None else Some (SetMissing (name_of r))) refusals) last) ≡ (there && rest)
     by true = others
     by false = refl
-first_edit c (Del n) refusals last rest others = by (is_some (lookup_record c n))
+first_edit c (Head e) refusals last rest others = others
+first_edit c (Del n) refusals last rest others = by (is_some (listed_record c n))
   where
     by : (there : Bool) → is_taken (first_or (cons_option (if there then None else Some (DelMissing n)) refusals) last) ≡ (there && rest)
     by true = others
@@ -50,14 +53,22 @@ taken_by_edits c (edit ∷ edits) last =
 within_or_above : (a b : ℕ) → not (nat_lt a b) ≡ nat_le b a
 within_or_above a b = grind (arith, nat_tests)
 
-taken_by_size : (d : Cell) → is_taken (size_refusal d) ≡ nat_le (length (all_records d)) record_limit
-taken_by_size d = by (nat_lt record_limit (length (all_records d))) (nat_lt finding_limit (finding_total d)) ∙ within_or_above record_limit (length (all_records d))
+taken_by_size : (c : Cell) (edits : List Edit) → is_taken (size_refusal c edits) ≡ (nat_le (length (all_records (apply_edits edits c))) record_limit && not (leave_a_long_head edits c))
+taken_by_size c edits =
+    by (nat_lt record_limit records) (leave_a_long_head edits c) (nat_lt finding_limit (finding_total (apply_edits edits c)))
+    ∙ ap (λ b. b && not (leave_a_long_head edits c)) (within_or_above record_limit records)
   where
-    by : (full many : Bool) → is_taken (if full then Some (CellFull (length (all_records d))) else (if many then Some FindingsFull else None)) ≡ not full
-    by true many = refl
-    by false true = refl
-    by false false = refl
+    records : ℕ
+    records = length (all_records (apply_edits edits c))
+
+    bytes : ℕ
+    bytes = identification_length (head_after edits c.head)
+
+    by : (full long many : Bool) → is_taken (if full then Some (CellFull records) else (if long then Some (HeadTooLong bytes) else (if many then Some FindingsFull else None))) ≡ (not full && not long)
+    by true long many = refl
+    by false true many = refl
+    by false false true = refl
+    by false false false = refl
 
 pub refusals_are_exact : RefusalsAreExact
-refusals_are_exact c edits =
-    taken_by_edits c edits (size_refusal (apply_edits edits c)) ∙ ap (λ b. list_all (has_its_record c) edits && b) (taken_by_size (apply_edits edits c))
+refusals_are_exact c edits = taken_by_edits c edits (size_refusal c edits) ∙ ap (λ b. find_their_records edits c && b) (taken_by_size c edits)

@@ -1,6 +1,6 @@
 //! Each law is the contract of a function that does nothing.
 
-ghost use Rattle.edit_laws.specs.KeptWritable.{EditsKeepWritable, RefusalsAreExact, RunsLeaveWritable};
+ghost use Rattle.edit_laws.specs.KeptWritable.{EditsKeepWritable, RefusalsAreExact, RunsLeaveWritable, TakenEditsHaveLines};
 ghost use Rattle.edit_laws.specs.ReadBackAfterRuns.{EditsKeepTypes, RunsAreReadBack};
 
 use file_spec::round_trip;
@@ -10,7 +10,12 @@ pub fn edits_keep_a_cell_writable()
     ensures { EditsKeepWritable }
 {}
 
-/// A cell takes exactly the edits that it doesn't refuse because of a record that is there or is missing, or because it is full.
+/// Edits that a writable cell takes each have a line: they leave records that can be written, and delete no head.
+pub fn taken_edits_have_lines()
+    ensures { TakenEditsHaveLines }
+{}
+
+/// A cell takes exactly the edits that it doesn't refuse because of a record that is there or is missing, because it is full, or because its head is too long.
 pub fn refusals_tell_what_a_cell_takes()
     ensures { RefusalsAreExact }
 {}

@@ -1,1 +1,4 @@
 pub mod FormFault
+pub mod Counts
+pub mod Places
+pub mod Parts

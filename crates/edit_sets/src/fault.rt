@@ -1,11 +1,11 @@
-//! Why a list of edits is no edit set.
+//! Why edits and guards are no edit set.
 
 ghost use Rattle.std.specs.Prelude.{◌≡◌};
 
 use s57_types::Unfit;
 use std::alloc::AllocError;
 
-/// What is wrong with the form of a list of edits. Places count from 1.
+/// What is wrong with the form of edits and guards. Places count from 1.
 #[derive(Clone, Copy, Debug, PartialEq, Eq)]
 pub enum FormFault {
     /// There is no edit.
@@ -14,8 +14,10 @@ pub enum FormFault {
     TooMany(u32),
     /// The edit at this place has the name of an earlier one.
     Twice(u32),
-    /// The record of the edit at this place can't be written.
+    /// What the edit at this place leaves can't be written.
     Unfit(u32, Unfit),
+    /// There are so many guards, over 4,096.
+    TooManyGuards(u32),
 }
 
 /// Why no edit set was made.

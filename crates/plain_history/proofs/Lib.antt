@@ -1,4 +1,5 @@
-mod Firsts
-mod WritableEdits
 mod Bases
+mod Contested
+mod Firsts
 mod StepStates
+mod WritableEdits

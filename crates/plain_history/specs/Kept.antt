@@ -1,7 +1,8 @@
 -- A history as it is kept. This project's own.
-use Rattle.std.specs.Prelude.{◌≡◌, ℕ, List, slice_index_or, length}
+use Rattle.std.specs.Prelude.{◌≡◌, ℕ, true, List, slice_index_or, length, All}
 use Rattle.s57_types.specs.declared.cell.Cell.{Cell}
 use Rattle.cell_spec.specs.Writable.{IsWritable}
+use Rattle.text_spec.specs.EditLine.{has_line}
 use Rattle.history_spec.specs.declared.reply.Reply.{Reply}
 use Rattle.history_spec.specs.declared.reply.Reply.TheVariants.{Viewed, Formed, Newer, Refused, Accepted}
 use Rattle.history_spec.specs.Sessions.{Request, request_step}
@@ -26,10 +27,15 @@ pub record KeptHistory : Type 0 where
 abbrev pub state_of : KeptHistory → History
 state_of kept = record { cell = kept.cell; commits = kept.commits; bases = base_of kept.bases }
 
--- the cell can be written, these are its findings, and each desk has a base
-pub record IsKept (c : Cell) (findings : List SubjectFinding) (bases : List ℕ) : Type 0 where
+-- each edit of an accepted commit has a line
+abbrev pub HaveLines : AcceptedCommit → Type 0
+HaveLines accepted = All (λ edit. has_line edit ≡ true) accepted.edits
+
+-- the cell can be written, these are its findings, each edit of a commit has a line, and each desk has a base
+pub record IsKept (c : Cell) (findings : List SubjectFinding) (commits : List AcceptedCommit) (bases : List ℕ) : Type 0 where
   pub writable : IsWritable c
   pub findings_are : IsAllOf c finding_limit findings
+  pub lines_are : All HaveLines commits
   pub bases_are : length bases ≡ 17
 
 -- the answer tells of a newer commit

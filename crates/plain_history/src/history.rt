@@ -1,13 +1,15 @@
 //! The state of the editing history, and its steps.
 
-ghost use Rattle.std.specs.Prelude.{◌≡◌, ◌+◌, ◌≤◌, ◌<◌, ◌^◌, IfOk, OnErr, length};
+ghost use Rattle.std.specs.Prelude.{◌≡◌, ◌+◌, ◌≤◌, ◌<◌, ◌^◌, true, All, IfOk, OnErr, length};
 ghost use Rattle.history_spec.specs.Sessions.{see, offer as spec_offer};
 ghost use Rattle.history_spec.specs.Steps.{commit as spec_commit, finding_limit, opening, with_commit};
+ghost use Rattle.text_spec.specs.EditLine.{has_line};
+ghost use Rattle.cell_spec.specs.declared.edit.Edit.{Edit as SpecEdit};
 ghost use Rattle.rule_spec.specs.Findings.{finding_total};
 ghost use Rattle.cell_spec.specs.Edits.{apply_edits};
 ghost use Rattle.cell_spec.specs.Writable.{IsWritable};
 ghost use Rattle.cell_findings.specs.AllFindings.{IsAllOf};
-ghost use Rattle.plain_history.specs.Kept.{IsAnswered, IsStep, base_of, desk_limit, state_of};
+ghost use Rattle.plain_history.specs.Kept.{HaveLines, IsAnswered, IsStep, base_of, desk_limit, state_of};
 
 use crate::accepted::Accepted;
 use crate::count::narrow;
@@ -17,7 +19,7 @@ use cell_findings::Findings;
 use cell_spec::Edit;
 use edit_sets::{EditSet, FormRefusal};
 use history_spec::Reply;
-use s57_types::{Cell, Items};
+use s57_types::{Cell, Items, RecName};
 use std::alloc::{AllocError, Global};
 use std::marker::Model;
 
@@ -42,7 +44,7 @@ impl Model for History {
 
     ghost view = { λ h. record { cell = h.cell; commits = h.commits; bases = h.bases } };
 
-    ghost invariant = { λ h. IsKept h.cell h.findings h.bases };
+    ghost invariant = { λ h. IsKept h.cell h.findings h.commits h.bases };
 }
 
 impl History {
@@ -82,9 +84,10 @@ impl History {
         &self.findings
     }
 
-    /// The accepted commits in their order.
+    /// The accepted commits in their order. Each of their edits has a line.
     pub fn commits(&self) -> &[Accepted]
-        ensures { result.now ≡ self.now.commits }
+        ensures same { result.now ≡ self.now.commits }
+        ensures lines { All HaveLines result.now }
     {
         self.commits.as_slice()
     }
@@ -103,16 +106,23 @@ impl History {
         Ok(Reply::Viewed { number, findings })
     }
 
-    /// Commits a draft of a desk on the desk's base, unless it has a fault of form.
+    /// Commits a desk's draft of edits and guards on the desk's base, unless it has a fault of form.
     ///
     /// An `Err` is want of memory; nothing is changed then.
-    pub fn offer(&mut self, alloc: Global, desk: u32, draft: &[Edit]) -> Result<Reply, AllocError>
+    pub fn offer(
+        &mut self,
+        alloc: Global,
+        desk: u32,
+        edits: &[Edit],
+        guards: &[RecName],
+    ) -> Result<Reply, AllocError>
         requires desk { desk ≤ desk_limit }
-        requires few { length draft.now < 2 ^ 32 }
-        ensures ok { IfOk result (λ reply. IsAnswered (state_of self.old) desk (spec_offer draft.now) reply (state_of self.new)) }
+        requires few_edits { length edits.now < 2 ^ 32 }
+        requires few_guards { length guards.now < 2 ^ 32 }
+        ensures ok { IfOk result (λ reply. IsAnswered (state_of self.old) desk (spec_offer edits.now guards.now) reply (state_of self.new)) }
         ensures err { OnErr result (self.new ≡ self.old) }
     {
-        match EditSet::make(alloc, draft, self.cell.head.nall) {
+        match EditSet::make(alloc, edits, guards, self.cell.head.nall) {
             Ok(set) => self.commit(alloc, desk, set),
             Err(FormRefusal::Fault(fault)) => Ok(Reply::Formed(fault)),
             Err(FormRefusal::NoMemory) => Err(AllocError),
@@ -123,11 +133,11 @@ impl History {
     fn commit(&mut self, alloc: Global, desk: u32, set: EditSet) -> Result<Reply, AllocError>
         requires desk { desk ≤ desk_limit }
         requires level { set.nall ≡ self.old.cell.head.nall }
-        ensures ok { IfOk result (λ reply. IsStep (state_of self.old) desk (spec_commit (base_of self.old.bases desk) set.edits) reply (state_of self.new)) }
+        ensures ok { IfOk result (λ reply. IsStep (state_of self.old) desk (spec_commit (base_of self.old.bases desk) set.edits set.guards) reply (state_of self.new)) }
         ensures err { OnErr result (self.new ≡ self.old) }
     {
         let base = self.bases[desk as usize];
-        if let Some(reply) = newer_answer(alloc, self.commits.as_slice(), base, set.edits())? {
+        if let Some(reply) = newer_answer(alloc, self.commits.as_slice(), base, &set)? {
             return Ok(reply);
         }
         match try_edits(alloc, &self.cell, &set)? {
@@ -148,6 +158,7 @@ impl History {
         requires edited { cell ≡ apply_edits set.edits self.old.cell }
         requires writable { IsWritable cell }
         requires findings { IsAllOf cell finding_limit findings }
+        requires lines { All (λ (edit : SpecEdit). has_line edit ≡ true) set.edits }
         ensures ok { IfOk result (λ reply. (reply ≡ Reply.Accepted (length self.old.commits + 1) (finding_total cell)) × (state_of self.new ≡ with_commit desk set.edits (state_of self.old))) }
         ensures err { OnErr result (self.new ≡ self.old) }
     {

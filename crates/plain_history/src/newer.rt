@@ -1,77 +1,60 @@
 //! The clash of a commit with a newer one.
 
-ghost use Rattle.std.specs.Prelude.{◌≡◌, ◌+◌, ◌<◌, ◌^◌, ◌++◌, ◌∷◌, [], IfOk, IfSome, OnOk, filter, filter_map, length};
+ghost use Rattle.std.specs.Prelude.{◌≡◌, ◌+◌, ◌<◌, ◌^◌, IfOk, IfSome, filter_map, find, length};
 ghost use Rattle.std.specs.List.{enumerate_from, list_any};
-ghost use Rattle.std.specs.Option.{option_copied};
+ghost use Rattle.cell_spec.specs.Ascending.{ascending};
 ghost use Rattle.cell_spec.specs.Edits.{name_of_edit};
-ghost use Rattle.cell_spec.specs.Names.{same_name};
-ghost use Rattle.history_spec.specs.Steps.{clash_with as spec_clash_with, edit_named as spec_edit_named, first_of, newer_answer as spec_newer_answer, shared_names as spec_shared_names};
+ghost use Rattle.cell_spec.specs.Names.{name_order, same_name};
+ghost use Rattle.history_spec.specs.Steps.{clash_with as spec_clash_with, contested_names, first_of, newer_answer as spec_newer_answer};
 ghost use Rattle.plain_history.specs.Kept.{IsNewer};
 
 use crate::accepted::Accepted;
 use crate::count::narrow;
-use cell_spec::Edit;
+use edit_sets::EditSet;
 use history_spec::Reply;
-use plain_lookups::ascending_names;
 use s57_types::{Duplicate, RecName};
 use std::alloc::{AllocError, Global};
 
-fn is_named(edits: &[Edit], name: RecName) -> bool
-    ensures { result ≡ list_any (λ edit. same_name name (name_of_edit edit)) edits.now }
+/// Whether one of the edits of a set has a name.
+fn has_edit_of(set: &EditSet, name: RecName) -> bool
+    ensures { result ≡ list_any (λ edit. same_name name (name_of_edit edit)) set.now.edits }
 {
-    edits.iter().any(|edit| name == edit.name())
+    set.find(name).is_some()
 }
 
-fn edit_named(edits: &[Edit], name: RecName) -> Option<&Edit>
-    ensures { option_copied result ≡ spec_edit_named name edits.now }
+/// The first of some names that a set edits.
+fn first_edited(names: &[RecName], set: &EditSet) -> Option<RecName>
+    ensures { result ≡ find (λ name. list_any (λ edit. same_name name (name_of_edit edit)) set.now.edits) names.now }
 {
-    edits.iter().find(|edit| name == edit.name())
-}
-
-/// Appends a name, if one of the edits has it too.
-fn push_shared(names: &mut Vec<RecName>, name: RecName, others: &[Edit]) -> Result<(), AllocError>
-    ensures { OnOk result (names.new.items ≡ names.old.items ++ filter (λ n. list_any (λ other. same_name n (name_of_edit other)) others.now) (name ∷ [])) }
-{
-    if is_named(others, name) {
-        names.push(name)?;
+    for name in names {
+        if has_edit_of(set, *name) {
+            return Some(*name);
+        }
     }
-    Ok(())
+    None
 }
 
-/// The names that both of two lists of edits have.
-fn shared_names(alloc: Global, edits: &[Edit], others: &[Edit]) -> Result<Vec<RecName>, AllocError>
-    ensures { IfOk result (λ names. names.items ≡ spec_shared_names edits.now others.now) }
+/// The least name that a set edits or guards and that another set edits.
+fn least_contested(set: &EditSet, other: &EditSet) -> Option<RecName>
+    ensures { result ≡ first_of (ascending name_order (contested_names set.now.edits set.now.guards other.now.edits)) }
 {
-    let mut names = Vec::new(alloc);
-    for edit in edits {
-        push_shared(&mut names, edit.name(), others)?;
-    }
-    Ok(names)
+    first_edited(set.claims(), other)
 }
 
-#[tactic(auto, using(crate::proofs::Firsts::first_at_zero))]
-fn first_name(names: &[RecName]) -> Option<RecName>
-    ensures { result ≡ first_of names.now }
-{
-    names.first().copied()
-}
-
-/// The answer where an accepted commit names a record that the edits name: the least such name, and the edit of it.
+/// The answer where an accepted commit edits what the set edits or guards: the least such name, and the edit of it.
 fn clash_with(
     alloc: Global,
-    edits: &[Edit],
+    set: &EditSet,
     number: u32,
     accepted: &Accepted,
 ) -> Result<Option<Reply>, AllocError>
-    ensures same { IfOk result (λ reply. reply ≡ spec_clash_with edits.now (number, accepted.now)) }
+    ensures same { IfOk result (λ reply. reply ≡ spec_clash_with set.now.edits set.now.guards (number, accepted.now)) }
     ensures newer { IfOk result (λ reply. IfSome reply IsNewer) }
 {
-    let shared = shared_names(alloc, edits, accepted.edits())?;
-    let names = ascending_names(alloc, &shared)?;
-    let Some(name) = first_name(names.as_slice()) else {
+    let Some(name) = least_contested(set, accepted.set()) else {
         return Ok(None);
     };
-    let Some(edit) = edit_named(accepted.edits(), name) else {
+    let Some(edit) = accepted.set().find(name) else {
         return Ok(None);
     };
     let edit = edit.copy(alloc)?;
@@ -86,24 +69,24 @@ fn clash_with(
 /// The first clash with commits that come after so many.
 fn first_clash(
     alloc: Global,
-    edits: &[Edit],
+    set: &EditSet,
     before: u32,
     newer: &[Accepted],
 ) -> Result<Option<Reply>, AllocError>
     requires { before + length newer.now < 2 ^ 32 }
-    ensures same { IfOk result (λ reply. reply ≡ first_of (filter_map (spec_clash_with edits.now) (enumerate_from (before + 1) newer.now))) }
+    ensures same { IfOk result (λ reply. reply ≡ first_of (filter_map (spec_clash_with set.now.edits set.now.guards) (enumerate_from (before + 1) newer.now))) }
     ensures newer { IfOk result (λ reply. IfSome reply IsNewer) }
 {
     for (k, accepted) in newer.iter().enumerate() {
-        if let Some(reply) = clash_with(alloc, edits, before + k as u32 + 1, accepted)? {
+        if let Some(reply) = clash_with(alloc, set, before + k as u32 + 1, accepted)? {
             return Ok(Some(reply));
         }
     }
     Ok(None)
 }
 
-/// The answer where an accepted commit above the base names a record that the edits name: the one with the least
-/// number, counted from 1, and the least such name in it.
+/// The answer where an accepted commit above the base edits what the set edits or guards: the one with the least number,
+/// counted from 1, and the least such name in it.
 ///
 /// An `Err` is want of memory.
 #[tactic(auto, using(crate::proofs::Firsts::numbered_from))]
@@ -111,13 +94,13 @@ pub fn newer_answer(
     alloc: Global,
     commits: &[Accepted],
     base: u32,
-    edits: &[Edit],
+    set: &EditSet,
 ) -> Result<Option<Reply>, AllocError>
-    ensures same { IfOk result (λ reply. reply ≡ spec_newer_answer commits.now base edits.now) }
+    ensures same { IfOk result (λ reply. reply ≡ spec_newer_answer commits.now base set.now.edits set.now.guards) }
     ensures newer { IfOk result (λ reply. IfSome reply IsNewer) }
 {
     let number = narrow(commits.len())?;
     let before = base.min(number);
     let (_, newer) = commits.split_at(before as usize);
-    first_clash(alloc, edits, before, newer)
+    first_clash(alloc, set, before, newer)
 }

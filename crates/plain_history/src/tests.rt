@@ -65,11 +65,27 @@ fn empty_cell(alloc: Global) -> Cell {
     }
 }
 
+/// A set of these edits.
 fn set(alloc: Global, edits: &[Edit]) -> Result<EditSet, FormRefusal> {
     if edits.len() > 9 {
         return Err(FormRefusal::NoMemory);
     }
-    EditSet::make(alloc, edits, 0)
+    EditSet::make(alloc, edits, &[], 0)
+}
+
+/// The number, name and desk of a clash.
+fn clash(reply: Option<Reply>) -> Option<(u32, RecName, u32)> {
+    match reply {
+        Some(
+            Reply::Newer {
+                number,
+                name,
+                desk,
+                ..
+            },
+        ) => Some((number, name, desk)),
+        _ => None,
+    }
 }
 
 #[test]
@@ -78,7 +94,7 @@ fn an_added_record_goes_last(rt: HostRuntime) -> Result<(), Fail> {
     let mut cell = empty_cell(alloc);
     cell.vc.push(node(alloc, 5))?;
     cell.vc.push(node(alloc, 2))?;
-    let edits = [Edit::Add(node(alloc, 1)), Edit::Del(name(5))];
+    let edits = set(alloc, &[Edit::Add(node(alloc, 1)), Edit::Del(name(5))])?;
     let edited = apply_edits(alloc, &cell, &edits)?;
     let nodes = edited.vc.as_slice();
     assert_eq!(rt; nodes.len(), 2);
@@ -94,19 +110,9 @@ fn a_commit_clashes_with_the_first_newer_one(rt: HostRuntime) -> Result<(), Fail
     commits.push(Accepted::make(7, first))?;
     let second = set(alloc, &[Edit::Del(name(3))])?;
     commits.push(Accepted::make(8, second))?;
-    let edits = [Edit::Del(name(3)), Edit::Del(name(1))];
-    let clash = match newer_answer(alloc, &commits, 0, &edits)? {
-        Some(
-            Reply::Newer {
-                number,
-                name,
-                desk,
-                ..
-            },
-        ) => Some((number, name, desk)),
-        _ => None,
-    };
-    assert_eq!(rt; clash, Some((1, name(1), 7)));
+    let edits = set(alloc, &[Edit::Del(name(3)), Edit::Del(name(1))])?;
+    let told = clash(newer_answer(alloc, &commits, 0, &edits)?);
+    assert_eq!(rt; told, Some((1, name(1), 7)));
     assert!(rt; newer_answer(alloc, &commits, 2, &edits)?.is_none());
     Ok(())
 }

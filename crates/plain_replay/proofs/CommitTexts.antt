@@ -11,7 +11,7 @@ use Rattle.std.proofs.Math.Seq.{drop-append_seam}
 use Rattle.s57_types.specs.declared.cell.Cell.{Cell}
 use Rattle.s57_types.specs.declared.name.RecName.{RecName}
 use Rattle.cell_spec.specs.Ascending.{ascending}
-use Rattle.cell_spec.specs.Edits.{apply_edits}
+use Rattle.cell_spec.specs.Edits.{apply_edits, edit_of}
 use Rattle.cell_spec.specs.Names.{name_order}
 use Rattle.cell_spec.specs.declared.edit.Edit.{Edit}
 use Rattle.rule_spec.specs.Findings.{finding_total}
@@ -19,7 +19,7 @@ use Rattle.text_spec.specs.EditLine.{edit_line}
 use Rattle.text_spec.specs.Lines.{line}
 use Rattle.history_spec.specs.ReportText.{base_after, commit_text}
 use Rattle.history_spec.specs.Sessions.{Request as Asked, request_step, event_of}
-use Rattle.history_spec.specs.Steps.{AcceptedCommit, Event, History, answer, cell_after, clash_with, commit, edit_named, faulty, first_of, left_after, newer_answer, shared_names, state_refusal, view}
+use Rattle.history_spec.specs.Steps.{AcceptedCommit, Event, History, answer, cell_after, clash_with, commit, contested_names, faulty, first_of, left_after, newer_answer, state_refusal, view}
 use Rattle.history_spec.specs.declared.refusal.StateRefusal.{StateRefusal}
 use Rattle.history_spec.specs.declared.reply.Reply.{Reply}
 use Rattle.history_spec.specs.declared.reply.Reply.TheVariants.{Viewed, Formed, Newer, Refused, Accepted}
@@ -27,9 +27,9 @@ use Rattle.plain_history.specs.Kept.{IsNewer}
 use Rattle.plain_replay.specs.Runs.{accepted_seen, accepted_text, commit_texts}
 
 -- ---- a clash is told by a newer commit
-clash_by : (number desk : ℕ) (edits : List Edit) (first : Option RecName) → IfSome (option_and_then (λ n. option_map (Newer number n desk) (edit_named n edits)) first) IsNewer
+clash_by : (number desk : ℕ) (edits : List Edit) (first : Option RecName) → IfSome (option_and_then (λ n. option_map (Newer number n desk) (edit_of n edits)) first) IsNewer
 clash_by number desk edits None = tt
-clash_by number desk edits (Some n) = named (edit_named n edits)
+clash_by number desk edits (Some n) = named (edit_of n edits)
   where
     named : (found : Option Edit) → IfSome (option_map (Newer number n desk) found) IsNewer
     named None = tt
@@ -39,11 +39,11 @@ first_by : (xs : List Reply) (o : Option Reply) → IfSome o IsNewer → IfSome 
 first_by xs None here later = later
 first_by xs (Some reply) here later = here
 
-first_newer : (edits : List Edit) (commits : List (ℕ × AcceptedCommit)) → IfSome (first_of (filter_map (clash_with edits) commits)) IsNewer
-first_newer edits [] = tt
-first_newer edits (told ∷ commits) =
-    first_by (filter_map (clash_with edits) commits) (clash_with edits told)
-    (clash_by told.0 told.1.desk told.1.edits (first_of (ascending name_order (shared_names edits told.1.edits)))) (first_newer edits commits)
+first_newer : (edits : List Edit) (guards : List RecName) (commits : List (ℕ × AcceptedCommit)) → IfSome (first_of (filter_map (clash_with edits guards) commits)) IsNewer
+first_newer edits guards [] = tt
+first_newer edits guards (told ∷ commits) =
+    first_by (filter_map (clash_with edits guards) commits) (clash_with edits guards told)
+    (clash_by told.0 told.1.desk told.1.edits (first_of (ascending name_order (contested_names edits guards told.1.edits)))) (first_newer edits guards commits)
 
 -- ---- the cell after so many commits
 cell_before : (commits : List AcceptedCommit) (accepted : AcceptedCommit) (c : Cell) (n : ℕ) → n ≤ length commits → cell_after n (commits ++ (accepted ∷ [])) c ≡ cell_after n commits c
@@ -117,15 +117,15 @@ pub record IsGrown (c : Cell) (h after : History) (reply : Reply) : Type 0 where
   pub count : (limit : ℕ) (d : Cell) → length after.commits ≡ length h.commits + length (accepted_seen limit d reply)
   pub base : base_after reply 0 ≤ length after.commits
 
-by_answers : (c : Cell) (h : History) → IsOn c h → (desk base : ℕ) (edits : List Edit) (newer : Option Reply) (refusal : Option StateRefusal) → IfSome newer IsNewer
-    → (let reply = option_map_or (λ r. r) newer (option_map_or Refused refusal (Accepted (length h.commits + 1) (finding_total (apply_edits edits h.cell)))) in IsGrown c h (left_after desk (commit base edits) reply h) reply)
-by_answers c h on desk base edits (Some (Viewed number findings)) refusal is = absurd is
-by_answers c h on desk base edits (Some (Formed fault)) refusal is = absurd is
-by_answers c h on desk base edits (Some (Newer number name other edit)) refusal is = record { texts = sym (append-nil (commit_texts c h.commits)); on = on; kept = λ n within. refl; count = λ limit d. omega arith; base = omega arith }
-by_answers c h on desk base edits (Some (Refused reason)) refusal is = absurd is
-by_answers c h on desk base edits (Some (Accepted number findings)) refusal is = absurd is
-by_answers c h on desk base edits None (Some refusal) is = record { texts = sym (append-nil (commit_texts c h.commits)); on = on; kept = λ n within. refl; count = λ limit d. omega arith; base = omega arith }
-by_answers c h on desk base edits None None is =
+by_answers : (c : Cell) (h : History) → IsOn c h → (desk base : ℕ) (edits : List Edit) (guards : List RecName) (newer : Option Reply) (refusal : Option StateRefusal) → IfSome newer IsNewer
+    → (let reply = option_map_or (λ r. r) newer (option_map_or Refused refusal (Accepted (length h.commits + 1) (finding_total (apply_edits edits h.cell)))) in IsGrown c h (left_after desk (commit base edits guards) reply h) reply)
+by_answers c h on desk base edits guards (Some (Viewed number findings)) refusal is = absurd is
+by_answers c h on desk base edits guards (Some (Formed fault)) refusal is = absurd is
+by_answers c h on desk base edits guards (Some (Newer number name other edit)) refusal is = record { texts = sym (append-nil (commit_texts c h.commits)); on = on; kept = λ n within. refl; count = λ limit d. omega arith; base = omega arith }
+by_answers c h on desk base edits guards (Some (Refused reason)) refusal is = absurd is
+by_answers c h on desk base edits guards (Some (Accepted number findings)) refusal is = absurd is
+by_answers c h on desk base edits guards None (Some refusal) is = record { texts = sym (append-nil (commit_texts c h.commits)); on = on; kept = λ n within. refl; count = λ limit d. omega arith; base = omega arith }
+by_answers c h on desk base edits guards None None is =
     let all : length (h.commits ++ (accepted c h on desk edits ∷ [])) ≡ length h.commits + 1 = length-append h.commits (accepted c h on desk edits ∷ []) in
     record {
       texts = taken_texts c h on desk edits;
@@ -138,8 +138,8 @@ by_answers c h on desk base edits None None is =
 by_event : (c : Cell) (h : History) → IsOn c h → (desk : ℕ) (event : Event) → IsGrown c h (left_after desk event (answer h event) h) (answer h event)
 by_event c h on desk view = record { texts = sym (append-nil (commit_texts c h.commits)); on = on; kept = λ n within. refl; count = λ limit d. omega arith; base = omega arith }
 by_event c h on desk (faulty fault) = record { texts = sym (append-nil (commit_texts c h.commits)); on = on; kept = λ n within. refl; count = λ limit d. omega arith; base = omega arith }
-by_event c h on desk (commit base edits) =
-    by_answers c h on desk base edits (newer_answer h.commits base edits) (state_refusal h.cell edits) (first_newer edits (drop base (enumerate_from 1 h.commits)))
+by_event c h on desk (commit base edits guards) =
+    by_answers c h on desk base edits guards (newer_answer h.commits base edits guards) (state_refusal h.cell edits) (first_newer edits guards (drop base (enumerate_from 1 h.commits)))
 
 pub grown : (c : Cell) (h : History) → IsOn c h → (told : ℕ × Asked) → IsGrown c h (request_step h told).1 (request_step h told).0
 grown c h on told = by_event c h on told.0 (event_of h.cell.head.nall (h.bases told.0) told.1)

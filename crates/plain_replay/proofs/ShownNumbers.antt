@@ -3,7 +3,7 @@ use Rattle.std.proofs.Common.{◌≡◌, ℕ, ◌<◌, ◌≤◌, ◌==◌, ◌+
 use Rattle.std.proofs.lemmas.List.{take_more}
 use Rattle.std.proofs.lemmas.List.Elements.{All-filter, All-map, All-push}
 use Rattle.text_spec.specs.declared.command.Command.{Command}
-use Rattle.text_spec.specs.declared.command.Command.TheVariants.{View, Commit, Drop, List as Findings, Push}
+use Rattle.text_spec.specs.declared.command.Command.TheVariants.{View, Commit, Drop, List as Findings, Push, Guard}
 use Rattle.history_spec.specs.Sessions.{replies_to}
 use Rattle.history_spec.specs.declared.reply.Reply.{Reply}
 use Rattle.report_text.specs.SeenFindings.{ShowsAtMost}
@@ -15,6 +15,7 @@ shows_within limit most Commit within shows = tt
 shows_within limit most Drop within shows = tt
 shows_within limit most (Findings shown) within shows = omega (arith, within, shows)
 shows_within limit most (Push edit) within shows = tt
+shows_within limit most (Guard name) within shows = tt
 
 pub all_within : (limit most : ℕ) (commands : List Command) → limit ≤ most → All (ShowsAtMost limit) commands → All (ShowsAtMost most) commands
 all_within limit most commands within all = λ k d inside. shows_within limit most _ within (all k d inside)

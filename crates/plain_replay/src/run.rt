@@ -12,7 +12,7 @@ ghost use Rattle.plain_replay.specs.Runs.{AreCounts, IsRun, accepted_seen, accep
 use crate::request::Request;
 use history_spec::Reply;
 use plain_history::History;
-use report_text::{Seen, known_lines, push_commit};
+use report_text::{Seen, push_commit};
 use std::alloc::{AllocError, Global};
 
 /// What a run has come to: the history, the replies with their sessions, the lines of the accepted commits, and what may
@@ -39,7 +39,12 @@ fn answer(
 {
     match request {
         Request::See => history.view(session),
-        Request::Offer(draft) => history.offer(alloc, session, draft.as_slice()),
+        Request::Offer(draft) => history.offer(
+            alloc,
+            session,
+            draft.edits.as_slice(),
+            draft.guards.as_slice(),
+        ),
     }
 }
 
@@ -58,7 +63,6 @@ fn push_accepted(
     let Some(accepted) = history.commits().last() else {
         return Ok(());
     };
-    known_lines(accepted.set());
     push_commit(
         alloc,
         out,

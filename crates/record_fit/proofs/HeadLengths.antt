@@ -7,9 +7,9 @@ use Rattle.s57_types.specs.RecordFields.{number_field, field_of, length_limit}
 use Rattle.s57_types.specs.declared.field.Dsid.{Dsid}
 use Rattle.s57_types.specs.declared.field.Dssi.{Dssi}
 use Rattle.s57_types.specs.declared.field.Dspm.{Dspm}
-use Rattle.record_fit.specs.Lengths.{saturated, is_within_limit}
+use Rattle.record_fit.specs.Lengths.{saturated, present, is_within_limit}
 use Rattle.record_fit.proofs.PresentFields.{present-some}
-use Rattle.record_fit.proofs.RecordLengths.{within_limit-saturated}
+use Rattle.record_fit.proofs.RecordLengths.{limit-saturated, length-saturated, within_limit-saturated}
 
 -- numbers of 11 bytes, six texts and three fixed texts
 pub dsid_length : (d : Dsid) → length (row_bytes (dsid_row d))
@@ -29,15 +29,21 @@ dssi_length s eight =
     let more = counts_length s.counts in
     length-append (row_bytes (dssi_row s)) (field_terminator ∷ []) ∙ omega (arith, more, eight)
 
+pub identification_is_counted : (d : Dsid) (s : Dssi) (field : ℕ) → length s.counts ≡ 8 → field ≡ saturated (length (row_bytes (dsid_row d)) + 1)
+    → saturated (record_length (present (3 ∷ field ∷ 36 ∷ []))) ≡ saturated (record_length (field_lengths (number_field 0 ∷ field_of (codes "DSID") (dsid_row d) ∷ field_of (codes "DSSI") (dssi_row s) ∷ [])))
+identification_is_counted d s field eight counted =
+    let row = row_bytes (dsid_row d) in
+    ap (λ n. saturated (record_length (present (3 ∷ n ∷ 36 ∷ [])))) counted
+    ∙ length-saturated (3 ∷ (length row + 1) ∷ 36 ∷ [])
+    ∙ ap (λ ns. saturated (record_length (3 ∷ ns))) (present-some (length row + 1) (36 ∷ []) (omega arith))
+    ∙ sym (ap (λ n. saturated (record_length (3 ∷ n ∷ 36 ∷ []))) (length-append row (field_terminator ∷ [])))
+    ∙ sym (ap (λ n. saturated (record_length (3 ∷ length (row ++ (field_terminator ∷ [])) ∷ n ∷ []))) (dssi_length s eight))
+
 pub identification_is_short : (d : Dsid) (s : Dssi) (field : ℕ) → length s.counts ≡ 8 → field ≡ saturated (length (row_bytes (dsid_row d)) + 1)
     → is_within_limit (3 ∷ field ∷ 36 ∷ []) ≡ leb (record_length (field_lengths (number_field 0 ∷ field_of (codes "DSID") (dsid_row d) ∷ field_of (codes "DSSI") (dssi_row s) ∷ []))) length_limit
 identification_is_short d s field eight counted =
-    let row = row_bytes (dsid_row d) in
-    ap (λ n. is_within_limit (3 ∷ n ∷ 36 ∷ [])) counted
-    ∙ within_limit-saturated (3 ∷ (length row + 1) ∷ 36 ∷ [])
-    ∙ ap (λ ns. leb (record_length (3 ∷ ns)) length_limit) (present-some (length row + 1) (36 ∷ []) (omega arith))
-    ∙ sym (ap (λ n. leb (record_length (3 ∷ n ∷ 36 ∷ [])) length_limit) (length-append row (field_terminator ∷ [])))
-    ∙ sym (ap (λ n. leb (record_length (3 ∷ length (row ++ (field_terminator ∷ [])) ∷ n ∷ [])) length_limit) (dssi_length s eight))
+    sym (limit-saturated (record_length (present (3 ∷ field ∷ 36 ∷ [])))) ∙ ap (λ n. leb n length_limit) (identification_is_counted d s field eight counted)
+    ∙ limit-saturated (record_length (field_lengths (number_field 0 ∷ field_of (codes "DSID") (dsid_row d) ∷ field_of (codes "DSSI") (dssi_row s) ∷ [])))
 
 pub parameters_are_short : (p : Dspm) (field : ℕ) → field ≡ saturated (length (row_bytes (dspm_row p)) + 1)
     → is_within_limit (3 ∷ field ∷ []) ≡ leb (record_length (field_lengths (number_field 0 ∷ field_of (codes "DSPM") (dspm_row p) ∷ []))) length_limit

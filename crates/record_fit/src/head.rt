@@ -5,14 +5,15 @@ ghost use Rattle.std.specs.List.{list_all};
 ghost use Rattle.frame_spec.specs.WrittenRecord.{record_length, field_lengths};
 ghost use Rattle.s57_types.specs.Subfield.{is_plain, text_of, fixed_of, row_bytes};
 ghost use Rattle.s57_types.specs.FieldRows.{dsid_row, dspm_row};
-ghost use Rattle.s57_types.specs.RecordFields.{dsid_of_head, dspm_of_head, identification_fields, parameter_fields, length_limit};
+ghost use Rattle.s57_types.specs.RecordFields.{dsid_of_head, dspm_of_head, identification_length, parameter_fields, length_limit};
+ghost use Rattle.s57_types.specs.Heads.{has_plain_texts};
 ghost use Rattle.s57_types.specs.Fitness.{is_fit_head};
 ghost use Rattle.record_fit.specs.Lengths.{saturated};
 
 use crate::head_record::{self, STRUCTURE_FIELD, fixed_texts_length, texts_length};
-use crate::length::{NUMBER_FIELD, is_within_limit};
+use crate::length::{LENGTH_LIMIT, NUMBER_FIELD, is_within_limit, record_length};
 use crate::text::is_text_plain;
-use s57_types::Head;
+use s57_types::{Head, HeadEdit};
 
 /// Whether the two head records can be written: the lexical levels AALL and NALL are in range (S-57 Part 3, 2.4), no
 /// text holds a control byte of the format, and neither record has more than 99,999 bytes.
@@ -57,9 +58,27 @@ fn are_description_texts_plain(head: &Head) -> bool
 }
 
 fn is_identification_short(head: &Head) -> bool
-    ensures { result ≡ nat_le (record_length (field_lengths (identification_fields 0 head.now (0 ∷ 0 ∷ 0 ∷ 0 ∷ 0 ∷ 0 ∷ 0 ∷ 0 ∷ [])))) length_limit }
+    ensures { result ≡ nat_le (identification_length head.now) length_limit }
 {
-    is_within_limit(&[NUMBER_FIELD, identification_length(head), STRUCTURE_FIELD])
+    identification_record_length(head) <= LENGTH_LIMIT
+}
+
+/// How many bytes the first head record takes when it is written, or the greatest number of a machine word.
+pub fn identification_record_length(head: &Head) -> usize
+    ensures { result ≡ saturated (identification_length head.now) }
+{
+    record_length(&[NUMBER_FIELD, identification_length(head), STRUCTURE_FIELD])
+}
+
+/// Whether no text of an edit of a head holds a control byte of the format.
+pub fn has_plain_texts(edit: &HeadEdit) -> bool
+    ensures { result ≡ has_plain_texts edit.now }
+{
+    is_text_plain(edit.edtn.as_slice())
+        && is_text_plain(edit.updn.as_slice())
+        && is_text_plain(&edit.uadt)
+        && is_text_plain(&edit.isdt)
+        && is_text_plain(edit.comt.as_slice())
 }
 
 fn are_parameters_short(head: &Head) -> bool

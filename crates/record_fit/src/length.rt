@@ -1,15 +1,15 @@
 //! The length of a record when it is written.
 
 ghost use Rattle.std.specs.Prelude.{◌≡◌, ◌+◌, ◌*◌, ◌^◌, ◌<◌, ◌≤◌, ◌==◌, List, ℕ, [], ◌∷◌, ◌++◌, length, nat_le, if◌then◌else◌};
-ghost use Rattle.frame_spec.specs.WrittenRecord.{digit_count};
+ghost use Rattle.frame_spec.specs.WrittenRecord.{digit_count, record_length};
 ghost use Rattle.s57_types.specs.FieldRows.{attribute_row, partner_row};
 ghost use Rattle.s57_types.specs.RecordFields.{terminator_of, written_length, length_limit};
-ghost use Rattle.record_fit.specs.Lengths.{saturated, field_length, rows_length, is_within_limit, IsSizesOf};
+ghost use Rattle.record_fit.specs.Lengths.{saturated, present, field_length, rows_length, is_within_limit, IsSizesOf};
 
 use s57_types::{Attr, Feature, Partner, Rec, Vector};
 
 /// The greatest length of a record in bytes.
-const LENGTH_LIMIT: usize = 99_999;
+pub const LENGTH_LIMIT: usize = 99_999;
 
 /// The length of the field 0001: a number of two bytes and the field terminator.
 pub const NUMBER_FIELD: usize = 3;
@@ -21,6 +21,7 @@ pub fn is_short(rec: &Rec, nall: u8) -> bool
     match rec {
         Rec::V(vector) => is_vector_short(vector),
         Rec::F(feature) => is_feature_short(feature, nall),
+        Rec::H(_) => true,
     }
 }
 
@@ -132,6 +133,15 @@ pub fn is_within_limit(lengths: &[usize]) -> bool
     requires { length lengths.now < 100 }
     ensures { result ≡ is_within_limit lengths.now }
 {
+    record_length(lengths) <= LENGTH_LIMIT
+}
+
+/// How many bytes a record of fields of these lengths has, or the greatest number of a machine word. A length of 0 is of a field that is left
+/// out.
+pub fn record_length(lengths: &[usize]) -> usize
+    requires { length lengths.now < 100 }
+    ensures { result ≡ saturated (record_length (present lengths.now)) }
+{
     let mut sizes = Sizes {
         count: 0,
         longest: 0,
@@ -141,11 +151,8 @@ pub fn is_within_limit(lengths: &[usize]) -> bool
     for &field in lengths {
         sizes = sizes.with(field);
     }
-    if sizes.total > LENGTH_LIMIT {
-        return false;
-    }
     let entry = 4 + digit_count(sizes.longest) + digit_count(sizes.last_begins);
-    25 + sizes.count * entry + sizes.total <= LENGTH_LIMIT
+    (25 + sizes.count * entry).saturating_add(sizes.total)
 }
 
 /// How many decimal digits a number has.

@@ -9,6 +9,6 @@ mod name;
 mod text;
 
 pub use fit::fits;
-pub use head::head_fits;
+pub use head::{has_plain_texts, head_fits, identification_record_length};
 pub use head_record::{is_general_information_short, is_geographic_reference_short};
 pub use length::is_short;

@@ -25,6 +25,7 @@ pub fn has_good_texts(rec: &Rec, nall: u8) -> bool
                 && are_attributes_plain(feature.natf.as_slice(), nall)
                 && are_partners_plain(feature.partners.as_slice())
         }
+        Rec::H(_) => true,
     }
 }
 

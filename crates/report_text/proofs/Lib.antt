@@ -1,4 +1,3 @@
-mod EditLines
 mod Lines
 mod ShownFindings
 mod Steps

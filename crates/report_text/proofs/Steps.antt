@@ -6,7 +6,7 @@ use Rattle.std.proofs.lemmas.List.{append_assoc, append-nil, drop-map, get_or-ma
 use Rattle.s57_types.specs.declared.cell.Cell.{Cell}
 use Rattle.text_spec.specs.ScriptLines.{is_shared}
 use Rattle.text_spec.specs.declared.command.Command.{Command}
-use Rattle.text_spec.specs.declared.command.Command.TheVariants.{View, Commit, Drop, List as Findings, Push}
+use Rattle.text_spec.specs.declared.command.Command.TheVariants.{View, Commit, Drop, List as Findings, Push, Guard}
 use Rattle.history_spec.specs.declared.reply.Reply.{Reply}
 use Rattle.history_spec.specs.declared.reply.Reply.TheVariants.{Viewed, Formed, Newer, Refused, Accepted}
 use Rattle.history_spec.specs.ReportText.{base_after, reply_line}
@@ -36,6 +36,7 @@ drafted_after-le Commit drafted = omega arith
 drafted_after-le Drop drafted = omega arith
 drafted_after-le (Findings shown) drafted = omega arith
 drafted_after-le (Push edit) drafted = omega arith
+drafted_after-le (Guard name) drafted = omega arith
 
 -- an answer leaves the base below a number
 pub base_below : (limit base : ℕ) (reply : Reply) → base < limit → IsBaseBelow limit reply → base_after reply base < limit

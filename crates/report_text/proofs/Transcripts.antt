@@ -6,7 +6,7 @@ use Rattle.s57_types.specs.declared.cell.Cell.{Cell}
 use Rattle.text_spec.specs.Lines.{line}
 use Rattle.text_spec.specs.ScriptLines.{is_shared}
 use Rattle.text_spec.specs.declared.command.Command.{Command}
-use Rattle.text_spec.specs.declared.command.Command.TheVariants.{View, Commit, Drop, List as Findings, Push}
+use Rattle.text_spec.specs.declared.command.Command.TheVariants.{View, Commit, Drop, List as Findings, Push, Guard}
 use Rattle.history_spec.specs.declared.reply.Reply.{Reply}
 use Rattle.history_spec.specs.ReportText.{reply_line, base_after, session_text}
 use Rattle.report_text.specs.Transcript.{drafted_after, local_lines, transcript}
@@ -22,6 +22,7 @@ ended_transcript at base drafted Commit commands shared = refl
 ended_transcript at base drafted Drop commands shared = absurd (cc)
 ended_transcript at base drafted (Findings shown) commands shared = absurd (cc)
 ended_transcript at base drafted (Push edit) commands shared = absurd (cc)
+ended_transcript at base drafted (Guard name) commands shared = absurd (cc)
 
 pub shared_transcript : (at : ℕ → Cell) (base drafted : ℕ) (command : Command) (commands : List Command) (reply : Reply) (replies : List Reply) → is_shared command ≡ true
     → transcript at base drafted (command ∷ commands) (reply ∷ replies) ≡ reply_line reply ++ transcript at (base_after reply base) (drafted_after command drafted) commands replies
@@ -31,6 +32,7 @@ shared_transcript at base drafted Commit commands reply replies shared = refl
 shared_transcript at base drafted Drop commands reply replies shared = absurd (cc)
 shared_transcript at base drafted (Findings shown) commands reply replies shared = absurd (cc)
 shared_transcript at base drafted (Push edit) commands reply replies shared = absurd (cc)
+shared_transcript at base drafted (Guard name) commands reply replies shared = absurd (cc)
 
 pub local_transcript : (at : ℕ → Cell) (base drafted : ℕ) (command : Command) (commands : List Command) (replies : List Reply) → is_shared command ≡ false
     → transcript at base drafted (command ∷ commands) replies ≡ local_lines at base (drafted_after command drafted) command ++ transcript at base (drafted_after command drafted) commands replies
@@ -40,6 +42,7 @@ local_transcript at base drafted Commit commands replies local = absurd (cc)
 local_transcript at base drafted Drop commands replies local = refl
 local_transcript at base drafted (Findings shown) commands replies local = refl
 local_transcript at base drafted (Push edit) commands replies local = refl
+local_transcript at base drafted (Guard name) commands replies local = refl
 
 pub session_lines : (at : ℕ → Cell) (session : ℕ) (commands : List Command) (replies : List Reply) (start headed whole : List ℕ)
     → headed ≡ start ++ line (codes "session") (decimal session ∷ []) → whole ≡ headed ++ transcript at 0 0 commands replies → whole ≡ start ++ session_text at session commands replies

@@ -3,7 +3,7 @@ use Rattle.std.specs.Prelude.{◌≡◌, ℕ, ◌<◌, ◌≤◌, List, length, 
 use Rattle.s57_types.specs.declared.cell.Cell.{Cell}
 use Rattle.rule_spec.specs.Findings.{all_findings}
 use Rattle.text_spec.specs.declared.command.Command.{Command}
-use Rattle.text_spec.specs.declared.command.Command.TheVariants.{View, Commit, Drop, List as Findings, Push}
+use Rattle.text_spec.specs.declared.command.Command.TheVariants.{View, Commit, Drop, List as Findings, Push, Guard}
 use Rattle.cell_findings.specs.Rows.{findings_of_rows}
 use Rattle.cell_findings.specs.declared.list.SubjectFinding.{SubjectFinding}
 use Rattle.report_text.specs.declared.seen.Seen.{Seen}
@@ -27,3 +27,4 @@ ShowsAtMost limit Commit = Unit {0}
 ShowsAtMost limit Drop = Unit {0}
 ShowsAtMost limit (Findings shown) = shown ≤ limit
 ShowsAtMost limit (Push edit) = Unit {0}
+ShowsAtMost limit (Guard name) = Unit {0}

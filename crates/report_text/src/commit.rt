@@ -7,16 +7,8 @@ ghost use Rattle.text_spec.specs.EditLine.{edit_line, has_line};
 ghost use Rattle.text_spec.specs.Lines.{line};
 
 use cell_spec::Edit;
-use edit_sets::EditSet;
 use std::alloc::{AllocError, Global};
 use text_lines::{push_bytes, push_number, push_numbered, push_text, write_edit};
-
-/// Each edit of a set has a line, since its record has a name of its own sort.
-pub fn known_lines(set: &EditSet)
-    ensures { All (λ (edit : SpecEdit). has_line edit ≡ true) set.now.edits }
-{
-    set.known();
-}
 
 /// Appends the first line of an accepted commit's part.
 fn push_head(out: &mut Vec<u8>, number: u32, desk: u32, findings: u32) -> Result<(), AllocError>

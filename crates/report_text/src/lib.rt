@@ -8,7 +8,7 @@ mod reply;
 mod seen;
 mod session;
 
-pub use commit::{known_lines, push_commit};
+pub use commit::push_commit;
 pub use draft::push_draft;
 pub use order::push_order;
 pub use reply::push_reply;

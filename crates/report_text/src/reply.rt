@@ -32,6 +32,10 @@ fn push_form_words(out: &mut Vec<u8>, fault: FormFault) -> Result<(), AllocError
             push_text(out, " too many")?;
             push_number(out, count)
         }
+        FormFault::TooManyGuards(count) => {
+            push_text(out, " too many guards")?;
+            push_number(out, count)
+        }
         FormFault::Twice(place) => push_numbered(out, "twice", place),
         FormFault::Unfit(place, why) => {
             push_numbered(out, "unfit", place)?;
@@ -61,11 +65,15 @@ fn push_refusal_words(out: &mut Vec<u8>, refusal: StateRefusal) -> Result<(), Al
             push_text(out, " cell full")?;
             push_number(out, count)
         }
+        StateRefusal::HeadTooLong(bytes) => {
+            push_text(out, " head too long")?;
+            push_number(out, bytes)
+        }
         StateRefusal::FindingsFull => push_text(out, " findings full"),
     }
 }
 
-/// Appends the words of a newer commit of the same record: its number, the record's name and the desk.
+/// Appends the words of a newer commit of what this one edits or guards: its number, the name and the desk.
 fn push_newer_words(
     out: &mut Vec<u8>,
     number: u32,

@@ -29,7 +29,7 @@ fn drafted_after(command: &Command, drafted: u32) -> u32
     ensures { result ≡ drafted_after_lem command.now drafted }
 {
     match command {
-        Command::View | Command::List(_) => drafted,
+        Command::View | Command::List(_) | Command::Guard(_) => drafted,
         Command::Commit | Command::Drop => 0,
         Command::Push(_) => drafted + 1,
     }

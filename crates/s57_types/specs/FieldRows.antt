@@ -3,7 +3,7 @@
 use Rattle.std.specs.Prelude.{ℕ, List, [], ◌∷◌, ◌++◌, map, ◌==◌, if◌then◌else◌}
 use Rattle.s57_types.specs.Subfield.{Form, Subfield, signed, text, wide_text, fixed, b11, b12, b14, unsigned_of, signed_of, text_of, wide_text_of, fixed_of}
 use Rattle.s57_types.specs.declared.name.Kind.{Kind}
-use Rattle.s57_types.specs.declared.name.Kind.TheVariants.{Vi, Vc, Ve, Fe}
+use Rattle.s57_types.specs.declared.name.Kind.TheVariants.{Vi, Vc, Ve, Fe, Head}
 use Rattle.s57_types.specs.declared.name.RecName.{RecName}
 use Rattle.s57_types.specs.declared.name.Lnam.{Lnam}
 use Rattle.s57_types.specs.declared.record.Attr.{Attr}
@@ -23,6 +23,7 @@ rcnm_of Vi = 110
 rcnm_of Vc = 120
 rcnm_of Ve = 130
 rcnm_of Fe = 100
+rcnm_of Head = 10
 
 -- a text at a lexical level: one byte a character at the levels 0 and 1, two at level 2 (S-57 Part 3, 2.4)
 abbrev pub level_form : ℕ → Form

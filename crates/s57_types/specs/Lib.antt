@@ -2,3 +2,4 @@ pub mod Subfield
 pub mod FieldRows
 pub mod RecordFields
 pub mod Fitness
+pub mod Heads

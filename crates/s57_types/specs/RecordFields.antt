@@ -10,7 +10,7 @@ use Rattle.s57_types.specs.declared.head.Head.{Head}
 use Rattle.s57_types.specs.declared.record.Vector.{Vector}
 use Rattle.s57_types.specs.declared.record.Feature.{Feature}
 use Rattle.s57_types.specs.declared.record.Rec.{Rec}
-use Rattle.s57_types.specs.declared.record.Rec.TheVariants.{V, F}
+use Rattle.s57_types.specs.declared.record.Rec.TheVariants.{V, F, H}
 use Rattle.s57_types.specs.declared.field.Dsid.{Dsid}
 use Rattle.s57_types.specs.declared.field.Dssi.{Dssi}
 use Rattle.s57_types.specs.declared.field.Dspm.{Dspm}
@@ -90,13 +90,19 @@ feature_fields nall number f =
     ++ rows_field 0 (codes "ATTF") (attribute_row 0) f.attf ++ rows_field nall (codes "NATF") (attribute_row nall) f.natf
     ++ rows_field 0 (codes "FFPT") partner_row f.partners ++ rows_field 0 (codes "FSPT") place_row f.places
 
+-- a head is written as two records of its own
 abbrev pub record_fields : ℕ → ℕ → Rec → List Field
 record_fields nall number (V v) = vector_fields number v
 record_fields nall number (F f) = feature_fields nall number f
+record_fields nall number (H h) = []
 
 -- how many bytes a record takes when it is written; its number takes two bytes whatever it is
 abbrev pub written_length : ℕ → Rec → ℕ
 written_length nall rec = record_length (field_lengths (record_fields nall 0 rec))
+
+-- how many bytes the first head record takes, whatever its number and its counts are
+abbrev pub identification_length : Head → ℕ
+identification_length h = record_length (field_lengths (identification_fields 0 h (0 ∷ 0 ∷ 0 ∷ 0 ∷ 0 ∷ 0 ∷ 0 ∷ 0 ∷ [])))
 
 -- the greatest length of a record
 abbrev pub length_limit : ℕ

@@ -3,7 +3,7 @@
 ghost use Rattle.std.specs.Prelude.{◌≡◌, IfOk};
 
 use crate::cell::Cell;
-use crate::head::Head;
+use crate::head::{Head, HeadEdit};
 use crate::items::Items;
 use crate::record::{Attr, Feature, Partner, Rec, Vector};
 use std::alloc::{AllocError, Global};
@@ -83,6 +83,7 @@ impl Duplicate for Rec {
         match self {
             Rec::V(vector) => Ok(Rec::V(vector.copy(alloc)?)),
             Rec::F(feature) => Ok(Rec::F(feature.copy(alloc)?)),
+            Rec::H(head) => Ok(Rec::H(head.copy(alloc)?)),
         }
     }
 }
@@ -118,6 +119,19 @@ impl Duplicate for Head {
             comf: self.comf,
             somf: self.somf,
             dspm_comt: self.dspm_comt.copy(alloc)?,
+        })
+    }
+}
+
+impl Duplicate for HeadEdit {
+    fn copy(&self, alloc: Global) -> Result<HeadEdit, AllocError> {
+        Ok(HeadEdit {
+            edtn: self.edtn.copy(alloc)?,
+            updn: self.updn.copy(alloc)?,
+            uadt: self.uadt,
+            isdt: self.isdt,
+            aall: self.aall,
+            comt: self.comt.copy(alloc)?,
         })
     }
 }

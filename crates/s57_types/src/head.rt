@@ -1,6 +1,10 @@
-//! The head of a cell.
+//! The head of a cell, and its new values in an edit.
 
+ghost use Rattle.std.specs.Prelude.{◌≡◌};
+
+use crate::duplicate::Duplicate;
 use crate::items::Text;
+use std::alloc::{AllocError, Global};
 
 /// What the two head records of a cell say (S-57 Part 3, 7.3): the data set identification (DSID), the
 /// attribute levels of the data set structure information (DSSI) and the data set parameters (DSPM).
@@ -34,4 +38,61 @@ pub struct Head {
     pub comf: u32,
     pub somf: u32,
     pub dspm_comt: Text,
+}
+
+impl Head {
+    ghost use Rattle.s57_types.specs.Heads.{edited_head};
+    ghost use Rattle.std.specs.Prelude.{IfOk};
+
+    /// The head with the six values of an edit. All else stays.
+    ///
+    /// An `Err` is want of memory.
+    pub fn edited(&self, alloc: Global, edit: &HeadEdit) -> Result<Head, AllocError>
+        ensures { IfOk result (λ head. head ≡ edited_head edit.now self.now) }
+    {
+        Ok(Head {
+            edtn: edit.edtn.copy(alloc)?,
+            updn: edit.updn.copy(alloc)?,
+            uadt: edit.uadt,
+            isdt: edit.isdt,
+            aall: edit.aall.number(),
+            dsid_comt: edit.comt.copy(alloc)?,
+            ..self.copy(alloc)?
+        })
+    }
+}
+
+/// The lexical level of general texts (S-57 Part 3, 2.4).
+#[derive(Clone, Copy, Debug, PartialEq, Eq)]
+pub enum Level {
+    /// ASCII.
+    Zero,
+    /// ISO 8859, part 1, Latin alphabet 1.
+    One,
+}
+
+impl Level {
+    ghost use Rattle.s57_types.specs.Heads.{level_number};
+
+    /// The level as AALL has it.
+    pub fn number(self) -> u8
+        ensures { result ≡ level_number self }
+    {
+        match self {
+            Level::Zero => 0,
+            Level::One => 1,
+        }
+    }
+}
+
+/// New values of a head (S-57 Part 3, 7.3.1): the edition and update number EDTN and UPDN, the dates UADT and ISDT, the level AALL of general
+/// texts, and the comment COMT of the data set identification.
+#[derive(Debug, Drop)]
+pub struct HeadEdit {
+    pub edtn: Text,
+    pub updn: Text,
+    pub uadt: [u8; 8],
+    pub isdt: [u8; 8],
+    pub aall: Level,
+    pub comt: Text,
 }

@@ -1,5 +1,6 @@
-//! Vector and feature records.
+//! Vector and feature records, and the head where it stands for an answer to its name.
 
+use crate::head::Head;
 use crate::items::{Attrs, Deep, Ends, Partners, Places, Plane, Text};
 use crate::name::{Lnam, RecName};
 
@@ -69,9 +70,10 @@ pub struct Feature {
     pub places: Places,
 }
 
-/// A vector record or a feature record.
+/// What has a name: a vector record, a feature record, or the head of a cell, which is none of the cell's records.
 #[derive(Debug, Drop)]
 pub enum Rec {
     V(Vector),
     F(Feature),
+    H(Head),
 }

@@ -26,6 +26,7 @@ fn names_are_ordered_by_kind_then_number(rt: HostRuntime) {
         of(Kind::Vc, 10),
         of(Kind::Ve, 1),
         of(Kind::Fe, 0),
+        RecName::of_head(),
     ];
     for (k, name) in ascending.iter().enumerate() {
         for later in &ascending[k + 1..] {

@@ -1,5 +1,5 @@
 -- Values with the same words are the same.
-use Rattle.std.proofs.Common.{◌≡◌, ℕ, ℤ, pos, negsuc, ◌<◌, ◌^◌, false, List, [], ◌∷◌, ◌++◌, length, map, get_or, drop, All, refl, sym, ap, ◌∙◌, arith, w32, FitsSigned}
+use Rattle.std.proofs.Common.{◌≡◌, ℕ, ℤ, pos, negsuc, ◌<◌, ◌^◌, false, List, [], ◌∷◌, ◌++◌, length, map, get_or, drop, cond, eqb, All, refl, sym, ap, ◌∙◌, arith, w32, FitsSigned}
 use Rattle.std.specs.List.{flat_map}
 use Rattle.std.specs.Fmt.{decimal, signed_decimal}
 use Rattle.std.proofs.lemmas.Fmt.{decimal_injective, signed_decimal_injective}
@@ -7,7 +7,7 @@ use Rattle.std.proofs.lemmas.List.{append-nil}
 use Rattle.std.proofs.lemmas.List.Elements.{All-head, All-tail, All-nil, All-cons}
 use Rattle.s57_types.specs.Subfield.{holds}
 use Rattle.s57_types.specs.declared.name.Kind.{Kind}
-use Rattle.s57_types.specs.declared.name.Kind.TheVariants.{Vi, Vc, Ve, Fe}
+use Rattle.s57_types.specs.declared.name.Kind.TheVariants.{Vi, Vc, Ve, Fe, Head as HeadKind}
 use Rattle.s57_types.specs.declared.name.RecName.{RecName}
 use Rattle.s57_types.specs.declared.name.Lnam.{Lnam}
 use Rattle.s57_types.specs.declared.record.Attr.{Attr}
@@ -82,23 +82,19 @@ alike_numbers ns ns' small small' same =
     alike_list decimal (λ n. n < 2 ^ 32) same_number ns ns' small small' (alike_parts 58 (map decimal ns) (map decimal ns') (without_numbers ns small) (without_numbers ns' small') same)
 
 -- names
+abbrev kind_back : List ℕ → Kind
+kind_back word =
+    cond (eqb (get_or word 0 0) 104) HeadKind (cond (eqb (get_or word 0 0) 102) Fe (cond (eqb (get_or word 1 0) 105) Vi (cond (eqb (get_or word 1 0) 99) Vc Ve)))
+
+kind_is_back : (k : Kind) → kind_back (kind_word k) ≡ k
+kind_is_back Vi = refl
+kind_is_back Vc = refl
+kind_is_back Ve = refl
+kind_is_back Fe = refl
+kind_is_back HeadKind = refl
+
 pub same_kind : (k k' : Kind) → kind_word k ≡ kind_word k' → k ≡ k'
-same_kind Vi Vi e = refl
-same_kind Vi Vc e = absurd (omega (arith, ap (λ w. get_or w 1 0) e))
-same_kind Vi Ve e = absurd (omega (arith, ap (λ w. get_or w 1 0) e))
-same_kind Vi Fe e = absurd (omega (arith, ap (λ w. get_or w 0 0) e))
-same_kind Vc Vi e = absurd (omega (arith, ap (λ w. get_or w 1 0) e))
-same_kind Vc Vc e = refl
-same_kind Vc Ve e = absurd (omega (arith, ap (λ w. get_or w 1 0) e))
-same_kind Vc Fe e = absurd (omega (arith, ap (λ w. get_or w 0 0) e))
-same_kind Ve Vi e = absurd (omega (arith, ap (λ w. get_or w 1 0) e))
-same_kind Ve Vc e = absurd (omega (arith, ap (λ w. get_or w 1 0) e))
-same_kind Ve Ve e = refl
-same_kind Ve Fe e = absurd (omega (arith, ap (λ w. get_or w 0 0) e))
-same_kind Fe Vi e = absurd (omega (arith, ap (λ w. get_or w 0 0) e))
-same_kind Fe Vc e = absurd (omega (arith, ap (λ w. get_or w 0 0) e))
-same_kind Fe Ve e = absurd (omega (arith, ap (λ w. get_or w 0 0) e))
-same_kind Fe Fe e = refl
+same_kind k k' same = sym (kind_is_back k) ∙ ap kind_back same ∙ kind_is_back k'
 
 abbrev name_with : Kind → ℕ → RecName
 name_with kind id = record { kind = kind; id = id }
@@ -203,7 +199,7 @@ alike_sounding p p' w w' same =
     same_sounding p.0 p.1 p.2 p' both.first (ap (λ t. get_or t 0 p.1) both.others) (ap (λ t. get_or t 1 p.1) both.others)
 
 -- texts
-alike_text : (value value' : List ℕ) → All (λ b. b < 256) value → All (λ b. b < 256) value' → 58 ∷ (text_word value ++ []) ≡ 58 ∷ (text_word value' ++ []) → value ≡ value'
+pub alike_text : (value value' : List ℕ) → All (λ b. b < 256) value → All (λ b. b < 256) value' → 58 ∷ (text_word value ++ []) ≡ 58 ∷ (text_word value' ++ []) → value ≡ value'
 alike_text value value' w w' same = same_text value value' w w' (sym (append-nil (text_word value)) ∙ ap (drop 1) same ∙ append-nil (text_word value'))
 
 pub alike_attribute : (letter : ℕ) (a a' : Attr) → IsAttributeOfWidth a → IsAttributeOfWidth a' → attribute_item (letter ∷ []) a ≡ attribute_item (letter ∷ []) a' → a ≡ a'

@@ -5,18 +5,19 @@ use Rattle.std.proofs.lemmas.Bool.{false≢true}
 use Rattle.std.proofs.Math.Seq.{take-append-add, drop-append-add}
 use Rattle.std.proofs.lemmas.List.{length-append, append-nil, same_from_push}
 use Rattle.s57_types.specs.Subfield.{holds}
-use Rattle.cell_spec.specs.declared.edit.Edit.TheVariants.{Add, Set, Del}
+use Rattle.cell_spec.specs.declared.edit.Edit.TheVariants.{Add, Set, Del, Head}
 use Rattle.text_spec.specs.CellText.{name_words}
-use Rattle.text_spec.specs.EditLine.{record_words}
+use Rattle.text_spec.specs.EditLine.{record_words, head_words}
 use Rattle.text_spec.specs.ScriptLines.{ScriptLine, skipped, spoken, line_text, IsLine, IsCommand, is_skipped}
 use Rattle.text_spec.specs.declared.command.Command.{Command}
-use Rattle.text_spec.specs.declared.command.Command.TheVariants.{View, Commit, Drop, List as Findings, Push}
+use Rattle.text_spec.specs.declared.command.Command.TheVariants.{View, Commit, Drop, List as Findings, Push, Guard}
 use Rattle.script_text.specs.Cuts.{before, from, IsFrom}
 use Rattle.script_text.specs.Faults.{IsOf, HasSpoken}
 use Rattle.script_text.specs.Guess.{command_text, first_word}
 use Rattle.script_text.proofs.Cuts.{whole, cut_between, cut_of}
 use Rattle.script_text.proofs.Words.{IsFree, free_append}
 use Rattle.script_text.proofs.Frees.{without_number, without_name, without_record, free_spaced}
+use Rattle.script_text.proofs.Heads.{without_head}
 use Rattle.script_text.proofs.Widths.{name_of_width, record_of_width}
 use Rattle.script_text.proofs.Commands.{line_is, text_cut}
 use Rattle.script_text.proofs.AlikeCommands.{alike_commands}
@@ -32,6 +33,10 @@ free_command (Push (Add r)) can = free_append {front = codes "add"} (record { fr
 free_command (Push (Set r)) can = free_append {front = codes "set"} (record { free = refl })
     (free_spaced 10 (record_words r) (λ e. omega arith) (without_record 10 r (omega arith) (record_of_width r can.1)))
 free_command (Push (Del n)) can = free_append {front = codes "del"} (record { free = refl })
+    (free_spaced 10 (name_words n) (λ e. omega arith) (without_name 10 n (omega arith) (name_of_width n can.1)))
+free_command (Push (Head e)) can = free_append {front = codes "set"} (record { free = refl })
+    (free_spaced 10 (codes "head" ∷ head_words e) (λ e. omega arith) (without_head 10 e (omega arith)))
+free_command (Guard n) can = free_append {front = codes "guard"} (record { free = refl })
     (free_spaced 10 (name_words n) (λ e. omega arith) (without_name 10 n (omega arith) (name_of_width n can.1)))
 
 -- a line without its line feed
@@ -73,6 +78,8 @@ spoken_by (Findings shown) = refl
 spoken_by (Push (Add r)) = refl
 spoken_by (Push (Set r)) = refl
 spoken_by (Push (Del n)) = refl
+spoken_by (Push (Head e)) = refl
+spoken_by (Guard n) = refl
 
 -- the text of a line says what the line is
 same_body : (l l' : ScriptLine) → IsLine l → IsLine l' → body l ≡ body l' → l ≡ l'

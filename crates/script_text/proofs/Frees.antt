@@ -10,7 +10,7 @@ use Rattle.s57_types.specs.declared.record.Partner.{Partner}
 use Rattle.s57_types.specs.declared.record.Vector.{Vector}
 use Rattle.s57_types.specs.declared.record.Feature.{Feature}
 use Rattle.s57_types.specs.declared.record.Rec.{Rec}
-use Rattle.s57_types.specs.declared.record.Rec.TheVariants.{V, F}
+use Rattle.s57_types.specs.declared.record.Rec.TheVariants.{V, F, H}
 use Rattle.text_spec.specs.CellText.{kind_word, name_words}
 use Rattle.text_spec.specs.EditLine.{attribute_item, end_item, plane_item, deep_item, partner_item, place_item, text_word, vector_words, feature_words, record_words}
 use Rattle.text_spec.specs.Lines.{spaced_words}
@@ -54,10 +54,10 @@ free_place mark s small width =
 abbrev pub AreWithout : ℕ → List (List ℕ) → Type 0
 AreWithout mark = All (λ word. holds mark word ≡ false)
 
-without_none : (mark : ℕ) → AreWithout mark []
+pub without_none : (mark : ℕ) → AreWithout mark []
 without_none mark = All-nil (λ word. holds mark word ≡ false)
 
-without_cons : (mark : ℕ) (word : List ℕ) (words : List (List ℕ)) → IsFree mark word → AreWithout mark words → AreWithout mark (word ∷ words)
+pub without_cons : (mark : ℕ) (word : List ℕ) (words : List (List ℕ)) → IsFree mark word → AreWithout mark words → AreWithout mark (word ∷ words)
 without_cons mark word words free others = All-cons (λ x. holds mark x ≡ false) word words free.free others
 
 without_append : (mark : ℕ) (front back : List (List ℕ)) → AreWithout mark front → AreWithout mark back → AreWithout mark (front ++ back)
@@ -125,6 +125,7 @@ without_feature mark f small width =
 pub without_record : (mark : ℕ) (r : Rec) → mark < 33 → IsRecordOfWidth r → AreWithout mark (record_words r)
 without_record mark (V v) small width = without_vector mark v small width
 without_record mark (F f) small width = without_feature mark f small width
+without_record mark (H h) small width = without_none mark
 
 -- words behind spaces have no other mark
 pub free_spaced : (mark : ℕ) (words : List (List ℕ)) → (32 ≡ mark → ⊥) → AreWithout mark words → IsFree mark (spaced_words words)

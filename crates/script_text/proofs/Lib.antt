@@ -8,6 +8,7 @@ pub mod Features
 pub mod Widths
 pub mod Commands
 pub mod Alike
+pub mod Heads
 pub mod AlikeCommands
 pub mod Fed
 pub mod Readings

@@ -1,5 +1,5 @@
 -- Reading a script line by line.
-use Rattle.std.proofs.Common.{◌≡◌, ℕ, ◌≤◌, ◌+◌, true, false, List, [], ◌∷◌, ◌++◌, length, Result, Ok, Err, Option, Some, None, refl, sym, ap, ◌∙◌, arith, subst, append_assoc}
+use Rattle.std.proofs.Common.{◌≡◌, ℕ, ◌≤◌, ◌+◌, true, false, List, [], ◌∷◌, ◌++◌, length, Ok, Err, Option, Some, None, refl, sym, ap, ◌∙◌, arith, subst, append_assoc}
 use Rattle.std.specs.List.{flat_map}
 use Rattle.std.proofs.lemmas.List.{length-append, append-nil}
 use Rattle.std.proofs.lemmas.List.Concat.{flat_map-append}
@@ -10,8 +10,6 @@ use Rattle.script_text.specs.Faults.{IsLineFault, IsOf, fault_code}
 use Rattle.script_text.specs.Guess.{IsReadOf}
 use Rattle.script_text.specs.Reading.{IsOnlyReading}
 use Rattle.script_text.specs.Steps.{IsReadTo, IsLineRead, IsLineRefusal, IsTaken, IsNotTaken, IsTextFault, IsFormFault, IsFirstRefusal, first_refusal}
-use Rattle.script_text.specs.declared.reading.FirstRefusal.{FirstRefusal}
-use Rattle.script_text.specs.declared.reading.FirstRefusal.TheVariants.{Fault as FirstFault}
 use Rattle.script_text.specs.declared.refusal.LineFault.{LineFault}
 use Rattle.script_text.specs.declared.refusal.LineFault.TheVariants.{NoLineFeed, UnknownWord, WrongForm, TooManyCommands}
 use Rattle.script_text.specs.declared.refusal.LineRefusal.{LineRefusal}

@@ -5,7 +5,7 @@ use Rattle.std.proofs.lemmas.List.Elements.{All-nil, All-cons, All-head, All-tai
 use Rattle.s57_types.specs.Subfield.{Subfield, unsigned_of}
 use Rattle.s57_types.specs.FieldRows.{rcnm_of, name_row, attribute_row, end_row, plane_row, deep_row, frid_row, foid_row, partner_row, place_row}
 use Rattle.s57_types.specs.declared.name.Kind.{Kind}
-use Rattle.s57_types.specs.declared.name.Kind.TheVariants.{Vi, Vc, Ve, Fe}
+use Rattle.s57_types.specs.declared.name.Kind.TheVariants.{Vi, Vc, Ve, Fe, Head as HeadKind}
 use Rattle.s57_types.specs.declared.name.RecName.{RecName}
 use Rattle.s57_types.specs.declared.name.Lnam.{Lnam}
 use Rattle.s57_types.specs.declared.record.Attr.{Attr}
@@ -15,7 +15,7 @@ use Rattle.s57_types.specs.declared.record.Partner.{Partner}
 use Rattle.s57_types.specs.declared.record.Vector.{Vector}
 use Rattle.s57_types.specs.declared.record.Feature.{Feature}
 use Rattle.s57_types.specs.declared.record.Rec.{Rec}
-use Rattle.s57_types.specs.declared.record.Rec.TheVariants.{V, F}
+use Rattle.s57_types.specs.declared.record.Rec.TheVariants.{V, F, H}
 use Rattle.text_spec.specs.ScriptLines.{IsOfWidth, vector_subfields, feature_subfields, record_subfields}
 use Rattle.script_text.specs.Widths.{IsNameOfWidth, IsIdentityOfWidth, IsAttributeOfWidth, IsEndOfWidth, IsPointOfWidth, IsSoundingOfWidth, IsPartnerOfWidth, IsPlaceOfWidth, IsVectorOfWidth, IsFeatureOfWidth, IsRecordOfWidth}
 
@@ -44,6 +44,7 @@ rcnm_fits Vi = omega arith
 rcnm_fits Vc = omega arith
 rcnm_fits Ve = omega arith
 rcnm_fits Fe = omega arith
+rcnm_fits HeadKind = omega arith
 
 pub name_of_width : (n : RecName) → All IsOfWidth (name_row n) → IsNameOfWidth n
 name_of_width n all = (recursion_from_All IsOfWidth (name_row n) all).1.0
@@ -183,7 +184,9 @@ width_of_feature f width =
 pub record_of_width : (r : Rec) → All IsOfWidth (record_subfields r) → IsRecordOfWidth r
 record_of_width (V v) all = vector_of_width v all
 record_of_width (F f) all = feature_of_width f all
+record_of_width (H h) all = tt
 
 pub width_of_record : (r : Rec) → IsRecordOfWidth r → All IsOfWidth (record_subfields r)
 width_of_record (V v) width = width_of_vector v width
 width_of_record (F f) width = width_of_feature f width
+width_of_record (H h) width = All-nil IsOfWidth

@@ -7,7 +7,7 @@ use Rattle.std.proofs.lemmas.Fmt.{decimal_by_steps}
 use Rattle.std.proofs.lemmas.List.Folds.{list_any-append}
 use Rattle.s57_types.specs.Subfield.{holds}
 use Rattle.s57_types.specs.declared.name.Kind.{Kind}
-use Rattle.s57_types.specs.declared.name.Kind.TheVariants.{Vi, Vc, Ve, Fe}
+use Rattle.s57_types.specs.declared.name.Kind.TheVariants.{Vi, Vc, Ve, Fe, Head as HeadKind}
 use Rattle.s57_types.specs.declared.name.RecName.{RecName}
 use Rattle.s57_types.specs.declared.name.Lnam.{Lnam}
 use Rattle.s57_types.specs.declared.record.Attr.{Attr}
@@ -54,6 +54,7 @@ free_kind mark Vi small = two_letters 118 105 (omega arith) (omega arith)
 free_kind mark Vc small = two_letters 118 99 (omega arith) (omega arith)
 free_kind mark Ve small = two_letters 118 101 (omega arith) (omega arith)
 free_kind mark Fe small = two_letters 102 101 (omega arith) (omega arith)
+free_kind mark HeadKind small = free_cons 104 (λ e. omega arith) (free_cons 101 (λ e. omega arith) (two_letters 97 100 (omega arith) (omega arith)))
 
 -- a part behind another mark, and what follows it
 pub free_part : {mark : ℕ} {part rest : List ℕ} (other : ℕ) → (other ≡ mark → ⊥) → IsFree mark part → IsFree mark rest → IsFree mark (other ∷ (part ++ rest))

@@ -10,7 +10,7 @@ use Rattle.s57_types.specs.declared.record.Partner.{Partner}
 use Rattle.s57_types.specs.declared.record.Vector.{Vector}
 use Rattle.s57_types.specs.declared.record.Feature.{Feature}
 use Rattle.s57_types.specs.declared.record.Rec.{Rec}
-use Rattle.s57_types.specs.declared.record.Rec.TheVariants.{V, F}
+use Rattle.s57_types.specs.declared.record.Rec.TheVariants.{V, F, H}
 
 abbrev pub IsNameOfWidth : RecName → Type 0
 IsNameOfWidth n = n.id < 2 ^ 32
@@ -78,3 +78,4 @@ pub record IsFeatureOfWidth (f : Feature) : Type 0 where
 abbrev pub IsRecordOfWidth : Rec → Type 0
 IsRecordOfWidth (V v) = IsVectorOfWidth v
 IsRecordOfWidth (F f) = IsFeatureOfWidth f
+IsRecordOfWidth (H h) = Unit {0}

@@ -3,6 +3,7 @@
 
 mod cut;
 mod feature;
+mod head;
 mod item;
 mod law;
 mod reading;

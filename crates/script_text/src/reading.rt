@@ -1,15 +1,12 @@
 //! Reading scripts. A line is taken only where it is the line of the command that was read from it.
 
-ghost use Rattle.std.specs.Prelude.{◌≡◌, ◌↔◌, IsTrue, ◌∷◌, ◌++◌, [], ◌<◌, ◌^◌, ◌≤◌, ℕ, List, Ok, length, true, IfOk, MatchResult, decimal};
+ghost use Rattle.std.specs.Prelude.{◌≡◌, ◌↔◌, IsTrue, ◌∷◌, ◌++◌, [], ◌<◌, ◌^◌, ◌≤◌, ℕ, List, Ok, codes, length, true, IfOk, MatchResult, decimal};
 ghost use Rattle.cell_spec.specs.declared.edit.Edit.{Edit};
-ghost use Rattle.s57_types.specs.declared.name.Kind.{Kind};
 ghost use Rattle.s57_types.specs.declared.record.Rec.{Rec};
-ghost use Rattle.text_spec.specs.CellText.{kind_word};
-ghost use Rattle.text_spec.specs.EditLine.{has_line, is_feature as is_feature_lem, record_has_line, record_words};
+ghost use Rattle.text_spec.specs.EditLine.{has_line, record_has_line, record_words};
 ghost use Rattle.text_spec.specs.Lines.{spaced_words};
 ghost use Rattle.text_spec.specs.ScriptLines.{command_line, is_skipped as is_skipped_lem, IsCommand};
 ghost use Rattle.text_spec.specs.declared.command.Command.{Command};
-ghost use Rattle.script_text.specs.Cuts.{IsFrom};
 ghost use Rattle.script_text.specs.Faults.{IsCommandWord};
 ghost use Rattle.script_text.specs.Guess.{HasLine, can_stand as can_stand_lem, first_word, other_words, IsReadOf};
 ghost use Rattle.script_text.specs.Reading.{IsOnlyReading, IsScriptRefusal};
@@ -18,11 +15,12 @@ ghost use Rattle.script_text.specs.Widths.{IsRecordOfWidth};
 
 use crate::cut::{cut_at, next_part};
 use crate::feature::feature_of;
+use crate::head::head_edit_of;
 use crate::refusal::{LineFault, LineRefusal, ScriptRefusal};
 use crate::script::{MOST_COMMANDS, Script};
-use crate::spelling::{can_stand, push_line};
+use crate::spelling::{can_stand, is_feature, is_head, push_line};
 use crate::value::{is_word, number_of};
-use crate::vector::{name_of_words, vector_of};
+use crate::vector::{kind_of_words, name_of_words, vector_of};
 use cell_spec::Edit;
 use s57_types::Rec;
 use std::alloc::{AllocError, Global};
@@ -48,6 +46,9 @@ fn command_of(alloc: Global, first: &[u8], others: &[u8]) -> Result<Command, All
     if is_word(first, "list") {
         return Ok(Command::List(number_of_words(others)));
     }
+    if is_word(first, "guard") {
+        return Ok(Command::Guard(name_of_words(others)));
+    }
     Ok(Command::Push(edit_of(alloc, first, others)?))
 }
 
@@ -71,17 +72,23 @@ fn edit_of(alloc: Global, first: &[u8], others: &[u8]) -> Result<Edit, AllocErro
         return Ok(Edit::Add(record_of(alloc, others)?));
     }
     if is_word(first, "set") {
-        return Ok(Edit::Set(record_of(alloc, others)?));
+        return set_of(alloc, others);
     }
     Ok(Edit::Del(name_of_words(others)))
 }
 
-/// Whether the first word is the kind of a feature record.
-fn is_feature(words: &[u8]) -> bool
-    ensures { (kind : Kind) (rest : List ℕ) → IsFrom 32 rest → words.now ≡ 32 ∷ (kind_word kind ++ rest) → result ≡ is_feature_lem kind }
+/// The edit that the words behind `set` stand for: of the head, or of another record.
+///
+/// An `Err` is want of memory.
+fn set_of(alloc: Global, words: &[u8]) -> Result<Edit, AllocError>
+    ensures width { IfOk result (λ edit. has_line edit ≡ true → IsCommand (Command.Push edit)) }
+    ensures found { (edit : Edit) → IsCommand (Command.Push edit) → first_word (Command.Push edit) ≡ codes "set"
+        → words.now ≡ spaced_words (other_words (Command.Push edit)) → IfOk result (λ read. read ≡ edit) }
 {
-    let (kind, _) = next_part(b' ', words);
-    is_word(kind, "fe")
+    if is_head(kind_of_words(words)) {
+        return Ok(Edit::Head(head_edit_of(alloc, words)?));
+    }
+    Ok(Edit::Set(record_of(alloc, words)?))
 }
 
 /// The record that words stand for.
@@ -91,7 +98,7 @@ fn record_of(alloc: Global, words: &[u8]) -> Result<Rec, AllocError>
     ensures width { IfOk result IsRecordOfWidth }
     ensures found { (rec : Rec) → IsRecordOfWidth rec → record_has_line rec ≡ true → words.now ≡ spaced_words (record_words rec) → IfOk result (λ read. read ≡ rec) }
 {
-    if is_feature(words) {
+    if is_feature(kind_of_words(words)) {
         return Ok(Rec::F(feature_of(alloc, words)?));
     }
     Ok(Rec::V(vector_of(alloc, words)?))
@@ -162,6 +169,9 @@ fn is_command_word(word: &[u8]) -> bool
         return true;
     }
     if is_word(word, "list") {
+        return true;
+    }
+    if is_word(word, "guard") {
         return true;
     }
     if is_word(word, "del") {

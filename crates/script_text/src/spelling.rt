@@ -1,33 +1,72 @@
 //! Writing the line of a command.
 
-ghost use Rattle.std.specs.Prelude.{◌≡◌, ◌++◌, OnOk, true};
-ghost use Rattle.text_spec.specs.EditLine.{has_line as has_line_lem, is_feature as is_feature_lem, record_has_line as record_has_line_lem};
+ghost use Rattle.std.specs.Prelude.{◌≡◌, ◌++◌, not, OnOk, true};
+ghost use Rattle.std.specs.List.{list_all};
+ghost use Rattle.s57_types.specs.declared.record.End.{End};
+ghost use Rattle.s57_types.specs.declared.record.Rec.{Rec};
+ghost use Rattle.s57_types.specs.declared.record.Spot.{Spot};
+ghost use Rattle.text_spec.specs.EditLine.{guard_has_line as guard_has_line_lem, has_line as has_line_lem, record_has_line as record_has_line_lem};
+ghost use Rattle.text_spec.specs.EditLine.{is_feature as is_feature_lem, is_head as is_head_lem};
 ghost use Rattle.text_spec.specs.ScriptLines.{command_line};
 ghost use Rattle.text_spec.specs.declared.command.Command.{Command};
 ghost use Rattle.script_text.specs.Guess.{can_stand as can_stand_lem};
 
 use cell_spec::Edit;
-use s57_types::{Kind, Rec};
+use s57_types::{End, Feature, Kind, Rec, RecName, Spot, Vector};
 use std::alloc::{AllocError, Global};
-use text_lines::{push_number, push_text, write_edit};
+use text_lines::{push_name, push_number, push_text, write_edit};
 use text_spec::Command;
 
 /// The most findings that a command shows.
 const MOST_SHOWN: u32 = 20;
 
-fn is_feature(kind: Kind) -> bool
+pub fn is_feature(kind: Kind) -> bool
     ensures { result ≡ is_feature_lem kind }
 {
     matches!(kind, Kind::Fe)
 }
 
-/// Whether a record has a name of its own sort.
+pub fn is_head(kind: Kind) -> bool
+    ensures { result ≡ is_head_lem kind }
+{
+    matches!(kind, Kind::Head)
+}
+
+/// Whether the pointers of a vector record name other records than the head.
+fn ends_have_line(ends: &[End]) -> bool
+    ensures { result ≡ list_all (λ (e : End). not (is_head_lem e.to.kind)) ends.now }
+{
+    ends.iter().all(|end| !is_head(end.to.kind))
+}
+
+/// Whether the pointers of a feature name other records than the head.
+fn places_have_line(places: &[Spot]) -> bool
+    ensures { result ≡ list_all (λ (s : Spot). not (is_head_lem s.to.kind)) places.now }
+{
+    places.iter().all(|place| !is_head(place.to.kind))
+}
+
+fn vector_has_line(vector: &Vector) -> bool
+    ensures { result ≡ record_has_line_lem (Rec.V vector.now) }
+{
+    let kind = vector.name.kind;
+    !is_feature(kind) && !is_head(kind) && ends_have_line(vector.ends.as_slice())
+}
+
+fn feature_has_line(feature: &Feature) -> bool
+    ensures { result ≡ record_has_line_lem (Rec.F feature.now) }
+{
+    is_feature(feature.name.kind) && places_have_line(feature.places.as_slice())
+}
+
+/// Whether a record has a name of its own sort, and none of its pointers names the head.
 fn record_has_line(rec: &Rec) -> bool
     ensures { result ≡ record_has_line_lem rec.now }
 {
     match rec {
-        Rec::V(vector) => !is_feature(vector.name.kind),
-        Rec::F(feature) => is_feature(feature.name.kind),
+        Rec::V(vector) => vector_has_line(vector),
+        Rec::F(feature) => feature_has_line(feature),
+        Rec::H(_) => false,
     }
 }
 
@@ -36,8 +75,16 @@ fn has_line(edit: &Edit) -> bool
 {
     match edit {
         Edit::Add(rec) | Edit::Set(rec) => record_has_line(rec),
-        Edit::Del(_) => true,
+        Edit::Del(name) => !is_head(name.kind),
+        Edit::Head(_) => true,
     }
+}
+
+/// Whether a guard is the name of a record or the one name of the head.
+fn guard_has_line(name: RecName) -> bool
+    ensures { result ≡ guard_has_line_lem name }
+{
+    !is_head(name.kind) || name.id == RecName::of_head().id
 }
 
 /// Whether a command has a line.
@@ -48,6 +95,7 @@ pub fn can_stand(command: &Command) -> bool
         Command::View | Command::Commit | Command::Drop => true,
         Command::List(shown) => *shown <= MOST_SHOWN,
         Command::Push(edit) => has_line(edit),
+        Command::Guard(name) => guard_has_line(*name),
     }
 }
 
@@ -64,6 +112,7 @@ pub fn push_line(alloc: Global, command: &Command, line: &mut Vec<u8>) -> Result
         Command::Drop => push_text(line, "drop\n"),
         Command::List(shown) => push_list(line, *shown),
         Command::Push(edit) => write_edit(alloc, edit, line),
+        Command::Guard(name) => push_guard(line, *name),
     }
 }
 
@@ -73,5 +122,14 @@ fn push_list(line: &mut Vec<u8>, shown: u32) -> Result<(), AllocError>
 {
     push_text(line, "list")?;
     push_number(line, shown)?;
+    push_text(line, "\n")
+}
+
+/// Appends the line of a guard.
+fn push_guard(line: &mut Vec<u8>, name: RecName) -> Result<(), AllocError>
+    ensures { OnOk result (line.new.items ≡ line.old.items ++ command_line (Command.Guard name)) }
+{
+    push_text(line, "guard")?;
+    push_name(line, name)?;
     push_text(line, "\n")
 }

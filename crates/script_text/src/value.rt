@@ -54,8 +54,10 @@ pub fn kind_of(word: &[u8]) -> Kind
         Kind::Vc
     } else if is_word(word, "ve") {
         Kind::Ve
-    } else {
+    } else if is_word(word, "fe") {
         Kind::Fe
+    } else {
+        Kind::Head
     }
 }
 

@@ -2,17 +2,19 @@
 
 ghost use Rattle.std.specs.Prelude.{◌≡◌, ◌++◌, ◌∷◌, [], List, ℕ, IfOk, OnOk};
 ghost use Rattle.s57_types.specs.declared.record.Vector.{Vector};
+ghost use Rattle.s57_types.specs.declared.name.Kind.{Kind};
 ghost use Rattle.s57_types.specs.declared.name.RecName.{RecName};
-ghost use Rattle.text_spec.specs.CellText.{name_words};
+ghost use Rattle.text_spec.specs.CellText.{kind_word, name_words};
 ghost use Rattle.text_spec.specs.EditLine.{vector_words};
 ghost use Rattle.text_spec.specs.Lines.{spaced_words};
+ghost use Rattle.script_text.specs.Cuts.{IsFrom};
 ghost use Rattle.script_text.specs.Items.{AreVectorItems, AreVectorItemsOf};
 ghost use Rattle.script_text.specs.Widths.{IsNameOfWidth, IsVectorOfWidth};
 
 use crate::cut::next_part;
 use crate::item::{take_attribute, take_end, take_point, take_sounding};
-use crate::value::{name_of, short_of};
-use s57_types::{Attrs, Deep, Ends, Plane, RecName, Vector};
+use crate::value::{kind_of, name_of, short_of};
+use s57_types::{Attrs, Deep, Ends, Kind, Plane, RecName, Vector};
 use std::alloc::{AllocError, Global};
 
 /// The items of a vector record.
@@ -75,6 +77,14 @@ pub fn vector_of(alloc: Global, words: &[u8]) -> Result<Vector, AllocError>
         plane: items.plane,
         deep: items.deep,
     })
+}
+
+/// The kind that the first word stands for.
+pub fn kind_of_words(words: &[u8]) -> Kind
+    ensures { (kind : Kind) (rest : List ℕ) → IsFrom 32 rest → words.now ≡ 32 ∷ (kind_word kind ++ rest) → result ≡ kind }
+{
+    let (kind, _) = next_part(b' ', words);
+    kind_of(kind)
 }
 
 /// The record name that words stand for.

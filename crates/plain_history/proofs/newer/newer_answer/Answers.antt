@@ -10,7 +10,7 @@ returns-clause-same c =
     let commits = c.args.commits.now in
     let before = c.min-before.result in
     let least : before ≡ min c.args.base (length commits) = c.min-before.ensures ∙ ap (min c.args.base) c.in_ok-number.ensures.same in
-    let same = ap (λ xs. first_of (filter_map (clash_with c.args.edits.now) xs))
+    let same = ap (λ xs. first_of (filter_map (clash_with c.args.set.now.edits c.args.set.now.guards) xs))
     ((let e : before + 1 ≡ 1 + before = omega arith in ap (λ n. enumerate_from n c.split_at.result.1.now) e)
     ∙ ap (enumerate_from (1 + before)) c.split_at.ensures.back ∙ numbered_from before c.args.base 1 commits least) in
     let P : Option Reply → Type 0 = λ x. IfOk c.first_clash.result (λ reply. reply ≡ x) in

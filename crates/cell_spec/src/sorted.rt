@@ -1,0 +1,37 @@
+//! Lists in ascending order, each item once.
+
+ghost use Rattle.std.specs.Prelude.{◌≡◌};
+ghost use Rattle.std.specs.declared.cmp.Ordering.TheVariants.{Equal};
+ghost use Rattle.cell_spec.specs.Ascending.{ascending};
+ghost use Rattle.cell_spec.specs.Names.{key_order, name_order};
+
+use crate::key::{Key, Keys, Names};
+use crate::law::orders_are_by_parts;
+use s57_types::{Items, RecName};
+
+/// The items in ascending order, each once. It takes no memory.
+pub fn distinct<T: Ord + Copy>(mut items: Vec<T>) -> Vec<T>
+    requires exact { (a b : T) → T.cmp a b ≡ Equal → a ≡ b }
+    ensures { result.items ≡ ascending T.cmp items.items }
+{
+    items.sort_unstable();
+    items.dedup();
+    items
+}
+
+/// The keys in ascending order, each once. It takes no memory.
+pub fn ascending_keys(keys: Vec<Key>) -> Keys
+    ensures { result ≡ ascending key_order keys.items }
+{
+    orders_are_by_parts();
+    Items::of_vec(distinct(keys))
+}
+
+/// The names in ascending order, each once: of the targets of a record, those that a check looks up. It takes no
+/// memory.
+pub fn ascending_names(names: Vec<RecName>) -> Names
+    ensures { result ≡ ascending name_order names.items }
+{
+    orders_are_by_parts();
+    Items::of_vec(distinct(names))
+}

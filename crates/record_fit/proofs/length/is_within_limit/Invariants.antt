@@ -1,6 +1,0 @@
-use Rattle.std.proofs.Common.{take}
-use Rattle.record_fit.specs.Lengths.{IsSizesOf}
-use Rattle.record_fit.proofs.length.is_within_limit.Given as goal
-
-abbrev pub invariant-loop-field : goal.invariant-loop-field
-invariant-loop-field l = IsSizesOf (take l.field-index l.lengths) l.sizes
