@@ -1,16 +1,16 @@
 -- The names and the number of a cell's records, with one record more.
-use Rattle.std.proofs.Common.{◌≡◌, ◌+◌, ◌||◌, Bool, true, false, List, [], ◌∷◌, ◌++◌, length, refl, sym, ap, ◌∙◌, append_assoc, length-append, arith}
+use Rattle.std.proofs.Common.{◌≡◌, ◌+◌, ◌==◌, ◌||◌, Bool, true, false, List, [], ◌∷◌, ◌++◌, length, refl, sym, ap, ◌∙◌, length-append, arith}
 use Rattle.std.specs.declared.cmp.Ordering.{Ordering}
-use Rattle.std.proofs.lemmas.List.{append-nil}
 use Rattle.std.specs.List.{list_any}
 use Rattle.s57_types.specs.declared.name.Kind.{Kind}
-use Rattle.s57_types.specs.declared.name.Kind.TheVariants.{Vi, Vc, Ve, Fe}
+use Rattle.s57_types.specs.declared.name.Kind.TheVariants.{Head}
 use Rattle.s57_types.specs.declared.name.RecName.{RecName}
 use Rattle.s57_types.specs.declared.record.Rec.{Rec}
 use Rattle.s57_types.specs.declared.cell.Cell.{Cell}
 use Rattle.cell_spec.specs.Lookup.{all_records, name_of, is_named}
-use Rattle.cell_spec.specs.Names.{same_name}
+use Rattle.cell_spec.specs.Names.{kind_rank, is_of_kind, same_name}
 use Rattle.file_spec.specs.CellRecords.{with_record_of_kind}
+use Rattle.file_spec.proofs.GrownCell.{stands}
 use Rattle.cell_decode.specs.NamesSeen.{has_name, IsKnown}
 use Rattle.cell_decode.specs.declared.reading.Reading.{Reading}
 
@@ -25,33 +25,20 @@ list_any-between : {X : Type 0} (p : X → Bool) (xs : List X) (r : X) (ys : Lis
 list_any-between p [] r ys = refl
 list_any-between p (x ∷ xs) r ys = ap (λ b. p x || b) (list_any-between p xs r ys) ∙ or_swap (p x) (p r) (list_any p (xs ++ ys))
 
--- where a record stands among all records, by its kind
-record Stands (r : Rec) (c : Cell) (grown : List Rec) : Type 0 where
-  before : List Rec
-  behind : List Rec
-  without : all_records c ≡ before ++ behind
-  with : grown ≡ before ++ (r ∷ behind)
-
-stands : (kind : Kind) (r : Rec) (c : Cell) → Stands r c (all_records (with_record_of_kind kind r c))
-stands Vi r c = record { before = c.vi; behind = c.vc ++ c.ve ++ c.fe; without = simp append_assoc; with = simp append_assoc }
-stands Vc r c = record { before = c.vi ++ c.vc; behind = c.ve ++ c.fe; without = simp append_assoc; with = simp append_assoc }
-stands Ve r c = record { before = c.vi ++ c.vc ++ c.ve; behind = c.fe; without = simp append_assoc; with = simp append_assoc }
-stands Fe r c = record { before = c.vi ++ c.vc ++ c.ve ++ c.fe; behind = []; without = simp (append_assoc, append-nil); with = simp append_assoc }
-
-names_grown : (kind : Kind) (r : Rec) (c : Cell) (n : RecName) → list_any (is_named n) (all_records (with_record_of_kind kind r c)) ≡ (is_named n r || list_any (is_named n) (all_records c))
-names_grown kind r c n = let s = stands kind r c in
+names_grown : (kind : Kind) (r : Rec) (c : Cell) (n : RecName) → (kind_rank kind == kind_rank Head) ≡ false → list_any (is_named n) (all_records (with_record_of_kind kind r c)) ≡ (is_named n r || list_any (is_named n) (all_records c))
+names_grown kind r c n listed = let s = stands kind r c listed in
     ap (list_any (is_named n)) s.with ∙ list_any-between (is_named n) s.before r s.behind ∙ ap (λ xs. is_named n r || list_any (is_named n) xs) (sym s.without)
 
-count_grown : (kind : Kind) (r : Rec) (c : Cell) → length (all_records (with_record_of_kind kind r c)) ≡ length (all_records c) + 1
-count_grown kind r c = let s = stands kind r c in
+count_grown : (kind : Kind) (r : Rec) (c : Cell) → (kind_rank kind == kind_rank Head) ≡ false → length (all_records (with_record_of_kind kind r c)) ≡ length (all_records c) + 1
+count_grown kind r c listed = let s = stands kind r c listed in
     let grown = ap length s.with ∙ length-append s.before (r ∷ s.behind) in
     let old = ap length s.without ∙ length-append s.before s.behind in
     omega (arith, grown, old)
 
 -- what is known of a reading with one record more
-pub known_grown : (order : RecName → RecName → Ordering) (old new : Reading) (r : Rec) → IsKnown order old → new.cell ≡ with_record_of_kind (name_of r).kind r old.cell
+pub known_grown : (order : RecName → RecName → Ordering) (old new : Reading) (r : Rec) → is_of_kind Head (name_of r) ≡ false → IsKnown order old → new.cell ≡ with_record_of_kind (name_of r).kind r old.cell
     → ((n : RecName) → has_name order new.names n ≡ (same_name n (name_of r) || has_name order old.names n)) → new.count ≡ old.count + 1 → IsKnown order new
-known_grown order old new r known cell_is names_are count_is = record {
-  names_are = λ n. names_are n ∙ ap (λ b. same_name n (name_of r) || b) (known.names_are n) ∙ sym (names_grown (name_of r).kind r old.cell n) ∙ ap (λ c. list_any (is_named n) (all_records c)) (sym cell_is);
-  count_is = let counted = count_grown (name_of r).kind r old.cell in let same = ap (λ c. length (all_records c)) cell_is in let before = known.count_is in omega (arith, counted, same, before, count_is);
+known_grown order old new r listed known cell_is names_are count_is = record {
+  names_are = λ n. names_are n ∙ ap (λ b. same_name n (name_of r) || b) (known.names_are n) ∙ sym (names_grown (name_of r).kind r old.cell n listed) ∙ ap (λ c. list_any (is_named n) (all_records c)) (sym cell_is);
+  count_is = let counted = count_grown (name_of r).kind r old.cell listed in let same = ap (λ c. length (all_records c)) cell_is in let before = known.count_is in omega (arith, counted, same, before, count_is);
 }

@@ -1,7 +1,9 @@
 //! A cell that grows by the records of its file.
 
-ghost use Rattle.std.specs.Prelude.{◌≡◌, None, OnOk, IfErr};
+ghost use Rattle.std.specs.Prelude.{◌≡◌, ◌==◌, false, None, OnOk, IfErr};
+ghost use Rattle.s57_types.specs.declared.name.Kind.TheVariants.{Head as HeadKind};
 ghost use Rattle.cell_spec.specs.Lookup.{name_of};
+ghost use Rattle.cell_spec.specs.Names.{is_of_kind, kind_rank};
 ghost use Rattle.file_spec.specs.CellRecords.{with_record, with_record_of_kind, empty_cell};
 ghost use Rattle.cell_decode.specs.Gives.{IsFault};
 ghost use Rattle.cell_decode.specs.NamesSeen.{IsKnown};
@@ -49,11 +51,13 @@ fn name_of(rec: &Rec) -> RecName
     match rec {
         Rec::V(vector) => vector.name,
         Rec::F(feature) => feature.name,
+        Rec::H(_) => RecName::of_head(),
     }
 }
 
-/// Puts a record last in the list of a kind.
+/// Puts a record last in the list of a kind, which isn't the head's.
 fn push_record(cell: &mut Cell, kind: Kind, rec: Rec) -> Result<(), AllocError>
+    requires { (kind_rank kind == kind_rank HeadKind) ≡ false }
     ensures { OnOk result (cell.new ≡ with_record_of_kind kind rec cell.old) }
 {
     match kind {
@@ -61,12 +65,14 @@ fn push_record(cell: &mut Cell, kind: Kind, rec: Rec) -> Result<(), AllocError>
         Kind::Vc => cell.vc.push(rec),
         Kind::Ve => cell.ve.push(rec),
         Kind::Fe => cell.fe.push(rec),
+        Kind::Head => unreachable!(),
     }
 }
 
 /// Adds a record behind the others: its name is new, it isn't too long when it is written again, and there is room.
 pub fn add_record(reading: &mut Reading, rec: Rec) -> Result<(), RecordRefusal>
-    requires { IsKnown ⟦<RecName as Ord>⟧.cmp reading.old }
+    requires listed { is_of_kind HeadKind (name_of rec) ≡ false }
+    requires known { IsKnown ⟦<RecName as Ord>⟧.cmp reading.old }
     ensures known { OnOk result (IsKnown ⟦<RecName as Ord>⟧.cmp reading.new) }
     ensures cell { OnOk result (reading.new.cell ≡ with_record rec reading.old.cell) }
     ensures good { OnOk result (following_fault reading.old.cell rec ≡ None) }

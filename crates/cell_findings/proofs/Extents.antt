@@ -9,11 +9,11 @@ use Rattle.std.specs.Ordering.{int_eq}
 use Rattle.std.proofs.lemmas.Bool.Decides.{nat_tests}
 use Rattle.std.proofs.lemmas.Int.{ints, clamps}
 use Rattle.s57_types.specs.declared.name.Kind.{Kind}
-use Rattle.s57_types.specs.declared.name.Kind.TheVariants.{Vi, Vc, Ve, Fe}
+use Rattle.s57_types.specs.declared.name.Kind.TheVariants.{Vi, Vc, Ve, Fe, Head}
 use Rattle.s57_types.specs.declared.name.RecName.{RecName}
 use Rattle.s57_types.specs.declared.record.Vector.{Vector}
 use Rattle.s57_types.specs.declared.record.Rec.{Rec as Record}
-use Rattle.s57_types.specs.declared.record.Rec.TheVariants.{V, F}
+use Rattle.s57_types.specs.declared.record.Rec.TheVariants.{V, F, H}
 use Rattle.s57_types.specs.declared.cell.Cell.{Cell}
 use Rattle.cell_spec.specs.declared.finding.Finding.{Finding}
 use Rattle.cell_spec.specs.declared.key.Subject.TheVariants.{Pair}
@@ -124,12 +124,14 @@ one_by_kind Vi v line place = refl
 one_by_kind Vc v line place = refl
 one_by_kind Ve v line place = and_no (is_some (line v))
 one_by_kind Fe v line place = refl
+one_by_kind Head v line place = refl
 
 one_by_record : (found : Option Record) (line : Vector → Option EdgeLine) (place : Vector → Option Point)
     → (is_some (option_and_then line (option_and_then (vector_of is_edge_name) found)) && is_some (option_and_then place (option_and_then (vector_of (is_of_kind Vc)) found))) ≡ false
 one_by_record None line place = refl
 one_by_record (Some (V v)) line place = one_by_kind v.name.kind v line place
 one_by_record (Some (F f)) line place = refl
+one_by_record (Some (H h)) line place = refl
 
 -- no name has both a line and a position
 abbrev IsOne : Option EdgeLine → Option Point → Type 0

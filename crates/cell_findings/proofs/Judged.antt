@@ -7,21 +7,22 @@ use Rattle.std.specs.Ordering.{is_eq}
 use Rattle.std.proofs.lemmas.List.Folds.{list_any-append}
 use Rattle.std.proofs.lemmas.List.Kept.{IsStrictlySortedBy-filter}
 use Rattle.s57_types.specs.Fitness.{is_feature_kind}
+use Rattle.s57_types.specs.Heads.{head_name}
 use Rattle.s57_types.specs.declared.name.Kind.{Kind}
-use Rattle.s57_types.specs.declared.name.Kind.TheVariants.{Vi, Vc, Ve, Fe}
+use Rattle.s57_types.specs.declared.name.Kind.TheVariants.{Vi, Vc, Ve, Fe, Head}
 use Rattle.s57_types.specs.declared.name.Lnam.{Lnam}
 use Rattle.s57_types.specs.declared.name.RecName.{RecName}
 use Rattle.s57_types.specs.declared.record.Rec.{Rec as Record}
-use Rattle.s57_types.specs.declared.record.Rec.TheVariants.{V, F}
+use Rattle.s57_types.specs.declared.record.Rec.TheVariants.{V, F, H}
 use Rattle.s57_types.specs.declared.cell.Cell.{Cell}
 use Rattle.cell_spec.specs.declared.key.Subject.{Subject}
 use Rattle.cell_spec.specs.declared.key.Subject.TheVariants.{Rec, Side, Pair, Ident}
 use Rattle.cell_spec.specs.Ascending.{order_by}
-use Rattle.cell_spec.specs.Lookup.{all_records, identities_of, is_named, name_of}
-use Rattle.cell_spec.specs.Names.{identity_parts, is_of_kind, kind_rank, name_order, subject_order}
+use Rattle.cell_spec.specs.Lookup.{all_records, identities_of, is_named, listed_record, name_of}
+use Rattle.cell_spec.specs.Names.{identity_parts, is_head_name, is_of_kind, kind_rank, name_order, subject_order}
 use Rattle.cell_spec.specs.Writable.{IsWritable}
 use Rattle.rule_spec.specs.Findings.{is_below, is_subject, possible_subjects, record_names, subjects}
-use Rattle.rule_spec.specs.Records.{edge_named, is_chain_part, is_edge_name, node_named, vector_of}
+use Rattle.rule_spec.specs.Records.{edge_named, is_chain_part, is_edge_name, node_named, vector_named, vector_of}
 use Rattle.cell_findings.specs.Judged.{identities_in, is_part_name, judged_subjects, names_in, part_pairs, records_and_sides}
 use Rattle.cell_spec.proofs.Ascending.{holds, holds-ascending, same_when_sorted, sorted-ascending}
 use Rattle.cell_spec.proofs.Orders.{exact_identities, exact_names, names_tie, one_when_same, same_from_either, total_identities, total_names}
@@ -87,22 +88,24 @@ no_connected_node Vi e = refl
 no_connected_node Vc e = cc
 no_connected_node Ve e = refl
 no_connected_node Fe e = refl
+no_connected_node Head e = refl
 
 no_edge : (k : Kind) → is_feature_kind k ≡ true → (kind_rank k == 2) ≡ false
 no_edge Vi e = refl
 no_edge Vc e = refl
 no_edge Ve e = cc
 no_edge Fe e = refl
+no_edge Head e = refl
 
--- a test on names that no name of a feature passes
-module _ (test : RecName → Bool) (no_feature : (m : RecName) → is_feature_kind m.kind ≡ true → test m ≡ false) where
+-- a test on names that no name of a feature or of a head passes
+module _ (test : RecName → Bool) (no_feature : (m : RecName) → is_feature_kind m.kind ≡ true → test m ≡ false) (no_head : test head_name ≡ false) where
   vector_by : (n : RecName) (hit more : Bool) (r : Record) (rest : Option Record) → (hit ≡ true → is_some (vector_of test r) ≡ test n) → is_some (option_and_then (vector_of test) rest) ≡ (test n && more)
       → is_some (option_and_then (vector_of test) (cond hit (Some r) rest)) ≡ (test n && (hit || more))
   vector_by n true more r rest e h = e refl ∙ and_yes (test n)
   vector_by n false more r rest e h = h
 
   -- a record of such a name is a vector record
-  pub found_vector : (n : RecName) (rs : List Record) → AreWellNamed rs → is_some (option_and_then (vector_of test) (find (is_named n) rs)) ≡ (test n && list_any (is_named n) rs)
+  found_vector : (n : RecName) (rs : List Record) → AreWellNamed rs → is_some (option_and_then (vector_of test) (find (is_named n) rs)) ≡ (test n && list_any (is_named n) rs)
   found_vector n [] w = and_no (test n)
   found_vector n (V v ∷ rs) w =
       vector_by n (is_named n (V v)) (list_any (is_named n) rs) (V v) (find (is_named n) rs)
@@ -112,6 +115,16 @@ module _ (test : RecName → Bool) (no_feature : (m : RecName) → is_feature_ki
       vector_by n (is_named n (F f)) (list_any (is_named n) rs) (F f) (find (is_named n) rs)
       (λ e. sym (no_feature f.name w.0) ∙ ap test (sym (one_when_same n f.name e)))
       (found_vector n rs w.1)
+  found_vector n (H h ∷ rs) w = absurd (cc (w.0))
+
+  beside_head : (c : Cell) (n : RecName) (of_head : Bool) → is_head_name n ≡ of_head → AreWellNamed (all_records c)
+      → is_some (option_and_then (vector_of test) (cond of_head (Some (H c.head)) (listed_record c n))) ≡ (test n && list_any (is_named n) (all_records c))
+  beside_head c n true e w = ap (λ b. b && list_any (is_named n) (all_records c)) (sym (ap test (one_when_same n head_name e) ∙ no_head))
+  beside_head c n false e w = found_vector n (all_records c) w
+
+  -- such a name is that of a vector record where a record of the lists has it
+  pub vector_found : (c : Cell) (n : RecName) → AreWellNamed (all_records c) → is_some (vector_named test c n) ≡ (test n && list_any (is_named n) (all_records c))
+  vector_found c n w = beside_head c n (is_head_name n) refl w
 
 -- ---- each two of some names
 held_squares : (a b : RecName) (names firsts : List RecName) → holds subject_order (Pair a b) (flat_map (λ f. map (Pair f) names) firsts) ≡ (has a firsts && has b names)
@@ -144,10 +157,10 @@ module _ (c : Cell) (w : IsWritable c) where
   has_name n = holds-ascending name_order exact_names n (record_names c) ∙ has_records n (all_records c)
 
   edge_found : (n : RecName) → is_some (edge_named c n) ≡ (is_edge_name n && is_there n)
-  edge_found n = found_vector is_edge_name (λ m. no_edge m.kind) n (all_records c) (all_well_named c w)
+  edge_found n = vector_found is_edge_name (λ m. no_edge m.kind) refl c n (all_well_named c w)
 
   node_found : (n : RecName) → is_some (node_named c n) ≡ (is_of_kind Vc n && is_there n)
-  node_found n = found_vector (is_of_kind Vc) (λ m. no_connected_node m.kind) n (all_records c) (all_well_named c w)
+  node_found n = vector_found (is_of_kind Vc) (λ m. no_connected_node m.kind) refl c n (all_well_named c w)
 
   part_found : (n : RecName) → is_chain_part c n ≡ (is_part_name n && is_there n)
   part_found n = (λ i. node_found n i || edge_found n i) ∙ either (is_of_kind Vc n) (is_there n) (is_edge_name n)

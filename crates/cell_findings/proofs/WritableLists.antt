@@ -3,10 +3,10 @@ use Rattle.std.proofs.Common.{◌≡◌, ℕ, Bool, true, false, ◌&&◌, List,
 use Rattle.std.specs.Prelude.{not, nat_lt, if◌then◌else◌}
 use Rattle.std.specs.List.{AllByRecursion}
 use Rattle.std.proofs.lemmas.List.Elements.{recursion_from_All}
-use Rattle.s57_types.specs.Fitness.{unfitness, has_good_names, has_good_texts, is_feature_kind}
+use Rattle.s57_types.specs.Fitness.{unfitness, has_good_names, has_good_texts, is_feature_kind, is_vector_kind}
 use Rattle.s57_types.specs.RecordFields.{written_length, length_limit}
 use Rattle.s57_types.specs.declared.record.Rec.{Rec}
-use Rattle.s57_types.specs.declared.record.Rec.TheVariants.{V, F}
+use Rattle.s57_types.specs.declared.record.Rec.TheVariants.{V, F, H}
 use Rattle.s57_types.specs.declared.cell.Cell.{Cell}
 use Rattle.s57_types.specs.declared.fault.Unfit.TheVariants.{TooLong, BadText, BadName}
 use Rattle.cell_spec.specs.Lookup.{all_records}
@@ -19,8 +19,9 @@ readable c w = record { distinct = w.names_distinct; count = omega (arith, w.not
 
 -- ---- a record that can be written is a vector record or a feature, as its name says
 abbrev pub is_well_named : Rec → Bool
-is_well_named (V v) = not (is_feature_kind v.name.kind)
+is_well_named (V v) = is_vector_kind v.name.kind
 is_well_named (F f) = is_feature_kind f.name.kind
+is_well_named (H h) = false
 
 both_true : (a b : Bool) → (a && b) ≡ true → a ≡ true
 both_true true b is = refl
@@ -35,8 +36,9 @@ fit_names nall r fit = by (has_good_names r) (has_good_texts nall r) (nat_lt len
     by false texts long e = absurd cc
 
 fit_is_well_named : (nall : ℕ) (r : Rec) → unfitness nall r ≡ None → is_well_named r ≡ true
-fit_is_well_named nall (V v) fit = both_true (not (is_feature_kind v.name.kind)) _ (fit_names nall (V v) fit)
+fit_is_well_named nall (V v) fit = both_true (is_vector_kind v.name.kind) _ (fit_names nall (V v) fit)
 fit_is_well_named nall (F f) fit = both_true (is_feature_kind f.name.kind) _ (fit_names nall (F f) fit)
+fit_is_well_named nall (H h) fit = fit_names nall (H h) fit
 
 abbrev pub AreWellNamed : List Rec → Type 0
 AreWellNamed = AllByRecursion (λ r. is_well_named r ≡ true)

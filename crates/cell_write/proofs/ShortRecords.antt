@@ -9,7 +9,7 @@ use Rattle.s57_types.specs.RecordFields.{identification_fields, parameter_fields
 use Rattle.s57_types.specs.declared.cell.Cell.{Cell}
 use Rattle.s57_types.specs.declared.head.Head.{Head}
 use Rattle.s57_types.specs.declared.record.Rec.{Rec}
-use Rattle.s57_types.specs.declared.record.Rec.TheVariants.{V, F}
+use Rattle.s57_types.specs.declared.record.Rec.TheVariants.{V, F, H}
 use Rattle.file_spec.specs.DescriptiveRecord.{Description, structure_controls, level_controls, label_text, description_field, descriptions, descriptive_fields}
 use Rattle.file_spec.specs.EncodedCell.{record_counts}
 use Rattle.file_spec.proofs.CellFields.{head_fits, fit_is_found}
@@ -31,6 +31,7 @@ parameters_short n h fit = (head_fits h fit).1
 same_length : (nall n : ℕ) (r : Rec) → record_length (field_lengths (record_fields nall n r)) ≡ written_length nall r
 same_length nall n (V v) = refl
 same_length nall n (F f) = refl
+same_length nall n (H h) = refl
 
 pub record_short : (nall n : ℕ) (r : Rec) → unfitness nall r ≡ None → record_length (field_lengths (record_fields nall n r)) ≤ 99999
 record_short nall n r fit = subst (λ (k : ℕ). k ≤ 99999) (sym (same_length nall n r)) (fit_is_found nall r fit).short

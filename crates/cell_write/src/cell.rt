@@ -42,17 +42,20 @@ fn put_fields(
 }
 
 /// The fields of a record with a number.
+#[tactic(auto, unfolding(s57_types::specs::Fitness::unfitness))]
 fn record_fields(
     alloc: Global,
     nall: u8,
     number: u16,
     rec: &Rec,
 ) -> Result<Vec<OutField>, AllocError>
+    requires { unfitness nall rec.now ≡ None }
     ensures { IfOk result (λ fields. fields_of fields.items ≡ record_fields nall number rec.now) }
 {
     match rec {
         Rec::V(vector) => vector_fields(alloc, number, vector),
         Rec::F(feature) => feature_fields(alloc, nall, number, feature),
+        Rec::H(_) => unreachable!(),
     }
 }
 

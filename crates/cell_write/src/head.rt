@@ -70,6 +70,7 @@ fn has_class_from(rec: &Rec, low: u16, high: u16) -> bool
     match rec {
         Rec::V(_) => false,
         Rec::F(feature) => low <= feature.objl && feature.objl <= high,
+        Rec::H(_) => false,
     }
 }
 

@@ -16,7 +16,7 @@ use Rattle.std.proofs.lemmas.List.Sorted.{Contains-permutation, list_any-IsPermu
 use Rattle.s57_types.specs.declared.name.RecName.{RecName}
 use Rattle.s57_types.specs.declared.name.Lnam.{Lnam}
 use Rattle.s57_types.specs.declared.record.Rec.{Rec}
-use Rattle.s57_types.specs.declared.record.Rec.TheVariants.{V, F}
+use Rattle.s57_types.specs.declared.record.Rec.TheVariants.{V, F, H}
 use Rattle.cell_spec.specs.declared.key.Ref.{Ref}
 use Rattle.cell_spec.specs.Ascending.{order_by}
 use Rattle.cell_spec.specs.Lookup.{name_of, is_named, targets_of, bears, pointers_in}
@@ -142,6 +142,7 @@ bearer_selected f l r false false rs e h = refl
 identity-selected : (l : Lnam) (r : Rec) (rs : List Rec) → values_at (order_by identity_parts) (identity_of r) l ++ map name_of (filter (bears l) rs) ≡ map name_of (filter (bears l) (r ∷ rs))
 identity-selected l (V v) rs = refl
 identity-selected l (F f) rs = bearer_selected f.name f.foid (F f) (is_eq (order_by identity_parts f.foid l)) (same_identity l f.foid) (filter (bears l) rs) (identities_tie f.foid l) refl
+identity-selected l (H h) rs = refl
 
 -- the bearers of an identifier among all identities of some records
 pub identities-listed : (l : Lnam) (rs : List Rec) → values_at (order_by identity_parts) (identities_listed rs) l ≡ map name_of (filter (bears l) rs)

@@ -1,62 +1,20 @@
 -- Pairs sorted with each once, cut into keys and values; and the part of the values that one key has.
-use Rattle.std.proofs.Common.{◌≡◌, ℕ, zero, suc, ◌+◌, ◌<◌, ◌≤◌, Bool, true, false, ◌||◌, List, [], ◌∷◌, length, take, drop, map, filter, get_or, ◌-◌, true≢false, refl, sym, ap, ◌∙◌, arith}
+use Rattle.std.proofs.Common.{◌≡◌, ℕ, zero, suc, ◌+◌, ◌<◌, ◌≤◌, true, false, List, [], ◌∷◌, length, take, drop, map, filter, get_or, ◌-◌, true≢false, refl, sym, ap, ◌∙◌, arith}
 use Rattle.std.specs.Prelude.{cond}
 use Rattle.std.specs.declared.cmp.Ordering.{Ordering}
 use Rattle.std.specs.declared.cmp.Ordering.TheVariants.{Less, Equal, Greater}
-use Rattle.std.specs.Ordering.{is_eq, is_lt, is_le, eq_by_cmp, ordering_index, ordering_reverse, ordering_then}
+use Rattle.std.specs.Ordering.{is_eq, is_lt, is_le, ordering_index, ordering_reverse, ordering_then}
 use Rattle.std.specs.Cmp.{IsTotalOrder}
-use Rattle.std.specs.List.{zip, dedup, dedup_from}
-use Rattle.std.specs.List.Sorted.{IsSorted, IsStrictlySortedBy, IsPermutation, IsPartitionedBy, IsPartitionPoint}
-use Rattle.std.proofs.lemmas.List.Kept.{IsStrictlySortedBy-dedup}
-use Rattle.std.proofs.lemmas.List.Sorted.{list_any-IsPermutation, searchable_from_sorted}
-use Rattle.std.proofs.lemmas.Map.Lookups.{CmpEqualImpliesEq}
-use Rattle.cell_spec.specs.Ascending.{ascending}
+use Rattle.std.specs.List.{zip}
+use Rattle.std.specs.List.Sorted.{IsSorted, IsStrictlySortedBy, IsPartitionedBy, IsPartitionPoint}
+use Rattle.std.proofs.lemmas.List.Sorted.{searchable_from_sorted}
 use Rattle.chain_topo.specs.Listed.{values_at, pair_order}
 use Rattle.chain_topo.specs.Span.{IsSpan}
-use Rattle.cell_spec.proofs.Ascending.{holds, holds-ascending, sorted-ascending, same_when_sorted}
 
 -- firsts beside seconds are the pairs
 pub zip-parts : {K V : Type 0} (ps : List (K × V)) → zip (map (λ (p : K × V). p.0) ps) (map (λ (p : K × V). p.1) ps) ≡ ps
 zip-parts [] = refl
 zip-parts (p ∷ ps) = ap (λ qs. p ∷ qs) (zip-parts ps)
-
-module _ {X : Type 0} (order : X → X → Ordering) (total : IsTotalOrder order) (exact : CmpEqualImpliesEq order) (same : X → X → Bool) (ties : (x y : X) → same x y ≡ eq_by_cmp order x y) where
-  or_twice : (a b : Bool) → (a || b) ≡ (a || (a || b))
-  or_twice true b = refl
-  or_twice false b = refl
-
-  or_swap : (a b c : Bool) → (a || (b || c)) ≡ (b || (a || c))
-  or_swap true true c = refl
-  or_swap true false c = refl
-  or_swap false b c = refl
-
-  one : (x y : X) (found : Ordering) → order x y ≡ found → is_eq found ≡ true → x ≡ y
-  one x y Less e h = cc
-  one x y Equal e h = exact x y e
-  one x y Greater e h = cc
-
-  holds_kept : (q k x : X) (xs : List X) (found : Bool) → same x k ≡ found → ((j : X) → holds order q (dedup_from same j xs) ≡ (is_eq (order q j) || holds order q xs))
-      → holds order q (cond found (dedup_from same k xs) (k ∷ dedup_from same x xs)) ≡ (is_eq (order q k) || (is_eq (order q x) || holds order q xs))
-  holds_kept q k x xs true e h =
-      let tied : x ≡ k = one x k (order x k) refl (sym (ties x k) ∙ e) in
-      h k ∙ or_twice (is_eq (order q k)) (holds order q xs) ∙ ap (λ z. is_eq (order q k) || (is_eq (order q z) || holds order q xs)) (sym tied)
-  holds_kept q k x xs false e h = ap (λ b. is_eq (order q k) || b) (h x)
-
-  holds_from : (q k : X) (xs : List X) → holds order q (dedup_from same k xs) ≡ (is_eq (order q k) || holds order q xs)
-  holds_from q k [] = refl
-  holds_from q k (x ∷ xs) = holds_kept q k x xs (same x k) refl (λ j. holds_from q j xs)
-
-  holds-dedup : (q : X) (xs : List X) → holds order q (dedup same xs) ≡ holds order q xs
-  holds-dedup q [] = refl
-  holds-dedup q (x ∷ xs) = holds_from q x xs
-
-  -- a sorted list with each item once is the ascending list of what was sorted
-  pub dedup-ascending : (given sorted : List X) → IsPermutation given sorted → IsSorted order sorted → dedup same sorted ≡ ascending order given
-  dedup-ascending given sorted moved rising =
-      same_when_sorted order total exact (dedup same sorted) (ascending order given)
-      (IsStrictlySortedBy-dedup total ties sorted rising)
-      (sorted-ascending order total given)
-      (λ q. holds-dedup q sorted ∙ sym (list_any-IsPermutation (λ y. is_eq (order q y)) given sorted moved) ∙ sym (holds-ascending order exact q given))
 
 not_equal_below : (o : Ordering) → is_lt o ≡ true → is_eq o ≡ false
 not_equal_below Less h = refl

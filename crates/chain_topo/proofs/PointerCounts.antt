@@ -18,7 +18,7 @@ use Rattle.s57_types.specs.declared.record.Spot.{Spot}
 use Rattle.s57_types.specs.declared.record.Vector.{Vector}
 use Rattle.s57_types.specs.declared.record.Feature.{Feature}
 use Rattle.s57_types.specs.declared.record.Rec.{Rec}
-use Rattle.s57_types.specs.declared.record.Rec.TheVariants.{V, F}
+use Rattle.s57_types.specs.declared.record.Rec.TheVariants.{V, F, H}
 use Rattle.s57_types.specs.declared.fault.Unfit.TheVariants.{TooLong, BadText, BadName}
 use Rattle.cell_spec.specs.Lookup.{targets_of}
 use Rattle.chain_topo.specs.Listed.{HasFewPointers}
@@ -74,6 +74,7 @@ places_le nall f =
 targets_le : (nall : ℕ) (r : Rec) → length (targets_of r) ≤ written_length nall r
 targets_le nall (V v) = omega (arith, ends_le nall v, length-map v.ends (λ (e : End). e.to))
 targets_le nall (F f) = omega (arith, places_le nall f, length-map f.places (λ (s : Spot). s.to))
+targets_le nall (H h) = omega arith
 
 fit_is_short : (nall : ℕ) (r : Rec) → unfitness nall r ≡ None → written_length nall r ≤ length_limit
 unfolding unfitness

@@ -22,7 +22,7 @@ use Rattle.cell_spec.specs.Names.{name_parts, same_name}
 use Rattle.chain_topo.specs.Readable.{IsReadable}
 use Rattle.std.proofs.lemmas.List.{map-append, length-map}
 use Rattle.std.proofs.lemmas.List.Elements.{All-append, All-weaker}
-use Rattle.s57_types.specs.Fitness.{is_feature_kind, has_good_names, has_good_texts, unfitness}
+use Rattle.s57_types.specs.Fitness.{is_feature_kind, is_vector_kind, has_good_names, has_good_texts, unfitness}
 use Rattle.s57_types.specs.RecordFields.{record_fields, written_length, length_limit}
 
 -- a record that fits at every level
@@ -95,18 +95,15 @@ short_vector nall name (d ∷ e ∷ f ∷ []) (p ∷ q ∷ []) few_ends few = sh
 short_vector nall name (d ∷ e ∷ f ∷ []) (p ∷ q ∷ r ∷ ps) few_ends few = absurd (omega arith)
 short_vector nall name (d ∷ e ∷ f ∷ g ∷ ends) plane few_ends few = absurd (omega arith)
 
-good_names_by : (a b : Bool) → a ≡ false → b ≡ true → (not a && b) ≡ true
-good_names_by a b e f = λ i. not (e i) && f i
-
 -- a vector record with few pointers and points fits
-pub vector-fits : (nall : ℕ) (name : RecName) (ends : List End) (plane : List (ℤ × ℤ)) → is_feature_kind name.kind ≡ false → list_all (λ (e : End). not (is_feature_kind e.to.kind)) ends ≡ true
+pub vector-fits : (nall : ℕ) (name : RecName) (ends : List End) (plane : List (ℤ × ℤ)) → is_vector_kind name.kind ≡ true → list_all (λ (e : End). is_vector_kind e.to.kind) ends ≡ true
     → length ends ≤ 3 → length plane ≤ 2 → unfitness nall (plain_vector name ends plane) ≡ None
 vector-fits nall name ends plane kind targets few_ends few =
-    fit_from_tests nall (plain_vector name ends plane) (good_names_by (is_feature_kind name.kind) (list_all (λ (e : End). not (is_feature_kind e.to.kind)) ends) kind targets) refl
+    fit_from_tests nall (plain_vector name ends plane) (λ i. kind i && targets i) refl
     (short_vector nall name ends plane few_ends few)
 
 pub vector-fits-with : (name : RecName) (attrs : List Attr) (ends : List End) (plane : List (ℤ × ℤ)) (deep : List (ℤ × ℤ × ℤ)) (given_ends : List End) (given_plane : List (ℤ × ℤ)) → attrs ≡ [] → ends ≡ given_ends → plane ≡ given_plane → deep ≡ []
-    → is_feature_kind name.kind ≡ false → list_all (λ (e : End). not (is_feature_kind e.to.kind)) given_ends ≡ true → length given_ends ≤ 3 → length given_plane ≤ 2
+    → is_vector_kind name.kind ≡ true → list_all (λ (e : End). is_vector_kind e.to.kind) given_ends ≡ true → length given_ends ≤ 3 → length given_plane ≤ 2
     → (nall : ℕ) → unfitness nall (V (record { name = name; rver = 1; attrs = attrs; ends = ends; plane = plane; deep = deep })) ≡ None
 vector-fits-with name attrs ends plane deep given_ends given_plane no_attrs same_ends same_plane no_deep kind targets few_ends few nall =
     (λ i. unfitness nall (V (record { name = name; rver = 1; attrs = no_attrs i; ends = same_ends i; plane = same_plane i; deep = no_deep i })))
@@ -124,13 +121,13 @@ short_feature nall name foid (r ∷ s ∷ t ∷ u ∷ []) few = short_by nall (p
 short_feature nall name foid (r ∷ s ∷ t ∷ u ∷ v ∷ places) few = absurd (omega arith)
 
 -- a feature with few pointers fits
-pub feature-fits : (nall : ℕ) (name : RecName) (foid : Lnam) (places : List Spot) → is_feature_kind name.kind ≡ true → list_all (λ (s : Spot). not (is_feature_kind s.to.kind)) places ≡ true
+pub feature-fits : (nall : ℕ) (name : RecName) (foid : Lnam) (places : List Spot) → is_feature_kind name.kind ≡ true → list_all (λ (s : Spot). is_vector_kind s.to.kind) places ≡ true
     → length places ≤ 4 → unfitness nall (plain_feature name foid places) ≡ None
 feature-fits nall name foid places kind targets few =
     fit_from_tests nall (plain_feature name foid places) (λ i. kind i && targets i) refl (short_feature nall name foid places few)
 
 pub feature-fits-with : (name : RecName) (foid : Lnam) (attf natf : List Attr) (partners : List Partner) (places given : List Spot) → attf ≡ [] → natf ≡ [] → partners ≡ [] → places ≡ given
-    → name.kind ≡ Fe → list_all (λ (s : Spot). not (is_feature_kind s.to.kind)) given ≡ true → length given ≤ 4
+    → name.kind ≡ Fe → list_all (λ (s : Spot). is_vector_kind s.to.kind) given ≡ true → length given ≤ 4
     → (nall : ℕ) → unfitness nall (F (record { name = name; prim = 3; grup = 1; objl = 42; rver = 1; foid = foid; attf = attf; natf = natf; partners = partners; places = places })) ≡ None
 feature-fits-with name foid attf natf partners places given no_attf no_natf no_partners same kind targets few nall =
     (λ i. unfitness nall (F (record { name = name; prim = 3; grup = 1; objl = 42; rver = 1; foid = foid; attf = no_attf i; natf = no_natf i; partners = no_partners i; places = same i })))

@@ -9,7 +9,7 @@ use Rattle.s57_types.specs.declared.record.Rec.{Rec}
 use Rattle.s57_types.specs.declared.cell.Cell.{Cell}
 use Rattle.cell_spec.specs.declared.key.Ref.{Ref}
 use Rattle.cell_spec.specs.Ascending.{order_by}
-use Rattle.cell_spec.specs.Lookup.{is_named, name_of, lookup_record, lookup_pointers, lookup_identity}
+use Rattle.cell_spec.specs.Lookup.{is_named, name_of, listed_record, lookup_pointers, lookup_identity}
 use Rattle.cell_spec.specs.Names.{name_order, identity_parts, same_name}
 use Rattle.chain_topo.specs.Listed.{values_at}
 use Rattle.chain_topo.specs.Readable.{IsReadable}
@@ -23,6 +23,6 @@ pub record IsByName (records : List (Bor Rec)) : Type 0 where
 pub record Answers (c : Cell) (records : List (Bor Rec)) (pointers : List (RecName × Ref)) (identities : List (Lnam × RecName)) : Type 0 where
   pub readable : IsReadable c
   pub by_name : IsByName records
-  pub get : (n : RecName) → find (is_named n) (map (λ (r : Bor Rec). r.now) records) ≡ lookup_record c n
+  pub get : (n : RecName) → find (is_named n) (map (λ (r : Bor Rec). r.now) records) ≡ listed_record c n
   pub refs : (n : RecName) → values_at name_order pointers n ≡ lookup_pointers c n
   pub bearers : (l : Lnam) → values_at (order_by identity_parts) identities l ≡ lookup_identity c l

@@ -20,6 +20,7 @@ pub(crate) fn name_of(rec: &Rec) -> RecName
     match rec {
         Rec::V(vector) => vector.name,
         Rec::F(feature) => feature.name,
+        Rec::H(_) => RecName::of_head(),
     }
 }
 
@@ -77,6 +78,7 @@ fn add_pointers(list: &mut Vec<(RecName, Ref)>, rec: &Rec) -> Result<(), AllocEr
     match rec {
         Rec::V(vector) => add_ends(list, vector.name, vector.ends.as_slice()),
         Rec::F(feature) => add_spots(list, feature.name, feature.places.as_slice()),
+        Rec::H(_) => Ok(()),
     }
 }
 

@@ -20,7 +20,7 @@ use crate::groups::Groups;
 use crate::listed::{list_identities, list_pointers, name_of, records_of};
 use cell_spec::{Ref, orders_are_by_parts};
 use look_counter::Steps;
-use s57_types::{Cell, Lnam, Rec, RecName};
+use s57_types::{Cell, Duplicate, Lnam, Rec, RecName};
 use std::alloc::{AllocError, Global};
 use std::marker::Model;
 use std::sync::ledger::Ledger;
@@ -30,20 +30,23 @@ use std::sync::ledger::Ledger;
 #[derive(Drop)]
 pub struct ListLook<'a> {
     cell: &'a Cell,
+    head: Rec,
     records: Vec<&'a Rec>,
     pointers: Groups<RecName, Ref>,
     identities: Groups<Lnam, RecName>,
 }
 
 impl<'a> Model for ListLook<'a> {
+    ghost use Rattle.std.specs.Prelude.{◌≡◌};
     ghost use Rattle.s57_types.specs.declared.cell.Cell.{Cell};
+    ghost use Rattle.s57_types.specs.declared.record.Rec.TheVariants.{H};
     ghost use Rattle.chain_topo.specs.Answers.{Answers};
 
     ghost Value = { Cell };
 
     ghost view = { λ l. l.cell.now };
 
-    ghost invariant = { λ l. Answers l.cell.now l.records.items l.pointers l.identities };
+    ghost invariant = { λ l. Answers l.cell.now l.records.items l.pointers l.identities × (l.head ≡ H l.cell.now.head) };
 }
 
 impl<'a> ListLook<'a> {
@@ -57,8 +60,10 @@ impl<'a> ListLook<'a> {
         let records = records_of(alloc, cell)?;
         let pointers = group_pointers(alloc, &records)?;
         let identities = group_identities(alloc, &records)?;
+        let head = Rec::H(cell.head.copy(alloc)?);
         Ok(ListLook {
             cell,
+            head,
             records: sorted_by_name(records),
             pointers,
             identities,
@@ -75,6 +80,9 @@ impl<'a> Look for ListLook<'a> {
 
     fn get<L: Ledger>(&self, name: RecName, steps: &mut Steps<L>) -> Option<&Rec> {
         steps.tick();
+        if name == RecName::of_head() {
+            return Some(&self.head);
+        }
         find_sorted(&self.records, name)
     }
 

@@ -1,15 +1,21 @@
-//! The orientation, usage and masking indicators of spatial pointers (S-57 Part 3, 7.6.8; Appendix B.1).
+//! The codes of a feature: the orientation, usage and masking indicators of its spatial pointers (S-57 Part 3, 7.6.8;
+//! Appendix B.1), and the bytes of its attributes' values (2.4).
 
-ghost use Rattle.std.specs.Prelude.{◌≡◌, ◌++◌, OnOk, map};
+ghost use Rattle.std.specs.Prelude.{◌≡◌, ◌==◌, ◌<◌, ◌++◌, IfSome, List, OnOk, length, map, position, true};
 ghost use Rattle.s57_types.specs.declared.cell.Cell.{Cell as SpecCell};
-ghost use Rattle.rule_spec.specs.declared.kind.TheConstants.{BAD_CODES};
-ghost use Rattle.rule_spec.specs.Features.{bad_codes, has_its_codes as spec_codes};
+ghost use Rattle.s57_types.specs.Heads.{head_name};
+ghost use Rattle.cell_spec.specs.declared.key.Key.{Key as SpecKey};
+ghost use Rattle.cell_spec.specs.declared.key.Key.TheVariants.{Name as KeyName};
+ghost use Rattle.rule_spec.specs.declared.kind.TheConstants.{BAD_CODES, BAD_LEVEL};
+ghost use Rattle.rule_spec.specs.Features.{bad_codes, bad_level, has_its_codes as spec_codes, is_beyond_ascii as spec_beyond};
 ghost use Rattle.rule_spec.specs.Findings.{finding};
+ghost use Rattle.near_records.specs.Near.{IsNear, has_key};
 
 use crate::found::push_place_if;
 use cell_spec::Finding;
-use rule_spec::BAD_CODES;
-use s57_types::{Feature, Spot};
+use near_records::NearRecords;
+use rule_spec::{BAD_CODES, BAD_LEVEL};
+use s57_types::{Attr, Feature, Rec, RecName, Spot};
 use std::alloc::AllocError;
 
 /// No code.
@@ -56,4 +62,46 @@ pub(crate) fn push_bad_codes(
         push_place_if(findings, BAD_CODES, is_bad, k + 1)?;
     }
     Ok(())
+}
+
+/// Whether general texts are at the lexical level 0 (AALL, S-57 Part 3, 2.4), where the head is near.
+fn is_at_level_zero(near: &NearRecords) -> bool
+    ensures { (c : SpecCell) (keys : List SpecKey) → IsNear c keys near.now → has_key keys (KeyName head_name) ≡ true → result ≡ (c.head.aall == 0) }
+{
+    match near.record(RecName::of_head()) {
+        Some(Rec::H(head)) => head.aall == 0,
+        _ => false,
+    }
+}
+
+/// Whether a value has a byte beyond ASCII.
+fn is_beyond_ascii(attr: &Attr) -> bool
+    ensures { result ≡ spec_beyond attr.now }
+{
+    attr.value.as_slice().iter().any(|byte| *byte >= 0x80)
+}
+
+fn first_beyond_ascii(attrs: &[Attr]) -> Option<usize>
+    ensures first { result ≡ position spec_beyond attrs.now }
+    ensures within { IfSome result (λ k. k < length attrs.now) }
+{
+    attrs.iter().position(|attr| is_beyond_ascii(attr))
+}
+
+/// BadLevel: appends its finding about a feature, where the head is near.
+#[tactic(auto, using(crate::proofs::FeatureFindings::first_place, crate::proofs::FeatureFindings::no_place))]
+pub(crate) fn push_bad_level(
+    findings: &mut Vec<Finding>,
+    near: &NearRecords,
+    feature: &Feature,
+) -> Result<(), AllocError>
+    ensures { (c : SpecCell) (keys : List SpecKey) → IsNear c keys near.now → has_key keys (KeyName head_name) ≡ true → OnOk result (findings.new.items ≡ findings.old.items ++ map (finding BAD_LEVEL) (bad_level c feature.now)) }
+{
+    if !is_at_level_zero(near) {
+        return Ok(());
+    }
+    match first_beyond_ascii(feature.attf.as_slice()) {
+        Some(k) => push_place_if(findings, BAD_LEVEL, true, k + 1),
+        None => Ok(()),
+    }
 }

@@ -13,7 +13,7 @@ ghost use Rattle.rule_spec.specs.Rules.{feature_rules};
 ghost use Rattle.near_records.specs.Near.{IsNear};
 
 use crate::boundary::push_boundary_findings;
-use crate::codes::push_bad_codes;
+use crate::codes::{push_bad_codes, push_bad_level};
 use crate::group::push_wrong_group;
 use crate::partners::push_dangling_features;
 use crate::places::{push_dangling_refs, push_prim_refs};
@@ -23,8 +23,8 @@ use s57_types::Feature;
 use std::alloc::{AllocError, Global};
 
 /// The findings about a feature, ascending by kind and numbers, where what its cell answers to the keys of its read set
-/// is near. The kinds are PrimRefs, DanglingRef, BadCodes, OpenRing, MixedRing, OuterCount, WrongTurn, DanglingFeature and
-/// WrongGroup (S-57 Part 3, 7.6; Appendix B.1).
+/// is near. The kinds are PrimRefs, DanglingRef, BadCodes, OpenRing, MixedRing, OuterCount, WrongTurn, DanglingFeature,
+/// WrongGroup and BadLevel (S-57 Part 3, 2.4 and 7.6; Appendix B.1).
 ///
 /// An `Err` is want of memory.
 pub fn feature_findings(
@@ -41,5 +41,6 @@ pub fn feature_findings(
     push_boundary_findings(alloc, &mut findings, near, feature)?;
     push_dangling_features(&mut findings, near, feature)?;
     push_wrong_group(&mut findings, feature)?;
+    push_bad_level(&mut findings, near, feature)?;
     Ok(findings)
 }

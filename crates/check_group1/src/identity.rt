@@ -8,10 +8,9 @@ ghost use Rattle.rule_spec.specs.Reads.{read_set};
 ghost use Rattle.s57_types.specs.declared.cell.Cell.{Cell as SpecCell};
 ghost use Rattle.s57_types.specs.declared.name.Lnam.{Lnam as SpecLnam};
 
-use cell_spec::{Finding, Findings, Key, Keys, Row, Subject};
+use cell_spec::{Finding, Findings, Key, Keys, Row, Subject, ascending_keys};
 use chain_topo::{Look, Steps};
 use plain_lookups::number;
-use read_sets::ascending_keys;
 use rule_spec::TWICE_FOID;
 use s57_types::{Lnam, RecName};
 use std::alloc::{AllocError, Global};

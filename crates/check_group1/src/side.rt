@@ -10,9 +10,8 @@ ghost use Rattle.rule_spec.specs.Records.{edge_named};
 
 use crate::finding::side_findings;
 use crate::uses::uses_of;
-use cell_spec::{Finding, Key, Keys, Ref, Row, Subject};
+use cell_spec::{Finding, Key, Keys, Ref, Row, Subject, ascending_keys};
 use chain_topo::{Look, Steps};
-use read_sets::ascending_keys;
 use s57_types::{Items, Kind, Rec, RecName};
 use std::alloc::{AllocError, Global};
 use std::sync::ledger::Ledger;

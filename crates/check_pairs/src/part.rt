@@ -11,10 +11,10 @@ ghost use Rattle.rule_spec.specs.Records.{is_chain_part, is_edge_name};
 ghost use Rattle.rule_spec.specs.Contacts.{names_node as spec_names_node};
 ghost use Rattle.rule_spec.specs.Reads.{read_set};
 
-use cell_spec::Keys;
+use cell_spec::{Keys, ascending_keys};
 use chain_topo::{Look, Steps};
 use geometry_spec::Point;
-use read_sets::{ascending_keys, push_vector_keys};
+use read_sets::push_vector_keys;
 use s57_types::{Kind, Rec, RecName, Vector};
 use std::alloc::{AllocError, Global};
 use std::sync::ledger::Ledger;

@@ -4,7 +4,7 @@ use Rattle.std.specs.Prelude.{◌==◌}
 use Rattle.std.specs.Option.{option_map_or}
 use Rattle.std.proofs.lemmas.List.{append-nil}
 use Rattle.s57_types.specs.declared.name.Kind.{Kind}
-use Rattle.s57_types.specs.declared.name.Kind.TheVariants.{Vi, Vc, Ve, Fe}
+use Rattle.s57_types.specs.declared.name.Kind.TheVariants.{Vi, Vc, Ve, Fe, Head}
 use Rattle.s57_types.specs.declared.record.Rec.TheVariants.{V}
 use Rattle.s57_types.specs.declared.record.Vector.{Vector}
 use Rattle.s57_types.specs.declared.cell.Cell.{Cell}
@@ -33,12 +33,14 @@ node_is_no_edge Vi h = refl
 node_is_no_edge Vc h = refl
 node_is_no_edge Ve h = absurd cc
 node_is_no_edge Fe h = absurd cc
+node_is_no_edge Head h = absurd cc
 
 edge_is_no_node : (k : Kind) → (kind_rank k == 2) ≡ true → ((kind_rank k == 0) || (kind_rank k == 1)) ≡ false
 edge_is_no_node Vi h = absurd cc
 edge_is_no_node Vc h = absurd cc
 edge_is_no_node Ve h = refl
 edge_is_no_node Fe h = absurd cc
+edge_is_no_node Head h = absurd cc
 
 -- the findings about a node
 pub node_kinds : (c : Cell) (v : Vector) → is_node_name v.name ≡ true → map (finding BAD_SHAPE) (bad_shape c v) ++ map (finding NODE_POINTER) (node_pointer c v) ≡ findings_of_record c (V v)

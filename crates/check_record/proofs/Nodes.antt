@@ -9,7 +9,7 @@ use Rattle.s57_types.specs.declared.name.Kind.TheVariants.{Vc}
 use Rattle.s57_types.specs.declared.name.RecName.{RecName}
 use Rattle.s57_types.specs.declared.record.End.{End}
 use Rattle.s57_types.specs.declared.record.Rec.{Rec}
-use Rattle.s57_types.specs.declared.record.Rec.TheVariants.{V, F}
+use Rattle.s57_types.specs.declared.record.Rec.TheVariants.{V, F, H}
 use Rattle.s57_types.specs.declared.record.Vector.{Vector}
 use Rattle.s57_types.specs.declared.cell.Cell.{Cell}
 use Rattle.cell_spec.specs.declared.key.Key.{Key}
@@ -51,6 +51,7 @@ any_none b h (x ∷ xs) = ap (λ z. z || list_any b xs) (h x) ∙ any_none b h x
 node_by : (c : Cell) (m : RecName) (found : Option Rec) → lookup_record c m ≡ found → is_of_kind Vc m ≡ false → is_some (option_and_then (vector_of (is_of_kind Vc)) found) ≡ false
 node_by c m None e h = refl
 node_by c m (Some (F f)) e h = refl
+node_by c m (Some (H head)) e h = refl
 node_by c m (Some (V v)) e h =
     let same : m ≡ v.name = found_name c m (V v) e in
     ap (λ n. is_some (cond (is_of_kind Vc n) (Some v) None)) (sym same) ∙ ap (λ b. is_some (cond b (Some v) None)) h

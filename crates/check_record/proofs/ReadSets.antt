@@ -7,20 +7,22 @@ use Rattle.std.specs.Ordering.{is_eq}
 use Rattle.std.proofs.lemmas.List.Concat.{flat_map-cons}
 use Rattle.std.proofs.lemmas.List.Folds.{list_any-append}
 use Rattle.s57_types.specs.declared.name.Kind.{Kind}
-use Rattle.s57_types.specs.declared.name.Kind.TheVariants.{Vi, Vc, Ve, Fe}
+use Rattle.s57_types.specs.declared.name.Kind.TheVariants.{Vi, Vc, Ve, Fe, Head}
 use Rattle.s57_types.specs.declared.name.RecName.{RecName}
 use Rattle.s57_types.specs.declared.record.Feature.{Feature}
 use Rattle.s57_types.specs.declared.record.Partner.{Partner}
-use Rattle.s57_types.specs.declared.record.Rec.{Rec as Record}
-use Rattle.s57_types.specs.declared.record.Rec.TheVariants.{V, F}
+use Rattle.s57_types.specs.declared.record.Rec.TheVariants.{V, F, H}
 use Rattle.s57_types.specs.declared.record.Spot.{Spot}
 use Rattle.s57_types.specs.declared.record.Vector.{Vector}
 use Rattle.s57_types.specs.declared.cell.Cell.{Cell}
+use Rattle.s57_types.specs.declared.head.Head.{Head as CellHead}
+use Rattle.s57_types.specs.Heads.{head_name}
 use Rattle.cell_spec.specs.declared.key.Key.{Key}
 use Rattle.cell_spec.specs.declared.key.Key.TheVariants.{Name, Foid}
 use Rattle.cell_spec.specs.declared.key.Subject.TheVariants.{Rec}
 use Rattle.cell_spec.specs.Ascending.{ascending}
-use Rattle.cell_spec.specs.Lookup.{lookup_record}
+use Rattle.cell_spec.specs.declared.finding.Finding.{Finding}
+use Rattle.cell_spec.specs.Lookup.{listed_record, lookup_record}
 use Rattle.cell_spec.specs.Names.{is_of_kind, key_order, kind_rank}
 use Rattle.rule_spec.specs.Findings.{findings_of_record, findings_of_subject}
 use Rattle.rule_spec.specs.Reads.{end_keys, end_keys_at, feature_keys, keys_read, read_set}
@@ -31,7 +33,7 @@ use Rattle.check_record.specs.EndKeys.{ends_of_key}
 use Rattle.check_record.specs.Nodes.{is_node_key}
 use Rattle.cell_spec.proofs.Ascending.{any-ascending, longer_ascending}
 use Rattle.check_record.proofs.FewerPass.{fewer_pass}
-use Rattle.check_record.proofs.FoundRecords.{found_name}
+use Rattle.check_record.proofs.FoundRecords.{found_name, listed_feature, listed_vector}
 
 -- a read set has the record's own key
 pub some_keys : (c : Cell) (n : RecName) → 1 ≤ length (read_set c (Rec n))
@@ -43,6 +45,7 @@ edge_no_node Vi h = absurd cc
 edge_no_node Vc h = absurd cc
 edge_no_node Ve h = refl
 edge_no_node Fe h = absurd cc
+edge_no_node Head h = absurd cc
 
 or_true : (a b : Bool) → a ≡ true → (a || b) ≡ true
 or_true a b h = ap (λ z. z || b) h
@@ -68,17 +71,17 @@ no_ends : (c : Cell) (n : RecName) (f : Feature) → lookup_record c n ≡ Some 
 no_ends c n f h = ap (λ found. option_map_or end_keys (option_and_then (vector_of is_edge_name) found) []) h
 
 -- the keys of a feature
-feature_reads : (c : Cell) (n : RecName) (f : Feature) → lookup_record c n ≡ Some (F f) → keys_read c (Rec n) ≡ Name n ∷ ((place_keys f ++ boundary_keys c f) ++ partner_keys f)
+feature_reads : (c : Cell) (n : RecName) (f : Feature) → lookup_record c n ≡ Some (F f) → keys_read c (Rec n) ≡ Name n ∷ (Name head_name ∷ ((place_keys f ++ boundary_keys c f) ++ partner_keys f))
 unfolding place_keys partner_keys boundary_keys
 feature_reads c n f h = λ i. Name n ∷ (no_ends c n f h i ++ option_map_or (feature_keys c) (option_and_then feature_of (h i)) [])
 
 -- the records that a feature names are among its read set
 pub feature_places : (c : Cell) (n : RecName) (f : Feature) → lookup_record c n ≡ Some (F f)
-    → length (ascending key_order (Name n ∷ map (λ (s : Spot). Name s.to) f.places)) ≤ length (read_set c (Rec n))
+    → length (ascending key_order (Name n ∷ (Name head_name ∷ map (λ (s : Spot). Name s.to) f.places))) ≤ length (read_set c (Rec n))
 unfolding read_set place_keys
 feature_places c n f h =
-    let same : keys_read c (Rec n) ≡ (Name n ∷ place_keys f) ++ (boundary_keys c f ++ partner_keys f) = feature_reads c n f h ∙ ap (λ xs. Name n ∷ xs) (append_assoc (place_keys f) (boundary_keys c f) (partner_keys f)) in
-    omega (arith, longer_ascending key_order (Name n ∷ place_keys f) (boundary_keys c f ++ partner_keys f), ap (λ xs. length (ascending key_order xs)) same)
+    let same : keys_read c (Rec n) ≡ (Name n ∷ (Name head_name ∷ place_keys f)) ++ (boundary_keys c f ++ partner_keys f) = feature_reads c n f h ∙ ap (λ xs. Name n ∷ (Name head_name ∷ xs)) (append_assoc (place_keys f) (boundary_keys c f) (partner_keys f)) in
+    omega (arith, longer_ascending key_order (Name n ∷ (Name head_name ∷ place_keys f)) (boundary_keys c f ++ partner_keys f), ap (λ xs. length (ascending key_order xs)) same)
 
 any-flat_map : {X : Type 0} (t : Key → Bool) (f : X → List Key) (xs : List X) → list_any t (flat_map f xs) ≡ list_any (λ x. list_any t (f x)) xs
 any-flat_map t f [] = refl
@@ -91,25 +94,26 @@ any-map t f (x ∷ xs) = ap (λ b. t (f x) || b) (any-map t f xs)
 
 module _ (c : Cell) (n : RecName) (f : Feature) (found : lookup_record c n ≡ Some (F f)) (t : Key → Bool) where
   named : List Key
-  named = ascending key_order (Name n ∷ place_keys f)
+  named = ascending key_order (Name n ∷ (Name head_name ∷ place_keys f))
 
-  any_named : list_any t named ≡ (t (Name n) || list_any t (place_keys f))
+  any_named : list_any t named ≡ (t (Name n) || (t (Name head_name) || list_any t (place_keys f)))
   unfolding named
-  any_named = any-ascending key_order exact_keys t (Name n ∷ place_keys f)
+  any_named = any-ascending key_order exact_keys t (Name n ∷ (Name head_name ∷ place_keys f))
 
   any_boundary_by : (area : Bool) → list_any t (cond area (flat_map (ends_of_key c) named) []) ≡ list_any t (cond area (flat_map (λ (s : Spot). end_keys_at c s.to) f.places) [])
   unfolding named place_keys
   any_boundary_by false = refl
   any_boundary_by true =
       any-flat_map t (ends_of_key c) named
-      ∙ any-ascending key_order exact_keys (λ k. list_any t (ends_of_key c k)) (Name n ∷ place_keys f)
+      ∙ any-ascending key_order exact_keys (λ k. list_any t (ends_of_key c k)) (Name n ∷ (Name head_name ∷ place_keys f))
       ∙ ap (λ b. b || list_any (λ k. list_any t (ends_of_key c k)) (place_keys f)) (ap (list_any t) (no_ends c n f found))
       ∙ any-map (λ k. list_any t (ends_of_key c k)) (λ (s : Spot). Name s.to) f.places
       ∙ sym (any-flat_map t (λ (s : Spot). end_keys_at c s.to) f.places)
 
-  or_regroup : (a b c d : Bool) → (((a || b) || c) || d) ≡ (a || ((b || c) || d))
-  or_regroup true b c d = refl
-  or_regroup false b c d = refl
+  or_regroup : (a b c d e : Bool) → (((a || (b || c)) || d) || e) ≡ (a || (b || ((c || d) || e)))
+  or_regroup true b c d e = refl
+  or_regroup false true c d e = refl
+  or_regroup false false c d e = refl
 
   -- the keys that are gathered pass a test where the keys that are read do
   any_read : list_any t ((named ++ cond (f.prim == 3) (flat_map (ends_of_key c) named) []) ++ partner_keys f) ≡ list_any t (keys_read c (Rec n))
@@ -118,18 +122,18 @@ module _ (c : Cell) (n : RecName) (f : Feature) (found : lookup_record c n ≡ S
       list_any-append t (named ++ cond (f.prim == 3) (flat_map (ends_of_key c) named) []) (partner_keys f)
       ∙ ap (λ b. b || list_any t (partner_keys f)) (list_any-append t named (cond (f.prim == 3) (flat_map (ends_of_key c) named) []))
       ∙ (λ i. (any_named i || any_boundary_by (f.prim == 3) i) || list_any t (partner_keys f))
-      ∙ or_regroup (t (Name n)) (list_any t (place_keys f)) (list_any t (boundary_keys c f)) (list_any t (partner_keys f))
-      ∙ ap (λ b. t (Name n) || (b || list_any t (partner_keys f))) (sym (list_any-append t (place_keys f) (boundary_keys c f)))
-      ∙ ap (λ b. t (Name n) || b) (sym (list_any-append t (place_keys f ++ boundary_keys c f) (partner_keys f)))
+      ∙ or_regroup (t (Name n)) (t (Name head_name)) (list_any t (place_keys f)) (list_any t (boundary_keys c f)) (list_any t (partner_keys f))
+      ∙ ap (λ b. t (Name n) || (t (Name head_name) || (b || list_any t (partner_keys f)))) (sym (list_any-append t (place_keys f) (boundary_keys c f)))
+      ∙ ap (λ b. t (Name n) || (t (Name head_name) || b)) (sym (list_any-append t (place_keys f ++ boundary_keys c f) (partner_keys f)))
       ∙ ap (list_any t) (sym (feature_reads c n f found))
 
 -- the read set of a feature from its own name, the records that it names, the ends of these, and its partners
-pub feature_set : (c : Cell) (n : RecName) (f : Feature) → lookup_record c n ≡ Some (F f) → (named : List Key) → named ≡ ascending key_order (Name n ∷ map (λ (s : Spot). Name s.to) f.places)
+pub feature_set : (c : Cell) (n : RecName) (f : Feature) → lookup_record c n ≡ Some (F f) → (named : List Key) → named ≡ ascending key_order (Name n ∷ (Name head_name ∷ map (λ (s : Spot). Name s.to) f.places))
     → ascending key_order ((named ++ cond (f.prim == 3) (flat_map (ends_of_key c) named) []) ++ map (λ (p : Partner). Foid p.to) f.partners) ≡ read_set c (Rec n)
 unfolding read_set named place_keys partner_keys
 feature_set c n f found held is =
     let all = λ (named : List Key). (named ++ cond (f.prim == 3) (flat_map (ends_of_key c) named) []) ++ map (λ (p : Partner). Foid p.to) f.partners in
-    let own = ascending key_order (Name n ∷ map (λ (s : Spot). Name s.to) f.places) in
+    let own = ascending key_order (Name n ∷ (Name head_name ∷ map (λ (s : Spot). Name s.to) f.places)) in
     ap (λ named. ascending key_order (all named)) is
     ∙ same_when_sorted key_order total_keys exact_keys (ascending key_order (all own)) (ascending key_order (keys_read c (Rec n)))
     (sorted-ascending key_order total_keys (all own)) (sorted-ascending key_order total_keys (keys_read c (Rec n)))
@@ -141,11 +145,29 @@ unfolding read_set
 absent_set c n h =
     λ i. ascending key_order (Name n ∷ (option_map_or end_keys (option_and_then (vector_of is_edge_name) (h i)) [] ++ option_map_or (feature_keys c) (option_and_then feature_of (h i)) []))
 
+-- and that of the head
+pub head_set : (c : Cell) (n : RecName) (head : CellHead) → lookup_record c n ≡ Some (H head) → read_set c (Rec n) ≡ ascending key_order (Name n ∷ [])
+unfolding read_set
+head_set c n head h =
+    λ i. ascending key_order (Name n ∷ (option_map_or end_keys (option_and_then (vector_of is_edge_name) (h i)) [] ++ option_map_or (feature_keys c) (option_and_then feature_of (h i)) []))
+
 -- the findings about a name by what the cell has under it
-pub findings_found : (c : Cell) (n : RecName) (r : Record) → lookup_record c n ≡ Some r → findings_of_subject c (Rec n) ≡ findings_of_record c r
+pub vector_found : (c : Cell) (n : RecName) (v : Vector) → lookup_record c n ≡ Some (V v) → findings_of_subject c (Rec n) ≡ findings_of_record c (V v)
 unfolding findings_of_subject
-findings_found c n r h = λ i. cond (is_some (h i)) (option_map_or (findings_of_record c) (h i) []) []
+vector_found c n v h = λ i. cond (is_some (listed_vector c n v h i)) (option_map_or (findings_of_record c) (h i) []) []
+
+pub feature_found : (c : Cell) (n : RecName) (f : Feature) → lookup_record c n ≡ Some (F f) → findings_of_subject c (Rec n) ≡ findings_of_record c (F f)
+unfolding findings_of_subject
+feature_found c n f h = λ i. cond (is_some (listed_feature c n f h i)) (option_map_or (findings_of_record c) (h i) []) []
+
+same_either : (b : Bool) (found : List Finding) → cond b found found ≡ found
+same_either true found = refl
+same_either false found = refl
 
 pub findings_absent : (c : Cell) (n : RecName) → lookup_record c n ≡ None → findings_of_subject c (Rec n) ≡ []
 unfolding findings_of_subject
-findings_absent c n h = λ i. cond (is_some (h i)) (option_map_or (findings_of_record c) (h i) []) []
+findings_absent c n h = (λ i. cond (is_some (listed_record c n)) (option_map_or (findings_of_record c) (h i) []) []) ∙ same_either (is_some (listed_record c n)) []
+
+pub findings_at_head : (c : Cell) (n : RecName) (head : CellHead) → lookup_record c n ≡ Some (H head) → findings_of_subject c (Rec n) ≡ []
+unfolding findings_of_subject
+findings_at_head c n head h = (λ i. cond (is_some (listed_record c n)) (option_map_or (findings_of_record c) (h i) []) []) ∙ same_either (is_some (listed_record c n)) []

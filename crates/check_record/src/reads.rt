@@ -5,6 +5,7 @@ ghost use Rattle.s57_types.specs.declared.cell.Cell.{Cell as SpecCell};
 ghost use Rattle.s57_types.specs.declared.record.Partner.{Partner as SpecPartner};
 ghost use Rattle.s57_types.specs.declared.record.Rec.TheVariants.{F, V};
 ghost use Rattle.s57_types.specs.declared.record.Spot.{Spot as SpecSpot};
+ghost use Rattle.s57_types.specs.Heads.{head_name};
 ghost use Rattle.cell_spec.specs.declared.key.Key.TheVariants.{Foid as KeyFoid, Name as KeyName};
 ghost use Rattle.cell_spec.specs.declared.key.Subject.TheVariants.{Rec as SubjectRec};
 ghost use Rattle.cell_spec.specs.Ascending.{ascending};
@@ -13,9 +14,9 @@ ghost use Rattle.cell_spec.specs.Names.{key_order};
 ghost use Rattle.rule_spec.specs.Reads.{read_set};
 ghost use Rattle.check_record.specs.EndKeys.{ends_of_key};
 
-use cell_spec::{Key, Keys};
+use cell_spec::{Key, Keys, ascending_keys};
 use chain_topo::{Look, Steps};
-use read_sets::{ascending_keys, push_end_keys, push_vector_keys};
+use read_sets::{push_end_keys, push_vector_keys};
 use s57_types::{Feature, Kind, Partner, Rec, RecName, Vector};
 use std::alloc::{AllocError, Global};
 use std::sync::ledger::Ledger;
@@ -33,12 +34,13 @@ pub(crate) fn vector_reads(
     Ok(ascending_keys(keys))
 }
 
-/// The names of a feature and of the records that its spatial pointers name, each once.
+/// The names of a feature, of the head and of the records that its spatial pointers name, each once.
 fn named_keys(alloc: Global, name: RecName, feature: &Feature) -> Result<Keys, AllocError>
-    ensures { IfOk result (λ keys. keys ≡ ascending key_order (KeyName name ∷ map (λ (s : SpecSpot). KeyName s.to) feature.now.places)) }
+    ensures { IfOk result (λ keys. keys ≡ ascending key_order (KeyName name ∷ KeyName head_name ∷ map (λ (s : SpecSpot). KeyName s.to) feature.now.places)) }
 {
     let mut keys = Vec::new(alloc);
     keys.push(Key::Name(name))?;
+    keys.push(Key::Name(RecName::of_head()))?;
     for spot in feature.places.as_slice() {
         keys.push(Key::Name(spot.to))?;
     }
@@ -94,7 +96,8 @@ fn push_partner_keys(keys: &mut Vec<Key>, partners: &[Partner]) -> Result<(), Al
     Ok(())
 }
 
-/// The keys of a feature, where `named` are those of its name and of the records that its spatial pointers name.
+/// The keys of a feature, where `named` are those of its name, of the head and of the records that its spatial pointers
+/// name.
 fn gathered_keys<B: Look, L: Ledger>(
     alloc: Global,
     look: &B,

@@ -83,6 +83,6 @@ pub(crate) fn vector_findings<B: Look, L: Ledger>(
     match vector.name.kind {
         Kind::Ve => edge_findings(alloc, look, name, vector, reads, steps),
         Kind::Vi | Kind::Vc => node_findings(alloc, vector),
-        Kind::Fe => shape_findings(alloc, vector),
+        Kind::Fe | Kind::Head => shape_findings(alloc, vector),
     }
 }

@@ -2,7 +2,8 @@
 
 ghost use Rattle.std.specs.Prelude.{◌≡◌, ◌+◌, ◌*◌, ◌≤◌, IfOk, None, Some, length};
 ghost use Rattle.s57_types.specs.declared.cell.Cell.{Cell as SpecCell};
-ghost use Rattle.s57_types.specs.declared.record.Rec.TheVariants.{F, V};
+ghost use Rattle.s57_types.specs.declared.head.Head.{Head as SpecHead};
+ghost use Rattle.s57_types.specs.declared.record.Rec.TheVariants.{F, H, V};
 ghost use Rattle.cell_spec.specs.declared.key.Subject.TheVariants.{Rec as SubjectRec};
 ghost use Rattle.cell_spec.specs.Lookup.{lookup_record};
 ghost use Rattle.rule_spec.specs.Findings.{findings_of_subject};
@@ -11,11 +12,10 @@ ghost use Rattle.check_record.specs.RecordRow.{IsRecordRow};
 
 use crate::reads::{feature_reads, vector_reads};
 use crate::vector::vector_findings;
-use cell_spec::{Findings, Key, Row, Subject};
+use cell_spec::{Findings, Key, Row, Subject, ascending_keys};
 use chain_topo::{Look, Steps};
 use check_feature::feature_findings;
 use near_records::gather;
-use read_sets::ascending_keys;
 use s57_types::{Feature, Items, Rec, RecName, Vector};
 use std::alloc::{AllocError, Global};
 use std::sync::ledger::Ledger;
@@ -61,9 +61,10 @@ fn feature_row<B: Look, L: Ledger>(
     })
 }
 
-/// The row of a name that no record has: its read set is the name.
-fn absent_row(alloc: Global, name: RecName) -> Result<Row, AllocError>
-    ensures { (c : SpecCell) → lookup_record c name ≡ None → IfOk result (IsRecordRow c name) }
+/// The row of a name that no record has, or that is the head's: its read set is the name.
+fn bare_row(alloc: Global, name: RecName) -> Result<Row, AllocError>
+    ensures absent { (c : SpecCell) → lookup_record c name ≡ None → IfOk result (IsRecordRow c name) }
+    ensures head { (c : SpecCell) (h : SpecHead) → lookup_record c name ≡ Some (H h) → IfOk result (IsRecordRow c name) }
 {
     let keys = vec![in alloc; Key::Name(name)]?;
     Ok(Row {
@@ -75,8 +76,8 @@ fn absent_row(alloc: Global, name: RecName) -> Result<Row, AllocError>
 
 /// The findings about a record, ascending by kind and numbers, and its read set. About a node or an edge the kinds are
 /// BadShape, EndCount, DanglingEnd, Stacked, SelfMeet and NodePointer; about a feature PrimRefs, DanglingRef, BadCodes,
-/// OpenRing, MixedRing, OuterCount, WrongTurn, DanglingFeature and WrongGroup. A name that no record has gives no finding,
-/// and its read set is the name.
+/// OpenRing, MixedRing, OuterCount, WrongTurn, DanglingFeature, WrongGroup and BadLevel. The head's name and a name that no
+/// record has give no finding, and their read set is the name.
 ///
 /// It makes at most four look-ups for each key of the read set. An `Err` is want of memory.
 pub fn verdict_rec<B: Look, L: Ledger>(
@@ -93,6 +94,6 @@ pub fn verdict_rec<B: Look, L: Ledger>(
     match look.get(name, steps) {
         Some(Rec::V(vector)) => vector_row(alloc, look, name, vector, steps),
         Some(Rec::F(feature)) => feature_row(alloc, look, name, feature, steps),
-        None => absent_row(alloc, name),
+        Some(Rec::H(_)) | None => bare_row(alloc, name),
     }
 }

@@ -6,7 +6,7 @@ use Rattle.std.specs.Option.{option_map}
 use Rattle.std.specs.Result.{result_map_both}
 use Rattle.s57_types.specs.Subfield.{Form, Subfield, unsigned, signed, text, wide_text, fixed, unsigned_of, signed_of, text_of, wide_text_of, fixed_of, is_plain, row_bytes, field_terminator}
 use Rattle.s57_types.specs.FieldRows.{attribute_forms, attribute_row, partner_forms, partner_row, dsid_forms, dsid_row, dssi_forms, dssi_row, dspm_forms, dspm_row, vrid_forms, end_forms, place_forms}
-use Rattle.s57_types.specs.Fitness.{is_feature_kind}
+use Rattle.s57_types.specs.Fitness.{is_vector_kind}
 use Rattle.s57_types.specs.declared.name.Kind.TheVariants.{Vi, Vc, Ve, Fe}
 use Rattle.s57_types.specs.declared.field.Dsid.{Dsid}
 use Rattle.s57_types.specs.declared.field.Dssi.{Dssi}
@@ -184,20 +184,20 @@ dssi_has_levels b s is =
     subst Levels v.2 (record { attributes = parts.0; nationals = parts.1; length_is = refl })
 
 -- ---- names of vector records
-no_feature_by : (a b c : Bool) → (a || b || c) ≡ true → not (is_feature_kind (if a then Vi else (if b then Vc else (if c then Ve else Fe)))) ≡ true
-no_feature_by true b c is = refl
-no_feature_by false true c is = refl
-no_feature_by false false true is = refl
-no_feature_by false false false is = absurd cc
+vector_by : (a b c : Bool) → (a || b || c) ≡ true → is_vector_kind (if a then Vi else (if b then Vc else (if c then Ve else Fe))) ≡ true
+vector_by true b c is = refl
+vector_by false true c is = refl
+vector_by false false true is = refl
+vector_by false false false is = absurd cc
 
-names_vector : (row : List Subfield) → names_a_vector row ≡ true → not (is_feature_kind (name_in row).kind) ≡ true
-names_vector row is = no_feature_by (number_in row 0 == 110) (number_in row 0 == 120) (number_in row 0 == 130) is
+names_vector : (row : List Subfield) → names_a_vector row ≡ true → is_vector_kind (name_in row).kind ≡ true
+names_vector row is = vector_by (number_in row 0 == 110) (number_in row 0 == 120) (number_in row 0 == 130) is
 
-pub vrid_names_vector : (b : List ℕ) (d : Vrid) → vrid_content b ≡ Ok d → not (is_feature_kind d.name.kind) ≡ true
+pub vrid_names_vector : (b : List ℕ) (d : Vrid) → vrid_content b ≡ Ok d → is_vector_kind d.name.kind ≡ true
 unfolding vrid_content
 vrid_names_vector b d is =
     let v = row_value vrid_value vrid_forms names_a_vector b d is in
-    subst (λ (x : Vrid). not (is_feature_kind x.name.kind) ≡ true) v.2 (names_vector v.0 v.1.is_good)
+    subst (λ (x : Vrid). is_vector_kind x.name.kind ≡ true) v.2 (names_vector v.0 v.1.is_good)
 
 -- ---- rows
 module _ {X : Type 0} (value : List Subfield → X) (forms : List Form) (good : List Subfield → Bool) (wide : Bool) (test : X → Bool)
@@ -237,14 +237,14 @@ partners_are_plain b xs is =
     values_pass partner_value partner_forms any_row false partner_is_plain (λ row g f p. and_true _ true (text_is_plain false row 4 f p) refl) 0 b xs refl is
 
 abbrev pub end_names_vector : End → Bool
-end_names_vector e = not (is_feature_kind e.to.kind)
+end_names_vector e = is_vector_kind e.to.kind
 
 pub ends_name_vectors : (b : List ℕ) (xs : List End) → end_content b ≡ Ok xs → list_all end_names_vector xs ≡ true
 unfolding end_content
 ends_name_vectors b xs is = values_pass end_value end_forms names_a_vector false end_names_vector (λ row g f p. names_vector row g) 0 b xs refl is
 
 abbrev pub place_names_vector : Spot → Bool
-place_names_vector s = not (is_feature_kind s.to.kind)
+place_names_vector s = is_vector_kind s.to.kind
 
 pub places_name_vectors : (b : List ℕ) (xs : List Spot) → place_content b ≡ Ok xs → list_all place_names_vector xs ≡ true
 unfolding place_content

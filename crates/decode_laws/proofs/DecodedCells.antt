@@ -1,11 +1,10 @@
 -- The cell of a file grows record by record, and can be written at each.
-use Rattle.std.proofs.Common.{◌≡◌, ◌≤◌, ℕ, ◌+◌, ◌==◌, ◌&&◌, ◌||◌, Bool, true, false, List, [], ◌∷◌, ◌++◌, length, map, leb, None, Result, Ok, Err, refl, sym, ap, subst, ◌∙◌, arith, append_assoc, length-append}
+use Rattle.std.proofs.Common.{◌≡◌, ◌≤◌, ℕ, ◌+◌, ◌==◌, ◌&&◌, ◌||◌, Bool, true, false, List, [], ◌∷◌, ◌++◌, length, map, leb, None, Result, Ok, Err, refl, sym, ap, subst, ◌∙◌, arith, length-append}
 use Rattle.std.specs.List.{list_all, list_any, AllByRecursion, IsDistinct}
 use Rattle.std.specs.List.Sorted.{IsPermutation}
 use Rattle.std.specs.Result.{result_map_both}
 use Rattle.std.proofs.lemmas.Bool.{leb-true, ltb-true, le-ltb}
 use Rattle.std.proofs.lemmas.Bool.Decides.{nat_tests}
-use Rattle.std.proofs.lemmas.List.{append-nil}
 use Rattle.std.proofs.lemmas.List.Elements.{All-nil, All-push, All-append}
 use Rattle.std.proofs.lemmas.List.Sorted.{All-permutation, IsPermutation-map, IsPermutation-middle, IsPermutation-sym}
 use Rattle.std.proofs.lemmas.Map.Keys.{IsDistinct-IsPermutation, IsDistinct-cons}
@@ -22,7 +21,7 @@ use Rattle.s57_types.specs.declared.field.Dssi.{Dssi}
 use Rattle.s57_types.specs.declared.field.Dspm.{Dspm}
 use Rattle.s57_types.specs.declared.head.Head.{Head}
 use Rattle.s57_types.specs.declared.name.Kind.{Kind}
-use Rattle.s57_types.specs.declared.name.Kind.TheVariants.{Vi, Vc, Ve, Fe}
+use Rattle.s57_types.specs.declared.name.Kind.TheVariants.{Vi, Vc, Ve, Fe, Head as HeadKind}
 use Rattle.s57_types.specs.declared.name.RecName.{RecName}
 use Rattle.s57_types.specs.declared.record.Rec.{Rec}
 use Rattle.field_spec.specs.Contents.{dsid_content, dssi_content, dspm_content}
@@ -39,6 +38,7 @@ use Rattle.file_spec.specs.declared.fault.RecordFault.TheVariants.{HeadOrder, No
 use Rattle.file_spec.specs.declared.tag.FieldTag.TheVariants as tags
 use Rattle.file_spec.specs.declared.tag.RecordType.{RecordType}
 use Rattle.file_spec.specs.declared.tag.RecordType.TheVariants as types
+use Rattle.file_spec.proofs.GrownCell.{stands}
 use Rattle.decode_laws.proofs.Contents.{mapped_ok, dsid_is_plain, dspm_is_plain, Levels, dssi_has_levels}
 use Rattle.decode_laws.proofs.Records.{step, passed, demanded, required_is, Follows, behind_follows}
 
@@ -108,18 +108,6 @@ unfolding is_fit_head
 head_is_fit d s p general geographic = six _ _ _ _ _ _ general.levels.attributes general.levels.nationals general.plain geographic.plain (general_fits d s general.levels general.short) geographic.short
 
 -- ---- one record more
-record Stands (r : Rec) (c : Cell) (grown : List Rec) : Type 0 where
-  before : List Rec
-  behind : List Rec
-  without : all_records c ≡ before ++ behind
-  with : grown ≡ before ++ (r ∷ behind)
-
-stands : (kind : Kind) (r : Rec) (c : Cell) → Stands r c (all_records (with_record_of_kind kind r c))
-stands Vi r c = record { before = c.vi; behind = c.vc ++ c.ve ++ c.fe; without = simp append_assoc; with = simp append_assoc }
-stands Vc r c = record { before = c.vi ++ c.vc; behind = c.ve ++ c.fe; without = simp append_assoc; with = simp append_assoc }
-stands Ve r c = record { before = c.vi ++ c.vc ++ c.ve; behind = c.fe; without = simp append_assoc; with = simp append_assoc }
-stands Fe r c = record { before = c.vi ++ c.vc ++ c.ve ++ c.fe; behind = []; without = simp (append_assoc, append-nil); with = simp append_assoc }
-
 names_flip : (n m : RecName) → same_name n m ≡ same_name m n
 names_flip n m = ap (λ b. b && (n.id == m.id)) (flip (kind_rank n.kind) (kind_rank m.kind)) ∙ ap (λ b. (kind_rank m.kind == kind_rank n.kind) && b) (flip n.id m.id)
   where
@@ -142,9 +130,9 @@ no_fault : (c : Cell) (r : Rec) → Follows c r → unfitness c.head.nall r ≡ 
 unfolding unfitness
 no_fault c r f = rw (f.good.names, f.good.texts, le-ltb length_limit (written_length c.head.nall r) (leb-true _ _ f.short)) refl
 
-module _ (kind : Kind) (r : Rec) (c : Cell) (w : IsWritable c) (f : Follows c r) where
+module _ (kind : Kind) (listed : (kind_rank kind == kind_rank HeadKind) ≡ false) (r : Rec) (c : Cell) (w : IsWritable c) (f : Follows c r) where
   moved : IsPermutation (all_records (with_record_of_kind kind r c)) (r ∷ all_records c)
-  moved = let s = stands kind r c in
+  moved = let s = stands kind r c listed in
       subst (λ xs. IsPermutation xs (r ∷ all_records c)) (sym s.with) (subst (λ xs. IsPermutation (s.before ++ (r ∷ s.behind)) (r ∷ xs)) (sym s.without) (IsPermutation-middle s.before r s.behind))
 
   all_fit : AreFit c.head.nall (all_records (with_record_of_kind kind r c))
@@ -159,7 +147,7 @@ module _ (kind : Kind) (r : Rec) (c : Cell) (w : IsWritable c) (f : Follows c r)
       (IsDistinct-cons same_name (name_of r) (map name_of (all_records c)) (none_named (name_of r) (all_records c) f.new) w.names_distinct)
 
   enough_room : length (all_records (with_record_of_kind kind r c)) ≤ record_limit
-  enough_room = let s = stands kind r c in
+  enough_room = let s = stands kind r c listed in
       let new = ap length s.with ∙ length-append s.before (r ∷ s.behind) in
       let old = ap length s.without ∙ length-append s.before s.behind in
       let below = ltb-true (length (all_records c)) record_limit f.room in
@@ -172,9 +160,9 @@ with_kind Vi r c is w f = record {
   connected_nodes = w.connected_nodes;
   edges = w.edges;
   features = w.features;
-  records_fit = all_fit Vi r c w f;
-  names_distinct = distinct Vi r c w f;
-  not_too_many = enough_room Vi r c w f;
+  records_fit = all_fit Vi refl r c w f;
+  names_distinct = distinct Vi refl r c w f;
+  not_too_many = enough_room Vi refl r c w f;
 }
 with_kind Vc r c is w f = record {
   head_fits = w.head_fits;
@@ -182,9 +170,9 @@ with_kind Vc r c is w f = record {
   connected_nodes = All-push (λ x. (name_of x).kind ≡ Vc) c.vc r w.connected_nodes is;
   edges = w.edges;
   features = w.features;
-  records_fit = all_fit Vc r c w f;
-  names_distinct = distinct Vc r c w f;
-  not_too_many = enough_room Vc r c w f;
+  records_fit = all_fit Vc refl r c w f;
+  names_distinct = distinct Vc refl r c w f;
+  not_too_many = enough_room Vc refl r c w f;
 }
 with_kind Ve r c is w f = record {
   head_fits = w.head_fits;
@@ -192,9 +180,9 @@ with_kind Ve r c is w f = record {
   connected_nodes = w.connected_nodes;
   edges = All-push (λ x. (name_of x).kind ≡ Ve) c.ve r w.edges is;
   features = w.features;
-  records_fit = all_fit Ve r c w f;
-  names_distinct = distinct Ve r c w f;
-  not_too_many = enough_room Ve r c w f;
+  records_fit = all_fit Ve refl r c w f;
+  names_distinct = distinct Ve refl r c w f;
+  not_too_many = enough_room Ve refl r c w f;
 }
 with_kind Fe r c is w f = record {
   head_fits = w.head_fits;
@@ -202,10 +190,11 @@ with_kind Fe r c is w f = record {
   connected_nodes = w.connected_nodes;
   edges = w.edges;
   features = All-push (λ x. (name_of x).kind ≡ Fe) c.fe r w.features is;
-  records_fit = all_fit Fe r c w f;
-  names_distinct = distinct Fe r c w f;
-  not_too_many = enough_room Fe r c w f;
+  records_fit = all_fit Fe refl r c w f;
+  names_distinct = distinct Fe refl r c w f;
+  not_too_many = enough_room Fe refl r c w f;
 }
+with_kind HeadKind r c is w f = w
 
 -- ---- the file
 module _ {X E G : Type 0} where

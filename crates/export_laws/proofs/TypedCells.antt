@@ -11,7 +11,7 @@ use Rattle.s57_types.specs.declared.field.Dsid.{Dsid}
 use Rattle.s57_types.specs.declared.field.Dssi.{Dssi}
 use Rattle.s57_types.specs.declared.field.Dspm.{Dspm}
 use Rattle.s57_types.specs.declared.name.Kind.{Kind}
-use Rattle.s57_types.specs.declared.name.Kind.TheVariants.{Vi, Vc, Ve, Fe}
+use Rattle.s57_types.specs.declared.name.Kind.TheVariants.{Vi, Vc, Ve, Fe, Head as HeadKind}
 use Rattle.s57_types.specs.declared.record.Rec.{Rec}
 use Rattle.field_spec.specs.Contents.{dsid_content, dssi_content, dspm_content}
 use Rattle.cell_spec.specs.Edits.{list_of_kind}
@@ -107,6 +107,7 @@ with_kind kind r c typed new = by kind
     by Vc = record { dsid = typed.dsid; dspm = typed.dspm; records = joined P c.vi (c.vc ++ (r ∷ [])) c.ve c.fe (each Vi) (grown c.vc (each Vc)) (each Ve) (each Fe) }
     by Ve = record { dsid = typed.dsid; dspm = typed.dspm; records = joined P c.vi c.vc (c.ve ++ (r ∷ [])) c.fe (each Vi) (each Vc) (grown c.ve (each Ve)) (each Fe) }
     by Fe = record { dsid = typed.dsid; dspm = typed.dspm; records = joined P c.vi c.vc c.ve (c.fe ++ (r ∷ [])) (each Vi) (each Vc) (each Ve) (grown c.fe (each Fe)) }
+    by HeadKind = typed
 
 -- ---- the file
 -- what a record says is said by fields of bytes

@@ -9,13 +9,13 @@ use Rattle.s57_types.specs.declared.record.Attr.{Attr}
 use Rattle.s57_types.specs.declared.record.Feature.{Feature}
 use Rattle.s57_types.specs.declared.record.Vector.{Vector}
 use Rattle.s57_types.specs.declared.record.Rec.{Rec}
-use Rattle.s57_types.specs.declared.record.Rec.TheVariants.{V, F}
+use Rattle.s57_types.specs.declared.record.Rec.TheVariants.{V, F, H}
 use Rattle.cell_spec.specs.declared.edit.Edit.{Edit}
-use Rattle.cell_spec.specs.declared.edit.Edit.TheVariants.{Add, Set, Del}
+use Rattle.cell_spec.specs.declared.edit.Edit.TheVariants.{Add, Set, Del, Head}
 use Rattle.file_spec.specs.ReadBack.{frid_of}
 use Rattle.file_spec.specs.RoundTrip.{IsInRange, HasForms, VectorHasForms, FeatureHasForms, RecordHasForms}
 use Rattle.text_spec.specs.declared.command.Command.{Command}
-use Rattle.text_spec.specs.declared.command.Command.TheVariants.{View, Commit, Drop, List as Findings, Push}
+use Rattle.text_spec.specs.declared.command.Command.TheVariants.{View, Commit, Drop, List as Findings, Push, Guard}
 use Rattle.text_spec.specs.ScriptLines.{IsOfWidth, record_subfields, vector_subfields, feature_subfields, IsEditOfWidth, IsCommand, ScriptLine, skipped, spoken, spoken_command, IsLine}
 use Rattle.edit_laws.specs.ReadBackAfterRuns.{EditHasItsTypes, CommandHasItsTypes}
 use Rattle.file_spec.proofs.EachItem.{each_weaker, each_front, each_back}
@@ -89,6 +89,7 @@ feature_typed nall f all =
 record_typed : (nall : ℕ) (r : Rec) → AreInRange (record_subfields r) → RecordHasForms nall r
 record_typed nall (V v) all = vector_typed v all
 record_typed nall (F f) all = feature_typed nall f all
+record_typed nall (H h) all = tt
 
 ranges : (row : List Subfield) → All IsOfWidth row → AreInRange row
 ranges row all = each_weaker IsOfWidth IsInRange in_range row (recursion_from_All IsOfWidth row all)
@@ -97,6 +98,7 @@ edit_typed : (nall : ℕ) (edit : Edit) → IsEditOfWidth edit → EditHasItsTyp
 edit_typed nall (Add r) fits = record_typed nall r (ranges (record_subfields r) fits)
 edit_typed nall (Set r) fits = record_typed nall r (ranges (record_subfields r) fits)
 edit_typed nall (Del n) fits = tt
+edit_typed nall (Head e) fits = record { uadt = fits.uadt; isdt = fits.isdt }
 
 command_typed : (nall : ℕ) (command : Command) → IsCommand command → CommandHasItsTypes nall command
 command_typed nall View can = tt
@@ -104,6 +106,7 @@ command_typed nall Commit can = tt
 command_typed nall Drop can = tt
 command_typed nall (Findings shown) can = tt
 command_typed nall (Push edit) can = edit_typed nall edit can.1
+command_typed nall (Guard name) can = tt
 
 lines_typed : (nall : ℕ) (lines : List ScriptLine) → AllByRecursion IsLine lines → AllByRecursion (CommandHasItsTypes nall) (filter_map spoken_command lines)
 lines_typed nall [] all = tt

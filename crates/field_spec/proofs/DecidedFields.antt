@@ -1,10 +1,10 @@
 -- Each of the fifteen fields is read as a value exactly where its bytes spell the value.
-use Rattle.std.proofs.Common.{◌≡◌, ◌↔◌, ◌==◌, ◌&&◌, ◌<◌, ◌≤◌, ℕ, true, false, nat_le, List, map, Ok, All, refl, ap, arith}
+use Rattle.std.proofs.Common.{◌≡◌, ◌↔◌, ◌==◌, ◌&&◌, ◌<◌, ◌≤◌, ℕ, true, nat_le, List, map, Ok, All, refl, ap, arith}
 use Rattle.std.specs.Prelude.{ℤ}
 use Rattle.std.specs.List.{AllByRecursion}
 use Rattle.std.proofs.lemmas.Bool.Decides.{nat_tests}
 use Rattle.s57_types.specs.FieldRows.{number_forms, dsid_forms, dssi_forms, dspm_forms, frid_forms, foid_forms, attribute_forms, partner_forms, place_forms, vrid_forms, end_forms, plane_forms, deep_forms, number_row, dsid_row, dssi_row, dspm_row, frid_row, foid_row, attribute_row, partner_row, place_row, vrid_row, end_row, plane_row, deep_row}
-use Rattle.s57_types.specs.Fitness.{is_feature_kind}
+use Rattle.s57_types.specs.Fitness.{is_vector_kind}
 use Rattle.s57_types.specs.declared.name.Kind.{Kind}
 use Rattle.s57_types.specs.declared.name.Lnam.{Lnam}
 use Rattle.s57_types.specs.declared.record.Attr.{Attr}
@@ -51,9 +51,9 @@ pub foid_decided : (b : List ℕ) (d : Lnam) → All (λ c. c < 256) b → (foid
 unfolding foid_content
 foid_decided b d bytes = row_told foid_row lnam_in foid_forms any_row (λ cut is good. foid_respelled cut is) (λ d is. record { fit = is; is_good = refl; value_is = refl }) b d bytes
 
-pub vrid_decided : (b : List ℕ) (d : Vrid) → All (λ c. c < 256) b → (vrid_content b ≡ Ok d ↔ (SpellsRow vrid_forms (vrid_row d) b × (is_feature_kind d.name.kind ≡ false)))
+pub vrid_decided : (b : List ℕ) (d : Vrid) → All (λ c. c < 256) b → (vrid_content b ≡ Ok d ↔ (SpellsRow vrid_forms (vrid_row d) b × (is_vector_kind d.name.kind ≡ true)))
 unfolding vrid_content
-vrid_decided b d bytes = row_decided vrid_row vrid_value vrid_forms names_a_vector (λ (d : Vrid). is_feature_kind d.name.kind ≡ false) (record {
+vrid_decided b d bytes = row_decided vrid_row vrid_value vrid_forms names_a_vector (λ (d : Vrid). is_vector_kind d.name.kind ≡ true) (record {
   respelled = vrid_respelled;
   passes = vector_named;
   valued = λ d is vector. record {
@@ -73,9 +73,9 @@ unfolding partner_content
 partners_decided b partners bytes = rows_told partner_row partner_value 0 partner_forms any_row (record { takes = refl; fits = refl }) (λ cut is good. partner_respelled cut is)
     (λ p is. record { fit = is; is_good = refl; value_is = refl }) b partners bytes
 
-pub places_decided : (b : List ℕ) (places : List Spot) → All (λ c. c < 256) b → (place_content b ≡ Ok places ↔ (SpellsRows 0 place_forms (map place_row places) b × AllByRecursion (λ s. is_feature_kind s.to.kind ≡ false) places))
+pub places_decided : (b : List ℕ) (places : List Spot) → All (λ c. c < 256) b → (place_content b ≡ Ok places ↔ (SpellsRows 0 place_forms (map place_row places) b × AllByRecursion (λ s. is_vector_kind s.to.kind ≡ true) places))
 unfolding place_content
-places_decided b places bytes = rows_decided place_row place_value place_forms names_a_vector (λ (s : Spot). is_feature_kind s.to.kind ≡ false) (record {
+places_decided b places bytes = rows_decided place_row place_value place_forms names_a_vector (λ (s : Spot). is_vector_kind s.to.kind ≡ true) (record {
   respelled = place_respelled;
   passes = vector_named;
   valued = λ s is vector. record {
@@ -85,9 +85,9 @@ places_decided b places bytes = rows_decided place_row place_value place_forms n
   };
 }) 0 (record { takes = refl; fits = refl }) b places bytes
 
-pub ends_decided : (b : List ℕ) (ends : List End) → All (λ c. c < 256) b → (end_content b ≡ Ok ends ↔ (SpellsRows 0 end_forms (map end_row ends) b × AllByRecursion (λ e. is_feature_kind e.to.kind ≡ false) ends))
+pub ends_decided : (b : List ℕ) (ends : List End) → All (λ c. c < 256) b → (end_content b ≡ Ok ends ↔ (SpellsRows 0 end_forms (map end_row ends) b × AllByRecursion (λ e. is_vector_kind e.to.kind ≡ true) ends))
 unfolding end_content
-ends_decided b ends bytes = rows_decided end_row end_value end_forms names_a_vector (λ (e : End). is_feature_kind e.to.kind ≡ false) (record {
+ends_decided b ends bytes = rows_decided end_row end_value end_forms names_a_vector (λ (e : End). is_vector_kind e.to.kind ≡ true) (record {
   respelled = end_respelled;
   passes = vector_named;
   valued = λ e is vector. record {

@@ -4,7 +4,7 @@ use Rattle.std.proofs.lemmas.Bool.Decides.{nat_tests}
 use Rattle.std.proofs.Common.{arith}
 use Rattle.s57_types.specs.Subfield.{Form, Subfield, unsigned, signed, text, wide_text, fixed, b11, b12, unsigned_of, signed_of, text_of, wide_text_of, fixed_of, form_of}
 use Rattle.s57_types.specs.FieldRows.{rcnm_of, dsid_forms, dsid_row, dssi_forms, dssi_row, dspm_forms, dspm_row, frid_forms, frid_row, foid_forms, foid_row, attribute_forms, attribute_row, partner_forms, partner_row, place_forms, place_row, vrid_forms, vrid_row, end_forms, end_row, plane_forms, plane_row, deep_forms, deep_row, number_forms, number_row}
-use Rattle.s57_types.specs.Fitness.{is_feature_kind}
+use Rattle.s57_types.specs.Fitness.{is_vector_kind}
 use Rattle.field_spec.specs.Contents.{number_value, signed_value, text_value, number_in, text_in, kind_of_rcnm, is_vector_rcnm, names_a_vector, dsid_value, dssi_value, dspm_value, frid_value, lnam_in, attribute_value, partner_value, place_value, vrid_value, end_value, plane_value, deep_value}
 use Rattle.field_spec.specs.FieldContent.{IsRow}
 
@@ -58,22 +58,22 @@ pub foid_respelled : (row : List Subfield) → IsRow foid_forms row → foid_row
 foid_respelled row is = row_retold foid_forms row is
 
 -- the record name of a vector record is that of its kind
-rcnm_of_known : (n : ℕ) → is_vector_rcnm n ≡ true → (n ≡ rcnm_of (kind_of_rcnm n)) × (is_feature_kind (kind_of_rcnm n) ≡ false)
+rcnm_of_known : (n : ℕ) → is_vector_rcnm n ≡ true → (n ≡ rcnm_of (kind_of_rcnm n)) × (is_vector_kind (kind_of_rcnm n) ≡ true)
 rcnm_of_known n known = isolated (n == 110) refl
   where
-    edge : (b : Bool) → (n == 130) ≡ b → (n == 110) ≡ false → (n == 120) ≡ false → (n ≡ rcnm_of (kind_of_rcnm n)) × (is_feature_kind (kind_of_rcnm n) ≡ false)
+    edge : (b : Bool) → (n == 130) ≡ b → (n == 110) ≡ false → (n == 120) ≡ false → (n ≡ rcnm_of (kind_of_rcnm n)) × (is_vector_kind (kind_of_rcnm n) ≡ true)
     edge true is not_isolated not_connected = (rw (not_isolated, not_connected, is) (grind (arith, nat_tests)), rw (not_isolated, not_connected, is) refl)
     edge false is not_isolated not_connected = absurd (let none : is_vector_rcnm n ≡ false = rw (not_isolated, not_connected, is) refl in let both : true ≡ false = sym known ∙ none in cc both)
 
-    connected : (b : Bool) → (n == 120) ≡ b → (n == 110) ≡ false → (n ≡ rcnm_of (kind_of_rcnm n)) × (is_feature_kind (kind_of_rcnm n) ≡ false)
+    connected : (b : Bool) → (n == 120) ≡ b → (n == 110) ≡ false → (n ≡ rcnm_of (kind_of_rcnm n)) × (is_vector_kind (kind_of_rcnm n) ≡ true)
     connected true is not_isolated = (rw (not_isolated, is) (grind (arith, nat_tests)), rw (not_isolated, is) refl)
     connected false is not_isolated = edge (n == 130) refl not_isolated is
 
-    isolated : (b : Bool) → (n == 110) ≡ b → (n ≡ rcnm_of (kind_of_rcnm n)) × (is_feature_kind (kind_of_rcnm n) ≡ false)
+    isolated : (b : Bool) → (n == 110) ≡ b → (n ≡ rcnm_of (kind_of_rcnm n)) × (is_vector_kind (kind_of_rcnm n) ≡ true)
     isolated true is = (rw is (grind (arith, nat_tests)), rw is refl)
     isolated false is = connected (n == 120) refl is
 
-pub vector_named : (row : List Subfield) → names_a_vector row ≡ true → is_feature_kind (kind_of_rcnm (number_in row 0)) ≡ false
+pub vector_named : (row : List Subfield) → names_a_vector row ≡ true → is_vector_kind (kind_of_rcnm (number_in row 0)) ≡ true
 vector_named row good = (rcnm_of_known (number_in row 0) good).1
 
 pub vrid_respelled : (row : List Subfield) → IsRow vrid_forms row → names_a_vector row ≡ true → vrid_row (vrid_value row) ≡ row

@@ -7,9 +7,9 @@ use Rattle.std.specs.Result.{result_map_both}
 use Rattle.s57_types.specs.Subfield.{Form, Subfield, form_of, row_bytes, field_terminator, is_plain, text, wide_text, unsigned, unsigned_of, text_of, wide_text_of}
 use Rattle.s57_types.specs.FieldRows.{dssi_forms, dssi_row, rcnm_of, attribute_forms, attribute_row}
 use Rattle.s57_types.specs.RecordFields.{terminator_of}
-use Rattle.s57_types.specs.Fitness.{is_feature_kind}
+use Rattle.s57_types.specs.Fitness.{is_vector_kind}
 use Rattle.s57_types.specs.declared.name.Kind.{Kind}
-use Rattle.s57_types.specs.declared.name.Kind.TheVariants.{Vi, Vc, Ve, Fe}
+use Rattle.s57_types.specs.declared.name.Kind.TheVariants.{Vi, Vc, Ve, Fe, Head}
 use Rattle.s57_types.specs.declared.record.Attr.{Attr}
 use Rattle.s57_types.specs.declared.field.Dssi.{Dssi}
 use Rattle.field_spec.specs.FieldContent.{IsRow, IsField, IsFieldOfRows}
@@ -98,21 +98,19 @@ rows_written value level forms good row xs can have = rows_spelled value level f
 })
 
 -- the record name of a vector record tells its kind
-pub kind_of_rcnm-rcnm_of : (kind : Kind) → is_feature_kind kind ≡ false → kind_of_rcnm (rcnm_of kind) ≡ kind
+pub kind_of_rcnm-rcnm_of : (kind : Kind) → is_vector_kind kind ≡ true → kind_of_rcnm (rcnm_of kind) ≡ kind
 kind_of_rcnm-rcnm_of Vi e = refl
 kind_of_rcnm-rcnm_of Vc e = refl
 kind_of_rcnm-rcnm_of Ve e = refl
 kind_of_rcnm-rcnm_of Fe e = absurd cc
+kind_of_rcnm-rcnm_of Head e = absurd cc
 
-pub vector_rcnm : (kind : Kind) → is_feature_kind kind ≡ false → is_vector_rcnm (rcnm_of kind) ≡ true
+pub vector_rcnm : (kind : Kind) → is_vector_kind kind ≡ true → is_vector_rcnm (rcnm_of kind) ≡ true
 vector_rcnm Vi e = refl
 vector_rcnm Vc e = refl
 vector_rcnm Ve e = refl
 vector_rcnm Fe e = absurd cc
-
-pub no_feature : (b : Bool) → not b ≡ true → b ≡ false
-no_feature true e = absurd cc
-no_feature false e = refl
+vector_rcnm Head e = absurd cc
 
 pub both_parts : (a b : Bool) → (a && b) ≡ true → (a ≡ true) × (b ≡ true)
 both_parts true b e = (refl, e)

@@ -1,10 +1,10 @@
 //! Laws of the definitions, each the contract of a function that does nothing.
 
-ghost use Rattle.std.specs.Prelude.{◌≡◌, ◌↔◌, ◌<◌, ◌≤◌, ◌^◌, ℕ, ℤ, List, Some, Ok, true, false, not, All, map};
+ghost use Rattle.std.specs.Prelude.{◌≡◌, ◌↔◌, ◌<◌, ◌≤◌, ◌^◌, ℕ, ℤ, List, Some, Ok, true, All, map};
 ghost use Rattle.std.specs.List.{list_all, AllByRecursion};
 ghost use Rattle.s57_types.specs.Subfield.{Form, Subfield};
 ghost use Rattle.s57_types.specs.FieldRows.{dsid_forms, dssi_forms, dspm_forms, frid_forms, foid_forms, attribute_forms, partner_forms, place_forms, vrid_forms, end_forms, plane_forms, deep_forms, number_forms, number_row, dsid_row, dssi_row, dspm_row, frid_row, foid_row, attribute_row, partner_row, place_row, vrid_row, end_row, plane_row, deep_row};
-ghost use Rattle.s57_types.specs.Fitness.{is_feature_kind};
+ghost use Rattle.s57_types.specs.Fitness.{is_vector_kind};
 ghost use Rattle.s57_types.specs.declared.name.Lnam.{Lnam};
 ghost use Rattle.s57_types.specs.declared.record.Attr.{Attr};
 ghost use Rattle.s57_types.specs.declared.record.End.{End};
@@ -50,7 +50,7 @@ pub fn values_are_decided()
     ensures frid { (b : List ℕ) (d : Frid) → All (λ c. c < 256) b → (frid_content b ≡ Ok d ↔ SpellsRow frid_forms (frid_row d) b) }
     ensures foid { (b : List ℕ) (d : Lnam) → All (λ c. c < 256) b → (foid_content b ≡ Ok d ↔ SpellsRow foid_forms (foid_row d) b) }
     ensures vrid { (b : List ℕ) (d : Vrid) → All (λ c. c < 256) b →
-        (vrid_content b ≡ Ok d ↔ (SpellsRow vrid_forms (vrid_row d) b × (is_feature_kind d.name.kind ≡ false))) }
+        (vrid_content b ≡ Ok d ↔ (SpellsRow vrid_forms (vrid_row d) b × (is_vector_kind d.name.kind ≡ true))) }
 {}
 
 /// A field whose row repeats is read as a list of values exactly where its bytes spell these values, at each lexical level of
@@ -61,9 +61,9 @@ pub fn lists_of_values_are_decided()
     ensures partners { (b : List ℕ) (partners : List Partner) → All (λ c. c < 256) b →
         (partner_content b ≡ Ok partners ↔ SpellsRows 0 partner_forms (map partner_row partners) b) }
     ensures places { (b : List ℕ) (places : List Spot) → All (λ c. c < 256) b →
-        (place_content b ≡ Ok places ↔ (SpellsRows 0 place_forms (map place_row places) b × AllByRecursion (λ s. is_feature_kind s.to.kind ≡ false) places)) }
+        (place_content b ≡ Ok places ↔ (SpellsRows 0 place_forms (map place_row places) b × AllByRecursion (λ s. is_vector_kind s.to.kind ≡ true) places)) }
     ensures ends { (b : List ℕ) (ends : List End) → All (λ c. c < 256) b →
-        (end_content b ≡ Ok ends ↔ (SpellsRows 0 end_forms (map end_row ends) b × AllByRecursion (λ e. is_feature_kind e.to.kind ≡ false) ends)) }
+        (end_content b ≡ Ok ends ↔ (SpellsRows 0 end_forms (map end_row ends) b × AllByRecursion (λ e. is_vector_kind e.to.kind ≡ true) ends)) }
     ensures plane { (b : List ℕ) (points : List (ℤ × ℤ)) → All (λ c. c < 256) b →
         (plane_content b ≡ Ok points ↔ SpellsRows 0 plane_forms (map plane_row points) b) }
     ensures deep { (b : List ℕ) (soundings : List (ℤ × ℤ × ℤ)) → All (λ c. c < 256) b →
@@ -78,7 +78,7 @@ pub fn rows_read_back()
     ensures dspm { (d : Dspm) → IsFit dspm_forms (dspm_row d) → dspm_content (field_bytes (dspm_row d)) ≡ Ok d }
     ensures frid { (d : Frid) → IsFit frid_forms (frid_row d) → frid_content (field_bytes (frid_row d)) ≡ Ok d }
     ensures foid { (d : Lnam) → IsFit foid_forms (foid_row d) → foid_content (field_bytes (foid_row d)) ≡ Ok d }
-    ensures vrid { (d : Vrid) → IsFit vrid_forms (vrid_row d) → is_feature_kind d.name.kind ≡ false → vrid_content (field_bytes (vrid_row d)) ≡ Ok d }
+    ensures vrid { (d : Vrid) → IsFit vrid_forms (vrid_row d) → is_vector_kind d.name.kind ≡ true → vrid_content (field_bytes (vrid_row d)) ≡ Ok d }
 {}
 
 /// A field whose row repeats is read as the values that were written, also where there are none.
@@ -88,9 +88,9 @@ pub fn repeating_rows_read_back()
     ensures partners { (partners : List Partner) → AllByRecursion (λ p. IsFit partner_forms (partner_row p)) partners →
         partner_content (rows_bytes 0 partner_row partners) ≡ Ok partners }
     ensures places { (places : List Spot) → AllByRecursion (λ s. IsFit place_forms (place_row s)) places →
-        list_all (λ s. not (is_feature_kind s.to.kind)) places ≡ true → place_content (rows_bytes 0 place_row places) ≡ Ok places }
+        list_all (λ s. is_vector_kind s.to.kind) places ≡ true → place_content (rows_bytes 0 place_row places) ≡ Ok places }
     ensures ends { (ends : List End) → AllByRecursion (λ e. IsFit end_forms (end_row e)) ends →
-        list_all (λ e. not (is_feature_kind e.to.kind)) ends ≡ true → end_content (rows_bytes 0 end_row ends) ≡ Ok ends }
+        list_all (λ e. is_vector_kind e.to.kind) ends ≡ true → end_content (rows_bytes 0 end_row ends) ≡ Ok ends }
     ensures plane { (points : List (ℤ × ℤ)) → AllByRecursion (λ p. IsFit plane_forms (plane_row p)) points →
         plane_content (rows_bytes 0 plane_row points) ≡ Ok points }
     ensures deep { (soundings : List (ℤ × ℤ × ℤ)) → AllByRecursion (λ p. IsFit deep_forms (deep_row p)) soundings →

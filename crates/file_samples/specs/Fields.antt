@@ -108,8 +108,9 @@ field_faults =
     ((tags.Dsid, identification_bytes 10 49 (31 ∷ 30 ∷ [])), None) ∷ ((tags.Dsid, identification_bytes 20 49 (31 ∷ 30 ∷ [])), Some BadField) ∷
     ((tags.Frid, 100 ∷ 1 ∷ 0 ∷ 0 ∷ 0 ∷ 1 ∷ 2 ∷ 42 ∷ 0 ∷ 1 ∷ 0 ∷ 1 ∷ 30 ∷ []), None) ∷ ((tags.Frid, 110 ∷ 1 ∷ 0 ∷ 0 ∷ 0 ∷ 1 ∷ 2 ∷ 42 ∷ 0 ∷ 1 ∷ 0 ∷ 1 ∷ 30 ∷ []), Some BadField) ∷
     ((tags.Vrid, 110 ∷ 1 ∷ 0 ∷ 0 ∷ 0 ∷ 1 ∷ 0 ∷ 1 ∷ 30 ∷ []), None) ∷ ((tags.Vrid, 140 ∷ 1 ∷ 0 ∷ 0 ∷ 0 ∷ 1 ∷ 0 ∷ 1 ∷ 30 ∷ []), Some BadField) ∷
-    ((tags.Vrid, 100 ∷ 1 ∷ 0 ∷ 0 ∷ 0 ∷ 1 ∷ 0 ∷ 1 ∷ 30 ∷ []), Some BadField) ∷
+    ((tags.Vrid, 100 ∷ 1 ∷ 0 ∷ 0 ∷ 0 ∷ 1 ∷ 0 ∷ 1 ∷ 30 ∷ []), Some BadField) ∷ ((tags.Vrid, 10 ∷ 1 ∷ 0 ∷ 0 ∷ 0 ∷ 1 ∷ 0 ∷ 1 ∷ 30 ∷ []), Some BadField) ∷
     ((tags.Vrpt, 110 ∷ 1 ∷ 0 ∷ 0 ∷ 0 ∷ 255 ∷ 255 ∷ 1 ∷ 255 ∷ 100 ∷ 1 ∷ 0 ∷ 0 ∷ 0 ∷ 255 ∷ 255 ∷ 2 ∷ 255 ∷ 30 ∷ []), Some BadField) ∷
+    ((tags.Vrpt, 10 ∷ 0 ∷ 0 ∷ 0 ∷ 0 ∷ 255 ∷ 255 ∷ 1 ∷ 255 ∷ 30 ∷ []), Some BadField) ∷ ((tags.Fspt, 10 ∷ 0 ∷ 0 ∷ 0 ∷ 0 ∷ 1 ∷ 1 ∷ 255 ∷ 30 ∷ []), Some BadField) ∷
     ((tags.Fspt, 130 ∷ 1 ∷ 0 ∷ 0 ∷ 0 ∷ 1 ∷ 1 ∷ 255 ∷ 30 ∷ []), None) ∷ ((tags.Fspt, 100 ∷ 1 ∷ 0 ∷ 0 ∷ 0 ∷ 1 ∷ 1 ∷ 255 ∷ 30 ∷ []), Some BadField) ∷
     -- lexical levels out of range
     ((tags.Dssi, structure_bytes 1 2), None) ∷ ((tags.Dssi, structure_bytes 2 0), Some BadField) ∷ ((tags.Dssi, structure_bytes 0 3), Some BadField) ∷

@@ -8,12 +8,14 @@ use Rattle.s57_types.specs.declared.name.Kind.{Kind}
 use Rattle.s57_types.specs.declared.name.Kind.TheVariants.{Vi, Vc, Ve, Fe}
 use Rattle.s57_types.specs.declared.name.RecName.{RecName}
 use Rattle.s57_types.specs.declared.record.Rec.{Rec}
+use Rattle.s57_types.specs.declared.record.Rec.TheVariants.{V, H}
+use Rattle.s57_types.specs.Heads.{head_name}
 use Rattle.cell_spec.specs.Lookup.{all_records, name_of}
 use Rattle.cell_spec.specs.Names.{is_of_kind, same_name}
 use Rattle.cell_spec.specs.Writable.{IsWritable, record_limit}
 use Rattle.file_samples.specs.Fields.{attribute}
 use Rattle.file_samples.specs.Limits.{crowd, points}
-use Rattle.file_samples.specs.Parts.{head, node, edge, area}
+use Rattle.file_samples.specs.Parts.{head, name, node, end_at, edge, area}
 use Rattle.file_samples.specs.Square.{square}
 use Rattle.file_samples.specs.SquareFile.{no_records}
 use Rattle.file_samples.specs.WrittenFiles.{full_cell}
@@ -33,20 +35,25 @@ is_writable c = is_fit_head c.head && are_of_kind Vi c.vi && are_of_kind Vc c.vc
 abbrev pub WritableIsDecided : Type 0
 WritableIsDecided = (c : Cell) → Decides (is_writable c) (IsWritable c)
 
+-- an edge with a pointer to the head
+abbrev pub edge_at_head : Rec
+edge_at_head = V (record { name = name Ve 1; rver = 1; attrs = []; ends = record (end_at 1 1) { to = head_name } ∷ []; plane = []; deep = [] })
+
 abbrev pub SamplesAreWritable : Type 0
 SamplesAreWritable = map is_writable (no_records ∷ square ∷ full_cell ∷ record square { vc = points 12491 ∷ [] } ∷ []) ≡ true ∷ true ∷ true ∷ true ∷ []
 
--- a head and an attribute that don't fit, a record among others of another kind, one that is too long, two of one name,
--- and one record too many
+-- a head and an attribute that don't fit, a record among others of another kind, a pointer to the head, the head in a list, a record that is too
+-- long, two of one name, and one record too many
 abbrev pub OthersAreNot : Type 0
 OthersAreNot =
     map is_writable (
     record square { head = head 2 0 } ∷
     record square { fe = area 1 1 42 (attribute 1 (30 ∷ []) ∷ []) [] ∷ [] } ∷
     record square { vi = node 5 0 0 ∷ [] } ∷ record square { vc = edge 5 1 1 ∷ [] } ∷ record square { ve = node 5 0 0 ∷ [] } ∷ record square { fe = edge 5 1 1 ∷ [] } ∷
+    record square { ve = edge_at_head ∷ [] } ∷ record square { vc = H (head 0 0) ∷ [] } ∷
     record square { vc = points 12492 ∷ [] } ∷
     record square { vc = node 1 0 0 ∷ node 2 0 0 ∷ node 1 5 5 ∷ [] } ∷ [])
-    ≡ false ∷ false ∷ false ∷ false ∷ false ∷ false ∷ false ∷ false ∷ []
+    ≡ false ∷ false ∷ false ∷ false ∷ false ∷ false ∷ false ∷ false ∷ false ∷ false ∷ []
 
 abbrev pub TooManyIsNot : Type 0
 TooManyIsNot = map (λ n. nat_le (length (all_records (crowd n))) record_limit) (262144 ∷ 262145 ∷ []) ≡ true ∷ false ∷ []

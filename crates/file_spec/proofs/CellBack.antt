@@ -14,10 +14,10 @@ use Rattle.s57_types.specs.RecordFields.{identification_fields, parameter_fields
 use Rattle.s57_types.specs.declared.cell.Cell.{Cell}
 use Rattle.s57_types.specs.declared.head.Head.{Head}
 use Rattle.s57_types.specs.declared.name.Kind.{Kind}
-use Rattle.s57_types.specs.declared.name.Kind.TheVariants.{Vi, Vc, Ve, Fe}
+use Rattle.s57_types.specs.declared.name.Kind.TheVariants.{Vi, Vc, Ve, Fe, Head as HeadKind}
 use Rattle.s57_types.specs.declared.name.RecName.{RecName}
 use Rattle.s57_types.specs.declared.record.Rec.{Rec}
-use Rattle.s57_types.specs.declared.record.Rec.TheVariants.{V, F}
+use Rattle.s57_types.specs.declared.record.Rec.TheVariants.{V, F, H}
 use Rattle.cell_spec.specs.Lookup.{all_records, name_of, is_named}
 use Rattle.cell_spec.specs.Names.{same_name, kind_rank}
 use Rattle.cell_spec.specs.Writable.{IsWritable, record_limit}
@@ -48,6 +48,7 @@ feature_kind Vi others e = absurd cc
 feature_kind Vc others e = absurd cc
 feature_kind Ve others e = absurd cc
 feature_kind Fe others e = refl
+feature_kind HeadKind others e = absurd cc
 
 -- a record behind those of a cell
 record_is_read : (c : Cell) (n : ℕ) (r : Rec) → RecordIsReadBack c.head.nall r → unfitness c.head.nall r ≡ None → list_any (is_named (name_of r)) (all_records c) ≡ false
@@ -56,6 +57,7 @@ unfolding record_behind
 record_is_read c n (V v) back fit new room = rw (vector_is_read_back n v back, new, le-leb _ _ (fit_is_found c.head.nall (V v) fit).short, lt-ltb _ _ room) refl
 record_is_read c n (F f) back fit new room =
     rw (feature_is_read_back c.head.nall n f (feature_kind f.name.kind _ (fit_is_found c.head.nall (F f) fit).names) back, new, le-leb _ _ (fit_is_found c.head.nall (F f) fit).short, lt-ltb _ _ room) refl
+record_is_read c n (H h) back fit new room = let never : false ≡ true = (fit_is_found c.head.nall (H h) fit).names in absurd cc
 
 -- a cell with one record more
 pub or_parts : (a b : Bool) → (a || b) ≡ false → (a ≡ false) × (b ≡ false)
@@ -82,18 +84,22 @@ none_in_more p kind r c none isnt =
     by Vc vi vc ve fe one = none_in p (c.vi ++ (c.vc ++ (r ∷ [])) ++ c.ve) c.fe (none_in p (c.vi ++ (c.vc ++ (r ∷ []))) c.ve (none_in p c.vi (c.vc ++ (r ∷ [])) vi (none_in p c.vc (r ∷ []) vc one)) ve) fe
     by Ve vi vc ve fe one = none_in p (c.vi ++ c.vc ++ (c.ve ++ (r ∷ []))) c.fe (none_in p (c.vi ++ c.vc) (c.ve ++ (r ∷ [])) (none_in p c.vi c.vc vi vc) (none_in p c.ve (r ∷ []) ve one)) fe
     by Fe vi vc ve fe one = none_in p (c.vi ++ c.vc ++ c.ve) (c.fe ++ (r ∷ [])) (none_in p (c.vi ++ c.vc) c.ve (none_in p c.vi c.vc vi vc) ve) (none_in p c.fe (r ∷ []) fe one)
+    by HeadKind vi vc ve fe one = none
 
-one_more : (kind : Kind) (r : Rec) (c : Cell) → length (all_records (with_record_of_kind kind r c)) ≡ length (all_records c) + 1
+-- the head stands in no list
+one_more : (kind : Kind) (r : Rec) (c : Cell) → length (all_records (with_record_of_kind kind r c)) ≤ length (all_records c) + 1
 one_more Vi r c = simp length-append (omega arith)
 one_more Vc r c = simp length-append (omega arith)
 one_more Ve r c = simp length-append (omega arith)
 one_more Fe r c = simp length-append (omega arith)
+one_more HeadKind r c = omega arith
 
 same_head : (kind : Kind) (r : Rec) (c : Cell) → (with_record_of_kind kind r c).head ≡ c.head
 same_head Vi r c = refl
 same_head Vc r c = refl
 same_head Ve r c = refl
 same_head Fe r c = refl
+same_head HeadKind r c = refl
 
 -- names are one or not from either side
 equal_from_either : (a b : ℕ) → (a == b) ≡ (b == a)

@@ -9,14 +9,14 @@ use Rattle.std.proofs.lemmas.List.Elements.{All-append, All-cons, All-nil, All-f
 use Rattle.frame_spec.specs.RecordFrame.{Field}
 use Rattle.frame_spec.specs.WrittenRecord.{CanBeWritten, record_length, field_lengths, written_record}
 use Rattle.s57_types.specs.Fitness.{is_fit_head, unfitness, has_good_names, has_good_texts}
-use Rattle.s57_types.specs.RecordFields.{number_field, dsid_of_head, dssi_of_head, dspm_of_head, identification_fields, parameter_fields, record_fields, rows_field, field_of, written_length, length_limit}
+use Rattle.s57_types.specs.RecordFields.{number_field, dsid_of_head, dssi_of_head, dspm_of_head, identification_fields, parameter_fields, record_fields, rows_field, field_of, written_length, identification_length, length_limit}
 use Rattle.s57_types.specs.FieldRows.{number_row, dsid_row, dssi_row, dspm_row, vrid_row, frid_row, foid_row, attribute_row, partner_row, place_row, end_row, plane_row, deep_row}
 use Rattle.s57_types.specs.Subfield.{Subfield, row_bytes, field_terminator}
 use Rattle.s57_types.specs.declared.fault.Unfit.TheVariants.{TooLong, BadText, BadName}
 use Rattle.s57_types.specs.declared.cell.Cell.{Cell}
 use Rattle.s57_types.specs.declared.head.Head.{Head}
 use Rattle.s57_types.specs.declared.record.Rec.{Rec}
-use Rattle.s57_types.specs.declared.record.Rec.TheVariants.{V, F}
+use Rattle.s57_types.specs.declared.record.Rec.TheVariants.{V, F, H}
 use Rattle.cell_spec.specs.Lookup.{all_records}
 use Rattle.cell_spec.specs.Writable.{IsWritable}
 use Rattle.file_spec.specs.DescriptiveRecord.{Description, structure_controls, level_controls, label_text, description_field, descriptions, descriptive_fields}
@@ -105,7 +105,7 @@ pub both : (x y : Bool) → (x && y) ≡ true → (x ≡ true) × (y ≡ true)
 both true y e = (refl, e)
 both false y e = absurd cc
 
-pub head_fits : (h : Head) → is_fit_head h ≡ true → (record_length (field_lengths (identification_fields 0 h (0 ∷ 0 ∷ 0 ∷ 0 ∷ 0 ∷ 0 ∷ 0 ∷ 0 ∷ []))) ≤ 99999) × (record_length (field_lengths (parameter_fields 0 h)) ≤ 99999)
+pub head_fits : (h : Head) → is_fit_head h ≡ true → (identification_length h ≤ 99999) × (record_length (field_lengths (parameter_fields 0 h)) ≤ 99999)
 unfolding is_fit_head
 head_fits h fit =
     let last = both _ _ fit in
@@ -150,11 +150,13 @@ record_whole nall n (F f) =
     (row_whole (codes "0001") (number_row n) refl, (row_whole (codes "FRID") identifier refl, (row_whole (codes "FOID") (foid_row f.foid) refl, tt)))
     (rows_whole 0 (codes "ATTF") (attribute_row 0) f.attf refl) (rows_whole nall (codes "NATF") (attribute_row nall) f.natf refl)
     (rows_whole 0 (codes "FFPT") partner_row f.partners refl) (rows_whole 0 (codes "FSPT") place_row f.places refl)
+record_whole nall n (H h) = All-nil IsWhole
 
 -- the number of a record doesn't change its length
 same_length : (nall n : ℕ) (r : Rec) → record_length (field_lengths (record_fields nall n r)) ≡ written_length nall r
 same_length nall n (V v) = refl
 same_length nall n (F f) = refl
+same_length nall n (H h) = refl
 
 -- what a record that can be written is found to be
 pub record IsFound (nall : ℕ) (r : Rec) : Type 0 where

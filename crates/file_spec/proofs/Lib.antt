@@ -5,4 +5,5 @@ pub mod RecordBack
 pub mod CellBack
 pub mod RoundTrip
 pub mod EachItem
+pub mod GrownCell
 pub mod TypedCell

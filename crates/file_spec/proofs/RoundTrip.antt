@@ -9,7 +9,7 @@ use Rattle.std.proofs.lemmas.List.Folds.{list_all-append}
 use Rattle.std.proofs.lemmas.List.Elements.{recursion_from_All}
 use Rattle.s57_types.specs.Subfield.{Form, Subfield, unsigned_of, signed_of, text_of, wide_text_of, fixed_of, is_plain, holds, has_unit, unit_terminator, field_terminator, IsSubfield}
 use Rattle.s57_types.specs.FieldRows.{dsid_forms, dssi_forms, dspm_forms, frid_forms, foid_forms, attribute_forms, partner_forms, place_forms, vrid_forms, end_forms, plane_forms, deep_forms, dsid_row, dssi_row, dspm_row, frid_row, foid_row, attribute_row, partner_row, place_row, vrid_row, end_row, plane_row, deep_row}
-use Rattle.s57_types.specs.Fitness.{unfitness, is_feature_kind, is_fit_head}
+use Rattle.s57_types.specs.Fitness.{unfitness, is_vector_kind, is_feature_kind, is_fit_head}
 use Rattle.s57_types.specs.RecordFields.{dsid_of_head, dssi_of_head, dspm_of_head}
 use Rattle.s57_types.specs.declared.cell.Cell.{Cell}
 use Rattle.s57_types.specs.declared.head.Head.{Head}
@@ -24,7 +24,7 @@ use Rattle.s57_types.specs.declared.record.End.{End}
 use Rattle.s57_types.specs.declared.record.Spot.{Spot}
 use Rattle.s57_types.specs.declared.record.Partner.{Partner}
 use Rattle.s57_types.specs.declared.record.Rec.{Rec}
-use Rattle.s57_types.specs.declared.record.Rec.TheVariants.{V, F}
+use Rattle.s57_types.specs.declared.record.Rec.TheVariants.{V, F, H}
 use Rattle.cell_spec.specs.Lookup.{all_records}
 use Rattle.cell_spec.specs.Writable.{IsWritable}
 use Rattle.field_spec.specs.Contents.{dsid_content, dssi_content, dspm_content, frid_content, foid_content, attribute_content, partner_content, place_content, vrid_content, end_content, plane_content, deep_content}
@@ -43,11 +43,11 @@ pub record FieldLaws : Type 0 where
   pub dspm : (d : Dspm) → IsFit dspm_forms (dspm_row d) → dspm_content (field_bytes (dspm_row d)) ≡ Ok d
   pub frid : (d : Frid) → IsFit frid_forms (frid_row d) → frid_content (field_bytes (frid_row d)) ≡ Ok d
   pub foid : (d : Lnam) → IsFit foid_forms (foid_row d) → foid_content (field_bytes (foid_row d)) ≡ Ok d
-  pub vrid : (d : Vrid) → IsFit vrid_forms (vrid_row d) → is_feature_kind d.name.kind ≡ false → vrid_content (field_bytes (vrid_row d)) ≡ Ok d
+  pub vrid : (d : Vrid) → IsFit vrid_forms (vrid_row d) → is_vector_kind d.name.kind ≡ true → vrid_content (field_bytes (vrid_row d)) ≡ Ok d
   pub attributes : (level : ℕ) (attrs : List Attr) → AllByRecursion (λ a. IsFit (attribute_forms level) (attribute_row level a)) attrs → attribute_content level (rows_bytes level (attribute_row level) attrs) ≡ Ok attrs
   pub partners : (partners : List Partner) → AllByRecursion (λ p. IsFit partner_forms (partner_row p)) partners → partner_content (rows_bytes 0 partner_row partners) ≡ Ok partners
-  pub places : (places : List Spot) → AllByRecursion (λ s. IsFit place_forms (place_row s)) places → list_all (λ s. not (is_feature_kind s.to.kind)) places ≡ true → place_content (rows_bytes 0 place_row places) ≡ Ok places
-  pub ends : (ends : List End) → AllByRecursion (λ e. IsFit end_forms (end_row e)) ends → list_all (λ e. not (is_feature_kind e.to.kind)) ends ≡ true → end_content (rows_bytes 0 end_row ends) ≡ Ok ends
+  pub places : (places : List Spot) → AllByRecursion (λ s. IsFit place_forms (place_row s)) places → list_all (λ s. is_vector_kind s.to.kind) places ≡ true → place_content (rows_bytes 0 place_row places) ≡ Ok places
+  pub ends : (ends : List End) → AllByRecursion (λ e. IsFit end_forms (end_row e)) ends → list_all (λ e. is_vector_kind e.to.kind) ends ≡ true → end_content (rows_bytes 0 end_row ends) ≡ Ok ends
   pub plane : (points : List (ℤ × ℤ)) → AllByRecursion (λ p. IsFit plane_forms (plane_row p)) points → plane_content (rows_bytes 0 plane_row points) ≡ Ok points
   pub deep : (soundings : List (ℤ × ℤ × ℤ)) → AllByRecursion (λ p. IsFit deep_forms (deep_row p)) soundings → deep_content (rows_bytes 0 deep_row soundings) ≡ Ok soundings
 
@@ -86,8 +86,8 @@ plain_rows row plain (x ∷ xs) = list_all-append is_plain (row x) (flat_map row
 record_back : (laws : FieldLaws) (nall : ℕ) (r : Rec) → unfitness nall r ≡ None → RecordHasForms nall r → RecordIsReadBack nall r
 record_back laws nall (V v) fit has =
     let fits = fit_is_found nall (V v) fit in
-    let names = both (not (is_feature_kind v.name.kind)) _ fits.names in record {
-      identifier = laws.vrid (vrid_of v) (fit_row vrid_forms (vrid_row (vrid_of v)) has.identifier refl) (not_true _ names.0);
+    let names = both (is_vector_kind v.name.kind) _ fits.names in record {
+      identifier = laws.vrid (vrid_of v) (fit_row vrid_forms (vrid_row (vrid_of v)) has.identifier refl) names.0;
       attrs = laws.attributes 0 v.attrs (fit_rows (attribute_forms 0) (attribute_row 0) v.attrs has.attrs fits.texts);
       ends = laws.ends v.ends (fit_rows end_forms end_row v.ends has.ends (plain_rows end_row (λ e. refl) v.ends)) names.1;
       plane = laws.plane v.plane (fit_rows plane_forms plane_row v.plane has.plane (plain_rows plane_row (λ p. refl) v.plane));
@@ -108,6 +108,7 @@ record_back laws nall (F f) fit has =
       partners = laws.partners f.partners (fit_rows partner_forms partner_row f.partners has.partners last.1);
       places = laws.places f.places (fit_rows place_forms place_row f.places has.places (plain_rows place_row (λ s. refl) f.places)) names.1;
     }
+record_back laws nall (H h) fit has = tt
 
 records_back : (laws : FieldLaws) (nall : ℕ) (records : List Rec) → AllByRecursion (λ r. unfitness nall r ≡ None) records → AllByRecursion (RecordHasForms nall) records → AllByRecursion (RecordIsReadBack nall) records
 records_back laws nall [] fit has = tt

@@ -1,7 +1,7 @@
 -- A cell that grows by the records of its file (S-57 Part 3, 7.3, 7.6 and 7.7).
 use Rattle.std.specs.Prelude.{[], ◌∷◌, ◌++◌}
 use Rattle.s57_types.specs.declared.name.Kind.{Kind}
-use Rattle.s57_types.specs.declared.name.Kind.TheVariants.{Vi, Vc, Ve, Fe}
+use Rattle.s57_types.specs.declared.name.Kind.TheVariants.{Vi, Vc, Ve, Fe, Head as HeadKind}
 use Rattle.s57_types.specs.declared.record.Rec.{Rec}
 use Rattle.s57_types.specs.declared.field.Dsid.{Dsid}
 use Rattle.s57_types.specs.declared.field.Dssi.{Dssi}
@@ -47,12 +47,13 @@ head_with d s p = record {
 abbrev pub empty_cell : Head → Cell
 empty_cell head = record { head = head; vi = []; vc = []; ve = []; fe = [] }
 
--- a cell with one record more in the list of a kind
+-- a cell with one record more in the list of a kind; the head stands in no list
 abbrev pub with_record_of_kind : Kind → Rec → Cell → Cell
 with_record_of_kind Vi r c = record c { vi = c.vi ++ (r ∷ []) }
 with_record_of_kind Vc r c = record c { vc = c.vc ++ (r ∷ []) }
 with_record_of_kind Ve r c = record c { ve = c.ve ++ (r ∷ []) }
 with_record_of_kind Fe r c = record c { fe = c.fe ++ (r ∷ []) }
+with_record_of_kind HeadKind r c = c
 
 -- a record goes last in the list of its kind
 abbrev pub with_record : Rec → Cell → Cell

@@ -5,7 +5,7 @@ use Rattle.std.specs.List.{flat_map, enumerate_from}
 use Rattle.frame_spec.specs.WrittenRecord.{written_record}
 use Rattle.s57_types.specs.RecordFields.{identification_fields, parameter_fields, record_fields}
 use Rattle.s57_types.specs.declared.record.Rec.{Rec}
-use Rattle.s57_types.specs.declared.record.Rec.TheVariants.{V, F}
+use Rattle.s57_types.specs.declared.record.Rec.TheVariants.{V, F, H}
 use Rattle.s57_types.specs.declared.cell.Cell.{Cell}
 use Rattle.cell_spec.specs.Lookup.{all_records}
 use Rattle.file_spec.specs.DescriptiveRecord.{descriptive_fields}
@@ -14,6 +14,7 @@ use Rattle.file_spec.specs.DescriptiveRecord.{descriptive_fields}
 abbrev pub has_class_from : ℕ → ℕ → Rec → Bool
 has_class_from low high (V v) = false
 has_class_from low high (F f) = nat_le low f.objl && nat_le f.objl high
+has_class_from low high (H h) = false
 
 -- meta, collection and cartographic objects by the codes of their classes, and geo objects, which are all others
 -- (S-57 Part 3, 7.3.1.2; the ranges are those of the object catalogue)

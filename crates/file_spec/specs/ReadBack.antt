@@ -11,7 +11,7 @@ use Rattle.s57_types.specs.declared.field.Vrid.{Vrid}
 use Rattle.s57_types.specs.declared.record.Feature.{Feature}
 use Rattle.s57_types.specs.declared.record.Vector.{Vector}
 use Rattle.s57_types.specs.declared.record.Rec.{Rec}
-use Rattle.s57_types.specs.declared.record.Rec.TheVariants.{V, F}
+use Rattle.s57_types.specs.declared.record.Rec.TheVariants.{V, F, H}
 use Rattle.field_spec.specs.Contents.{dsid_content, dssi_content, dspm_content, frid_content, foid_content, attribute_content, partner_content, place_content, vrid_content, end_content, plane_content, deep_content}
 use Rattle.field_spec.specs.declared.fault.FieldFault.{FieldFault}
 use Rattle.cell_spec.specs.Lookup.{all_records}
@@ -50,6 +50,7 @@ pub record FeatureIsReadBack (nall : ℕ) (f : Feature) : Type 0 where
 abbrev pub RecordIsReadBack : ℕ → Rec → Type 0
 RecordIsReadBack nall (V v) = VectorIsReadBack v
 RecordIsReadBack nall (F f) = FeatureIsReadBack nall f
+RecordIsReadBack nall (H h) = Unit {0}
 
 pub record HeadIsReadBack (h : Head) (counts : List ℕ) : Type 0 where
   pub dsid : RowIsReadBack dsid_row dsid_content (dsid_of_head h)

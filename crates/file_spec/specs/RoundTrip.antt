@@ -10,7 +10,7 @@ use Rattle.s57_types.specs.declared.record.Attr.{Attr}
 use Rattle.s57_types.specs.declared.record.Feature.{Feature}
 use Rattle.s57_types.specs.declared.record.Vector.{Vector}
 use Rattle.s57_types.specs.declared.record.Rec.{Rec}
-use Rattle.s57_types.specs.declared.record.Rec.TheVariants.{V, F}
+use Rattle.s57_types.specs.declared.record.Rec.TheVariants.{V, F, H}
 use Rattle.cell_spec.specs.Lookup.{all_records}
 use Rattle.cell_spec.specs.Writable.{IsWritable}
 use Rattle.file_spec.specs.DecodedCell.{decoded_cell}
@@ -52,6 +52,7 @@ pub record FeatureHasForms (nall : ℕ) (f : Feature) : Type 0 where
 abbrev pub RecordHasForms : ℕ → Rec → Type 0
 RecordHasForms nall (V v) = VectorHasForms v
 RecordHasForms nall (F f) = FeatureHasForms nall f
+RecordHasForms nall (H h) = Unit {0}
 
 -- a cell as its types have it: numbers that fit their types, and dates and editions of their length
 pub record HasItsTypes (c : Cell) : Type 0 where

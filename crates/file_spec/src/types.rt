@@ -107,6 +107,7 @@ impl Typed for Rec {
         match self {
             Rec::V(vector) => vector_has_its_types(vector),
             Rec::F(feature) => feature_has_its_types(feature),
+            Rec::H(_) => {}
         }
     }
 }

@@ -8,7 +8,7 @@ use Rattle.s57_types.specs.declared.name.Lnam.{Lnam}
 use Rattle.s57_types.specs.declared.name.RecName.{RecName}
 use Rattle.s57_types.specs.declared.record.Feature.{Feature}
 use Rattle.s57_types.specs.declared.record.Rec.{Rec as Record}
-use Rattle.s57_types.specs.declared.record.Rec.TheVariants.{V, F}
+use Rattle.s57_types.specs.declared.record.Rec.TheVariants.{V, F, H}
 use Rattle.s57_types.specs.declared.record.Vector.{Vector}
 use Rattle.cell_spec.specs.Lookup.{lookup_record}
 use Rattle.cell_spec.specs.Names.{finding_order}
@@ -19,9 +19,10 @@ use Rattle.geometry_spec.specs.Points.{Point}
 use Rattle.rule_spec.specs.Boundary.{arc_of, boundary_of, has_usable_boundary, has_whole_loops, is_exterior, is_mixed, loops_of, turns_wrongly}
 use Rattle.rule_spec.specs.Contacts.{contact_of_lines, found_contact, is_contact_of_kind, segment_under}
 use Rattle.rule_spec.specs.EdgePoints.{edge_line_of, line_of, node_position, segments_of}
+use Rattle.rule_spec.specs.Features.{is_beyond_ascii}
 use Rattle.rule_spec.specs.Findings.{findings_about, findings_of_record, findings_of_subject, is_subject}
 use Rattle.rule_spec.specs.Loops.{first_open_place}
-use Rattle.rule_spec.specs.Rule.{Found, found_at}
+use Rattle.rule_spec.specs.Rule.{Found, found_at, places_where}
 use Rattle.rule_spec.specs.RuleRow.{RuleRow}
 use Rattle.rule_spec.specs.Rules.{vector_rules, pair_rules, feature_rules, side_rules, identity_rules}
 use Rattle.rule_spec.specs.Sides.{found_use, is_truncated, side_counts, uses_of}
@@ -29,7 +30,7 @@ use Rattle.rule_spec.specs.Vectors.{Numbered, first_wrong_meeting, found_pair, i
 use Rattle.rule_spec.specs.declared.line.EdgeLine.{EdgeLine}
 use Rattle.rule_spec.specs.declared.side.EdgeUse.{EdgeUse}
 use Rattle.frame_laws.specs.FindingsAscend.{FindingsAscend}
-use Rattle.frame_laws.proofs.Ascents.{Ascends, none_ascends, one_ascends, when_ascends, unless_ascends, if_ascends, when_if_ascends, at_ascends, places_ascend}
+use Rattle.frame_laws.proofs.Ascents.{Ascends, none_ascends, one_ascends, when_ascends, unless_ascends, if_ascends, when_if_ascends, at_ascends, first_ascends, places_ascend}
 use Rattle.frame_laws.proofs.AscendingLoops.{loops_ascend}
 use Rattle.frame_laws.proofs.AscendingRules.{rules_ascend}
 
@@ -109,7 +110,7 @@ features_ascend c f =
                   when_ascends _ _ (loops_ascend turns_wrongly c f),
                   (
                     places_ascend _ f.partners,
-                    (if_ascends _ _, tt),
+                    (if_ascends _ _, (when_ascends _ _ (first_ascends (places_where is_beyond_ascii f.attf)), tt)),
                   ),
                 ),
               ),
@@ -133,8 +134,10 @@ identities_ascend : (c : Cell) (l : Lnam) → AllAscend (λ rule. rule c l) iden
 identities_ascend c l = (if_ascends _ _, tt)
 
 record_ascends : (c : Cell) (r : Record) → IsStrictlySortedBy finding_order (findings_of_record c r)
+unfolding IsStrictlySortedBy
 record_ascends c (V v) = rules_ascend (λ rule. rule c v) 0 vector_rules refl (vectors_ascend c v)
 record_ascends c (F f) = rules_ascend (λ rule. rule c f) 0 feature_rules refl (features_ascend c f)
+record_ascends c (H h) = tt
 
 found_record_ascends : (c : Cell) (r : Option Record) → IsStrictlySortedBy finding_order (option_map_or (findings_of_record c) r [])
 unfolding IsStrictlySortedBy

@@ -1,5 +1,5 @@
 -- Lists whose items ascend by a number, and findings of one kind that ascend by their first numbers.
-use Rattle.std.proofs.Common.{◌≡◌, ◌≤◌, ◌<◌, ℕ, zero, suc, ◌+◌, Bool, true, false, List, [], ◌∷◌, Option, None, Some, cond, map, filter, drop, refl, sym, ap, ◌∙◌, arith}
+use Rattle.std.proofs.Common.{◌≡◌, ◌≤◌, ◌<◌, ℕ, zero, suc, ◌+◌, Bool, true, false, List, [], ◌∷◌, Option, None, Some, cond, map, filter, take, drop, refl, sym, ap, ◌∙◌, arith}
 use Rattle.std.specs.Cmp.{nat_cmp_is}
 use Rattle.std.specs.Cmp.Lexicographic.{slice_cmp}
 use Rattle.std.specs.List.{AllByRecursion, enumerate_from}
@@ -102,6 +102,11 @@ when_if_ascends outer inner nums = when_ascends outer (found_if inner nums) (if_
 pub at_ascends : (number : Option ℕ) → Ascends (found_at number)
 at_ascends None = none_ascends
 at_ascends (Some k) = one_ascends (k ∷ [])
+
+-- the first one alone
+pub first_ascends : (found : Found) → Ascends (take 1 found)
+first_ascends [] = none_ascends
+first_ascends (nums ∷ found) = one_ascends nums
 
 pub places_ascend : {X : Type 0} (test : X → Bool) (xs : List X) → Ascends (places_where test xs)
 places_ascend {X} test xs =

@@ -1,11 +1,13 @@
 -- The rules on features give the same in two cells that answer alike to what they look up.
-use Rattle.std.proofs.Common.{◌≡◌, ℕ, ◌==◌, ◌&&◌, Bool, true, false, List, [], ◌++◌, Option, cond, map, not, length, flat_map, is_some, option_map, refl, sym, ap, ◌∙◌}
+use Rattle.std.proofs.Common.{◌≡◌, ℕ, ◌==◌, ◌&&◌, Bool, true, false, List, [], ◌∷◌, ◌++◌, Option, None, Some, cond, map, take, not, length, flat_map, is_some, option_map, refl, sym, ap, ◌∙◌}
 use Rattle.std.specs.List.{AllByRecursion, enumerate_from, list_all}
 use Rattle.s57_types.specs.declared.record.Feature.{Feature}
 use Rattle.s57_types.specs.declared.record.Partner.{Partner}
-use Rattle.s57_types.specs.declared.record.Rec.TheVariants.{F}
+use Rattle.s57_types.specs.declared.record.Rec.{Rec as Record}
+use Rattle.s57_types.specs.declared.record.Rec.TheVariants.{V, F, H}
 use Rattle.s57_types.specs.declared.record.Spot.{Spot}
 use Rattle.s57_types.specs.declared.cell.Cell.{Cell}
+use Rattle.s57_types.specs.Heads.{head_name}
 use Rattle.cell_spec.specs.declared.key.Key.{Key}
 use Rattle.cell_spec.specs.declared.key.Key.TheVariants.{Name, Foid}
 use Rattle.cell_spec.specs.Lookup.{lookup_record, lookup_identity}
@@ -13,10 +15,10 @@ use Rattle.rule_spec.specs.declared.line.BoundaryRow.{BoundaryRow}
 use Rattle.rule_spec.specs.declared.line.EdgeLine.{EdgeLine}
 use Rattle.rule_spec.specs.Boundary.{line_along, boundary_row, boundary_of, is_clean, has_points, has_usable_boundary, open_ring_of, mixed_ring_of, outer_count_of, wrong_turn_of, has_whole_loops}
 use Rattle.rule_spec.specs.EdgePoints.{edge_line_of}
-use Rattle.rule_spec.specs.Features.{prim_refs, dangling_ref, bad_codes, dangling_feature, target}
+use Rattle.rule_spec.specs.Features.{prim_refs, dangling_ref, bad_codes, bad_level, dangling_feature, is_beyond_ascii, target}
 use Rattle.rule_spec.specs.Findings.{findings_of_record}
 use Rattle.rule_spec.specs.Reads.{end_keys_at, feature_keys}
-use Rattle.rule_spec.specs.Rule.{Found}
+use Rattle.rule_spec.specs.Rule.{Found, places_where}
 use Rattle.rule_spec.specs.Rules.{feature_rules}
 use Rattle.cell_spec.specs.AnswersAlike.{AnswerAlike}
 use Rattle.frame_laws.proofs.Lists.{each_weaker, each_from_both, each_front, each_back, each_mapped, each_flat, each_numbered, same_filter_map, same_flat_map, same_list_all, same_places}
@@ -29,6 +31,13 @@ usable_when is_area misfits dangling codes lines = is_area && (is_clean misfits 
 
 abbrev row_by : ℕ × Spot → Option EdgeLine → Option BoundaryRow
 row_by pointer found = option_map (λ line. record { place = pointer.0; usag = pointer.1.usag; line = line_along pointer.1.ornt line }) found
+
+-- AALL of a head that is found
+abbrev level_of : Option Record → ℕ
+level_of None = 0
+level_of (Some (V v)) = 0
+level_of (Some (F f)) = 0
+level_of (Some (H h)) = h.aall
 
 abbrev place_keys : Feature → List Key
 place_keys f = map (λ (s : Spot). Name s.to) f.places
@@ -49,15 +58,15 @@ module _ (c d : Cell) (f : Feature) where
   alike_places : AllByRecursion (AnswerAlike c d) (feature_keys c f) → HasAlikePlaces
   alike_places all =
       each_mapped (AnswerAlike c d) (λ (s : Spot). Name s.to) f.places
-      (each_front (AnswerAlike c d) (place_keys f) (edge_keys_of_area c f) (each_front (AnswerAlike c d) (place_keys f ++ edge_keys_of_area c f) (partner_keys f) all))
+      (each_front (AnswerAlike c d) (place_keys f) (edge_keys_of_area c f) (each_front (AnswerAlike c d) (place_keys f ++ edge_keys_of_area c f) (partner_keys f) all.1))
 
   alike_edges : AllByRecursion (AnswerAlike c d) (feature_keys c f) → AllByRecursion (AnswerAlike c d) (edge_keys_of_area c f)
-  alike_edges all = each_back (AnswerAlike c d) (place_keys f) (edge_keys_of_area c f) (each_front (AnswerAlike c d) (place_keys f ++ edge_keys_of_area c f) (partner_keys f) all)
+  alike_edges all = each_back (AnswerAlike c d) (place_keys f) (edge_keys_of_area c f) (each_front (AnswerAlike c d) (place_keys f ++ edge_keys_of_area c f) (partner_keys f) all.1)
 
   alike_partners : AllByRecursion (AnswerAlike c d) (feature_keys c f) → AllByRecursion (λ (p : Partner). AnswerAlike c d (Foid p.to)) f.partners
   alike_partners all =
       each_mapped (AnswerAlike c d) (λ (p : Partner). Foid p.to) f.partners
-      (each_back (AnswerAlike c d) (place_keys f ++ edge_keys_of_area c f) (partner_keys f) all)
+      (each_back (AnswerAlike c d) (place_keys f ++ edge_keys_of_area c f) (partner_keys f) all.1)
 
   -- the same keys are read
   keys_by_places : HasAlikePlaces → feature_keys c f ≡ feature_keys d f
@@ -65,7 +74,7 @@ module _ (c d : Cell) (f : Feature) where
       let ends : edge_keys c f ≡ edge_keys d f =
       same_flat_map (λ (s : Spot). end_keys_at c s.to) (λ (s : Spot). end_keys_at d s.to) f.places
       (each_weaker (λ (s : Spot). Alike c d s.to) (λ (s : Spot). end_keys_at c s.to ≡ end_keys_at d s.to) (λ s same. same_end_keys c d s.to same) f.places places) in
-      λ i. place_keys f ++ cond (f.prim == 3) (ends i) [] ++ partner_keys f
+      λ i. Name head_name ∷ (place_keys f ++ cond (f.prim == 3) (ends i) [] ++ partner_keys f)
 
   pub same_feature_keys : AllByRecursion (AnswerAlike c d) (feature_keys c f) → feature_keys c f ≡ feature_keys d f
   same_feature_keys all = keys_by_places (alike_places all)
@@ -81,6 +90,9 @@ module _ (c d : Cell) (f : Feature) where
       let missing : Cell → Partner → Bool = λ cell p. length (lookup_identity cell p.to) == 0 in
       same_places (missing c) (missing d) 1 f.partners
       (each_weaker (λ (p : Partner). AnswerAlike c d (Foid p.to)) (λ p. missing c p ≡ missing d p) (λ p same. ap (λ bearers. length bearers == 0) same) f.partners partners)
+
+  same_bad_level : AnswerAlike c d (Name head_name) → bad_level c f ≡ bad_level d f
+  same_bad_level same = ap (λ found. cond (level_of found == 0) (take 1 (places_where is_beyond_ascii f.attf)) []) same
 
   -- the lines of an area's boundary
   abbrev HasSameLines : Type 0
@@ -133,7 +145,7 @@ module _ (c d : Cell) (f : Feature) where
                   same_by_boundary (λ usable rows. cond (usable && has_whole_loops rows) (outer_count_of rows) []) (λ rows. refl) all,
                   (
                     same_by_boundary (λ usable rows. cond (usable && has_whole_loops rows) (wrong_turn_of rows) []) (λ rows. refl) all,
-                    (same_dangling_feature (alike_partners all), (refl, tt)),
+                    (same_dangling_feature (alike_partners all), (refl, (same_bad_level all.0, tt))),
                   ),
                 ),
               ),

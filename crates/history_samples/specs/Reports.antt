@@ -1,14 +1,16 @@
 -- Runs of scripts on small cells, with their reports.
 use Rattle.std.specs.Prelude.{◌≡◌, ℕ, List, [], ◌∷◌, codes}
 use Rattle.std.specs.List.{flat_map}
+use Rattle.s57_types.specs.Heads.{head_name}
+use Rattle.s57_types.specs.declared.head.Level.TheVariants.{Zero, One}
 use Rattle.s57_types.specs.declared.record.Rec.{Rec}
-use Rattle.s57_types.specs.declared.record.Rec.TheVariants.{V, F}
+use Rattle.s57_types.specs.declared.record.Rec.TheVariants.{V, F, H}
 use Rattle.cell_spec.specs.declared.edit.Edit.{Edit}
 use Rattle.cell_spec.specs.declared.edit.Edit.TheVariants.{Add, Set, Del}
-use Rattle.sample_cells.specs.Parts.{vc, ve, at, node, vector, end_of, depth_area, square}
-use Rattle.sample_cells.specs.Samples.{dangling, grid}
+use Rattle.sample_cells.specs.Parts.{vc, ve, fe, objnam, feature, at, node, vector, end_of, depth_area, square}
+use Rattle.sample_cells.specs.Samples.{at_level, dangling, grid}
 use Rattle.text_spec.specs.declared.command.Command.{Command}
-use Rattle.text_spec.specs.declared.command.Command.TheVariants.{View, Commit, Push}
+use Rattle.text_spec.specs.declared.command.Command.TheVariants.{View, Commit, Drop, Push, Guard}
 use Rattle.history_spec.specs.ReportText.{report}
 use Rattle.history_samples.specs.Lines.{fed}
 
@@ -19,6 +21,7 @@ text_of_lines = flat_map fed
 abbrev pub renewed : Rec → Rec
 renewed (V v) = V (record v { rver = 2 })
 renewed (F f) = F (record f { rver = 2 })
+renewed (H h) = H h
 
 -- a session that sees the newest state and commits one edit
 abbrev pub edit_seen : Edit → List Command
@@ -130,4 +133,86 @@ TwoSessionsAreReported =
     codes "side ve 3 SideUnbalanced 2 0 1 0" ∷
     codes "side ve 4 SideOverlap 0 2 0 1" ∷
     codes "side ve 4 SideUnbalanced 0 2 0 1" ∷
+    codes "end" ∷ [])
+
+-- a commit rests on the node that it guards, twice here, and a smaller guard goes before an edit; a draft's guards aren't counted, a drop and a
+-- commit empty them, and a guard that its base has seen stands against nothing, nor does one of what isn't there
+abbrev pub move_second : ℕ → Edit
+move_second place = Set (renewed (node 2 (at 0 place)))
+
+abbrev pub GuardsAreContested : Type 0
+GuardsAreContested =
+    report dangling (
+    (Push (Set (renewed (node 1 (at 0 1)))) ∷ Push (move_second 3) ∷ Commit ∷ []) ∷
+    (Guard (vc 1) ∷ Push (move_second 2) ∷ Guard (vc 1) ∷ Commit ∷ Guard (vc 1) ∷ Drop ∷ Commit ∷ View ∷ Guard (vc 1) ∷ Guard (fe 7) ∷ Push (move_second 2) ∷ Commit ∷ []) ∷ [])
+    (1 ∷ 2 ∷ 2 ∷ 2 ∷ 2 ∷ [])
+    ≡ text_of_lines (
+    codes "order 1 2 2 2 2" ∷
+    codes "session 1" ∷
+    codes "draft 1" ∷
+    codes "draft 2" ∷
+    codes "commit accepted 1 findings 4" ∷
+    codes "session 2" ∷
+    codes "draft 0" ∷
+    codes "draft 1" ∷
+    codes "draft 1" ∷
+    codes "commit refused newer 1 vc 1 desk 1" ∷
+    codes "draft 0" ∷
+    codes "draft 0" ∷
+    codes "commit refused empty" ∷
+    codes "view seen 1 findings 4" ∷
+    codes "draft 0" ∷
+    codes "draft 0" ∷
+    codes "draft 1" ∷
+    codes "commit accepted 2 findings 4" ∷
+    codes "history" ∷
+    codes "commit 1 desk 1 findings 4" ∷
+    codes "set vc 1 2 p=0,1" ∷
+    codes "set vc 2 2 p=0,3" ∷
+    codes "commit 2 desk 2 findings 4" ∷
+    codes "set vc 2 2 p=0,2" ∷
+    codes "cell vi 0 vc 2 ve 2 fe 0" ∷
+    codes "findings 4" ∷
+    codes "rec ve 2 EndCount 1 0 1" ∷
+    codes "rec ve 2 DanglingEnd 1" ∷
+    codes "side ve 1 Orphan" ∷
+    codes "side ve 2 Orphan" ∷
+    codes "end" ∷ [])
+
+-- an attribute beyond ASCII is bad at level 0 of texts alone; a guard of the head, and an edit of it, are contested by an edit of it
+abbrev pub accented : Edit
+accented = Set (renewed (feature 1 3 1 42 (objnam (195 ∷ []) ∷ []) square))
+
+abbrev pub HeadIsEdited : Type 0
+HeadIsEdited =
+    report grid (
+    (Push accented ∷ Commit ∷ Push (at_level One) ∷ Commit ∷ []) ∷
+    (Push (move_node 1) ∷ Guard head_name ∷ Commit ∷ Push (at_level Zero) ∷ Commit ∷ View ∷ Push (at_level Zero) ∷ Commit ∷ []) ∷ [])
+    (1 ∷ 1 ∷ 2 ∷ 2 ∷ 2 ∷ 2 ∷ [])
+    ≡ text_of_lines (
+    codes "order 1 1 2 2 2 2" ∷
+    codes "session 1" ∷
+    codes "draft 1" ∷
+    codes "commit accepted 1 findings 1" ∷
+    codes "draft 1" ∷
+    codes "commit accepted 2 findings 0" ∷
+    codes "session 2" ∷
+    codes "draft 1" ∷
+    codes "draft 1" ∷
+    codes "commit refused newer 2 head 0 desk 1" ∷
+    codes "draft 1" ∷
+    codes "commit refused newer 2 head 0 desk 1" ∷
+    codes "view seen 2 findings 0" ∷
+    codes "draft 1" ∷
+    codes "commit accepted 3 findings 1" ∷
+    codes "history" ∷
+    codes "commit 1 desk 1 findings 1" ∷
+    codes "set fe 1 2 3 1 42 1 1 1 a=116:%C3 s=ve:3:1:1:255 s=ve:2:1:1:255 s=ve:4:2:1:255 s=ve:1:2:1:255" ∷
+    codes "commit 2 desk 1 findings 0" ∷
+    codes "set head edtn= updn= uadt=00000000 isdt=00000000 aall=1 comt=" ∷
+    codes "commit 3 desk 2 findings 1" ∷
+    codes "set head edtn= updn= uadt=00000000 isdt=00000000 aall=0 comt=" ∷
+    codes "cell vi 0 vc 4 ve 4 fe 2" ∷
+    codes "findings 1" ∷
+    codes "rec fe 1 BadLevel 1" ∷
     codes "end" ∷ [])

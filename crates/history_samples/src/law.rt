@@ -2,7 +2,7 @@
 
 ghost use Rattle.history_samples.specs.Lines.{EditsAreSpelled, RepliesAreTold};
 ghost use Rattle.history_samples.specs.Orders.{OrdersAreTaken, OrdersAreRefused};
-ghost use Rattle.history_samples.specs.Reports.{MinimalRunIsReported, ClashIsReported, ViewEndsTheClash, TwoSessionsAreReported};
+ghost use Rattle.history_samples.specs.Reports.{ClashIsReported, GuardsAreContested, HeadIsEdited, MinimalRunIsReported, TwoSessionsAreReported, ViewEndsTheClash};
 
 /// The lines of edits of every kind of record.
 pub fn lines_are_spelled()
@@ -26,4 +26,6 @@ pub fn runs_are_reported()
     ensures clash { ClashIsReported }
     ensures until_a_view { ViewEndsTheClash }
     ensures two_sessions { TwoSessionsAreReported }
+    ensures guards { GuardsAreContested }
+    ensures head { HeadIsEdited }
 {}

@@ -1,9 +1,9 @@
 //! Look-ups in a cell of features: its lists sorted, then a million look-ups of one kind.
 
-ghost use Rattle.std.specs.Prelude.{◌≡◌, ◌≤◌, ◌<◌, ℕ, not, true, None, IfOk, length, map, vec_len, [], ◌∷◌};
+ghost use Rattle.std.specs.Prelude.{◌≡◌, ◌≤◌, ◌<◌, ℕ, true, None, IfOk, length, map, vec_len, [], ◌∷◌};
 ghost use Rattle.std.specs.List.{All, IsDistinct, list_all};
 ghost use Rattle.s57_types.specs.declared.record.Spot.{Spot as SpecSpot};
-ghost use Rattle.s57_types.specs.Fitness.{is_feature_kind, unfitness};
+ghost use Rattle.s57_types.specs.Fitness.{is_vector_kind, unfitness};
 ghost use Rattle.cell_spec.specs.Lookup.{name_of as spec_name};
 ghost use Rattle.cell_spec.specs.Names.{name_parts, same_name};
 ghost use Rattle.chain_topo.specs.Readable.{IsReadable};
@@ -85,7 +85,7 @@ fn spot(kind: Kind, id: u32) -> Spot
 }
 
 fn feature(alloc: Global, id: u32, foid: Lnam, places: Vec<Spot>) -> Rec
-    requires targets { list_all (λ (s : SpecSpot). not (is_feature_kind s.to.kind)) places.items ≡ true }
+    requires targets { list_all (λ (s : SpecSpot). is_vector_kind s.to.kind) places.items ≡ true }
     requires few { length places.items ≤ 4 }
     ensures name { name_parts (spec_name result) ≡ 3 ∷ id ∷ [] }
     ensures fits { (nall : ℕ) → unfitness nall result ≡ None }

@@ -1,4 +1,4 @@
--- The keys that the read set of a feature has: those of its places, of the ends of its boundary's edges, and of its partners.
+-- The keys that the read set of a feature has: the head's, and those of its places, of the ends of its boundary's edges, and of its partners.
 use Rattle.std.proofs.Common.{◌≡◌, ℕ, ◌<◌, Bool, true, false, ◌||◌, List, [], ◌∷◌, ◌++◌, length, map, flat_map, get_or, Some, cond, refl, ap, ◌∙◌}
 use Rattle.std.specs.Prelude.{◌==◌, option_and_then}
 use Rattle.std.specs.List.{list_any, All}
@@ -16,6 +16,7 @@ use Rattle.s57_types.specs.declared.record.Partner.{Partner}
 use Rattle.s57_types.specs.declared.record.Rec.TheVariants.{F}
 use Rattle.s57_types.specs.declared.record.Spot.{Spot}
 use Rattle.s57_types.specs.declared.record.Vector.{Vector}
+use Rattle.s57_types.specs.Heads.{head_name}
 use Rattle.cell_spec.specs.declared.key.Key.{Key}
 use Rattle.cell_spec.specs.declared.key.Key.TheVariants.{Name, Foid}
 use Rattle.cell_spec.specs.declared.key.Subject.TheVariants.{Rec}
@@ -85,16 +86,31 @@ module _ (c : Cell) (n : RecName) (f : Feature) (keys : List Key) (is_set : keys
   partner_keys : List Key
   partner_keys = map (λ (p : Partner). Foid p.to) f.partners
 
-  by_parts : (key : Key) → has_key (feature_keys c f) key ≡ ((has_key place_keys key || has_key boundary_keys key) || has_key partner_keys key)
-  unfolding place_keys boundary_keys partner_keys
+  -- the keys of its pointers
+  pointer_keys : List Key
+  pointer_keys = place_keys ++ boundary_keys ++ partner_keys
+
+  by_pointers : (key : Key) → has_key pointer_keys key ≡ true → has_key keys key ≡ true
+  unfolding place_keys boundary_keys partner_keys pointer_keys
+  by_pointers key h = by_feature key (later (is_eq (key_order key (Name head_name))) (has_key pointer_keys key) h)
+
+  by_parts : (key : Key) → has_key pointer_keys key ≡ ((has_key place_keys key || has_key boundary_keys key) || has_key partner_keys key)
+  unfolding pointer_keys
   by_parts key = has-append key (place_keys ++ boundary_keys) partner_keys ∙ ap (λ b. b || has_key partner_keys key) (has-append key place_keys boundary_keys)
+
+  -- the head
+  pub head_is_read : has_key keys (Name head_name) ≡ true
+  unfolding place_keys boundary_keys partner_keys pointer_keys
+  head_is_read =
+      let key = Name head_name in
+      by_feature key (earlier (is_eq (key_order key key)) (has_key pointer_keys key) (ties_itself (key_order key key) (total_keys.antisymm key key)))
 
   -- the records that a feature's spatial pointers name
   pub places_are_read : All (λ (s : Spot). has_key keys (Name s.to) ≡ true) f.places
   unfolding place_keys
   places_are_read = λ k d within.
       let key = Name (get_or f.places k d).to in
-      by_feature key (by_parts key ∙ earlier (has_key place_keys key || has_key boundary_keys key) (has_key partner_keys key)
+      by_pointers key (by_parts key ∙ earlier (has_key place_keys key || has_key boundary_keys key) (has_key partner_keys key)
       (earlier (has_key place_keys key) (has_key boundary_keys key) (has_mapped (λ (s : Spot). Name s.to) f.places k d within)))
 
   -- the identifiers that a feature's pointers to other features name
@@ -102,7 +118,7 @@ module _ (c : Cell) (n : RecName) (f : Feature) (keys : List Key) (is_set : keys
   unfolding partner_keys
   partners_are_read = λ k d within.
       let key = Foid (get_or f.partners k d).to in
-      by_feature key (by_parts key ∙ later (has_key place_keys key || has_key boundary_keys key) (has_key partner_keys key) (has_mapped (λ (p : Partner). Foid p.to) f.partners k d within))
+      by_pointers key (by_parts key ∙ later (has_key place_keys key || has_key boundary_keys key) (has_key partner_keys key) (has_mapped (λ (p : Partner). Foid p.to) f.partners k d within))
 
   -- the records that the ends of an area's edges name
   pub ends_are_read : (f.prim == 3) ≡ true → (k : ℕ) (d : Spot) (edge : Vector) → k < length f.places → edge_named c (get_or f.places k d).to ≡ Some edge
@@ -115,4 +131,4 @@ module _ (c : Cell) (n : RecName) (f : Feature) (keys : List Key) (is_set : keys
       ap (λ edge_found. has_key (option_map_or end_keys edge_found []) key) is_edge ∙ has_mapped (λ (e : End). Name e.to) edge.ends j end inside in
       let among : has_key boundary_keys key ≡ true =
       ap (λ b. has_key (cond b gathered []) key) area ∙ has_gathered (λ (s : Spot). end_keys_at c s.to) f.places k d key within here in
-      by_feature key (by_parts key ∙ earlier (has_key place_keys key || has_key boundary_keys key) (has_key partner_keys key) (later (has_key place_keys key) (has_key boundary_keys key) among))
+      by_pointers key (by_parts key ∙ earlier (has_key place_keys key || has_key boundary_keys key) (has_key partner_keys key) (later (has_key place_keys key) (has_key boundary_keys key) among))

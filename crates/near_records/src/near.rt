@@ -10,9 +10,8 @@ ghost use Rattle.cell_spec.specs.Names.{key_order};
 ghost use Rattle.cell_spec.specs.Lookup.{lookup_identity, lookup_record};
 ghost use Rattle.near_records.specs.Near.{IsNear, answer_held, answer_to as spec_answer, has_key};
 
-use cell_spec::{Key, Keys, orders_are_by_parts};
+use cell_spec::{Key, Keys, ascending_keys, orders_are_by_parts};
 use chain_topo::{Look, Steps};
-use read_sets::ascending_keys;
 use s57_types::{Lnam, Rec, RecName};
 use std::alloc::{AllocError, Global};
 use std::sync::ledger::Ledger;

@@ -1,18 +1,13 @@
-//! Which record of a cell is a node, an edge or a feature.
+//! Which names are those of connected nodes and edges of a cell.
 
-ghost use Rattle.std.specs.Prelude.{◌≡◌, ◌||◌};
+ghost use Rattle.std.specs.Prelude.{◌≡◌, option_and_then};
 ghost use Rattle.std.specs.Option.{option_copied};
-ghost use Rattle.rule_spec.specs.Records.{node_named as spec_node, edge_named as spec_edge, feature_named as spec_feature, is_chain_part as spec_chain_part, is_node_name as spec_is_node, is_edge_name as spec_is_edge};
+ghost use Rattle.cell_spec.specs.Lookup.{listed_record as spec_listed};
+ghost use Rattle.cell_spec.specs.Names.{is_of_kind};
+ghost use Rattle.rule_spec.specs.Records.{vector_of, is_chain_part as spec_chain_part, is_edge_name as spec_is_edge};
 
-use crate::lookup::record_named;
-use s57_types::{Cell, Feature, Kind, Rec, RecName, Vector};
-
-/// Whether a name is one of a node.
-pub fn is_node_name(name: RecName) -> bool
-    ensures { result ≡ spec_is_node name }
-{
-    name.kind == Kind::Vi || name.kind == Kind::Vc
-}
+use crate::lookup::listed_record;
+use s57_types::{Cell, Kind, Rec, RecName, Vector};
 
 /// Whether a name is one of an edge.
 pub fn is_edge_name(name: RecName) -> bool
@@ -21,39 +16,20 @@ pub fn is_edge_name(name: RecName) -> bool
     name.kind == Kind::Ve
 }
 
-/// The connected node of a name.
-pub fn node_named(cell: &Cell, name: RecName) -> Option<&Vector>
-    ensures { option_copied result ≡ spec_node cell.now name }
+/// The vector record of a name, if it is of a kind.
+fn vector_named(cell: &Cell, name: RecName, kind: Kind) -> Option<&Vector>
+    ensures { option_copied result ≡ option_and_then (vector_of (is_of_kind kind)) (spec_listed cell.now name) }
 {
-    match record_named(cell, name) {
-        Some(Rec::V(node)) if node.name.kind == Kind::Vc => Some(node),
-        _ => None,
-    }
-}
-
-/// The edge of a name.
-pub fn edge_named(cell: &Cell, name: RecName) -> Option<&Vector>
-    ensures { option_copied result ≡ spec_edge cell.now name }
-{
-    match record_named(cell, name) {
-        Some(Rec::V(edge)) if edge.name.kind == Kind::Ve => Some(edge),
-        _ => None,
-    }
-}
-
-/// The feature of a name.
-pub fn feature_named(cell: &Cell, name: RecName) -> Option<&Feature>
-    ensures { option_copied result ≡ spec_feature cell.now name }
-{
-    match record_named(cell, name) {
-        Some(Rec::F(feature)) => Some(feature),
+    match listed_record(cell, name) {
+        Some(Rec::V(vector)) if vector.name.kind == kind => Some(vector),
         _ => None,
     }
 }
 
 /// Whether a name is one of a connected node or an edge of the cell.
+#[tactic(auto, using(crate::proofs::Vectors::listed))]
 pub fn is_chain_part(cell: &Cell, name: RecName) -> bool
     ensures { result ≡ spec_chain_part cell.now name }
 {
-    node_named(cell, name).is_some() || edge_named(cell, name).is_some()
+    vector_named(cell, name, Kind::Vc).is_some() || vector_named(cell, name, Kind::Ve).is_some()
 }

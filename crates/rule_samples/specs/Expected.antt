@@ -1,13 +1,14 @@
 -- What the rules find in small cells.
 use Rattle.std.specs.Prelude.{◌≡◌, ℕ, List, [], ◌∷◌, map}
 use Rattle.s57_types.specs.declared.cell.Cell.{Cell}
+use Rattle.s57_types.specs.declared.head.Level.TheVariants.{Zero, One}
 use Rattle.cell_spec.specs.declared.edit.Edit.TheVariants.{Add, Set, Del}
 use Rattle.cell_spec.specs.declared.finding.Finding.{Finding}
 use Rattle.cell_spec.specs.declared.key.Subject.{Subject}
 use Rattle.cell_spec.specs.declared.key.Subject.TheVariants.{Rec, Side, Pair, Ident}
 use Rattle.rule_spec.specs.Findings.{all_findings, finding, finding_total}
 use Rattle.sample_cells.specs.Parts.{head, vi, vc, ve, fe, lnam, at, node, edge, end_of, vector, outer, inner, feature, depth_area, square}
-use Rattle.sample_cells.specs.Samples.{empty_cell, grid, grid_after, dangling, closed_edge, used_by_line, stacked_edge, diagonals, node_on_line, touching_edges, overlapping_edges, self_named, knotted_edges, misshapen, nodes_at_one_place, two_squares, ring_area, eight, faulty_features, truncated_square}
+use Rattle.sample_cells.specs.Samples.{empty_cell, grid, grid_after, dangling, closed_edge, used_by_line, accented_line, at_level, stacked_edge, diagonals, node_on_line, touching_edges, overlapping_edges, self_named, knotted_edges, misshapen, nodes_at_one_place, two_squares, ring_area, eight, faulty_features, truncated_square}
 use Rattle.cell_spec.specs.Edits.{apply_edits}
 
 -- a subject with its findings
@@ -76,7 +77,10 @@ feature_samples =
       faulty_features,
       one (Rec (fe 5)) 12 [] ∷ one (Rec (fe 6)) 12 [] ∷ one (Rec (fe 7)) 20 [] ∷ (Rec (fe 8), finding 13 (1 ∷ []) ∷ finding 14 (2 ∷ []) ∷ []) ∷
           one (Rec (fe 10)) 19 (1 ∷ []) ∷ one (Ident (lnam 1)) 25 (2 ∷ []) ∷ [],
-    ) ∷ []
+    ) ∷
+    (accented_line, one (Rec (fe 1)) 26 (2 ∷ []) ∷ []) ∷
+    (apply_edits (at_level One ∷ []) accented_line, []) ∷
+    (apply_edits (at_level Zero ∷ []) accented_line, one (Rec (fe 1)) 26 (2 ∷ []) ∷ []) ∷ []
 
 -- two findings with the same four numbers at the side of an edge
 abbrev pub both : ℕ → List ℕ → Judged

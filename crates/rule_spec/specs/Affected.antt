@@ -10,7 +10,7 @@ use Rattle.cell_spec.specs.declared.key.Key.TheVariants.{Name, Refs, Foid}
 use Rattle.cell_spec.specs.declared.key.Subject.{Subject}
 use Rattle.cell_spec.specs.declared.key.Subject.TheVariants.{Rec, Side, Pair, Ident}
 use Rattle.cell_spec.specs.Edits.{apply_edits, is_applicable, touched_keys}
-use Rattle.cell_spec.specs.Names.{same_key, same_subject}
+use Rattle.cell_spec.specs.Names.{is_head_name, same_key, same_subject}
 use Rattle.rule_spec.specs.Candidates.{are_candidates, candidates_of}
 use Rattle.rule_spec.specs.Findings.{is_subject, subjects, is_below, findings_of_subject}
 use Rattle.rule_spec.specs.Reads.{read_set}
@@ -56,9 +56,9 @@ is_affected ch (Side n) = is_single_affected ch (Side n)
 is_affected ch (Pair a b) = is_below a b && (is_affected_with ch a b || is_affected_with ch b a)
 is_affected ch (Ident l) = is_single_affected ch (Ident l)
 
--- the subjects that a key names
+-- the subjects that a key names; the head is no subject
 abbrev pub named_by : Key → List Subject
-named_by (Name n) = Rec n ∷ (if is_edge_name n then Side n ∷ [] else [])
+named_by (Name n) = (if is_head_name n then [] else Rec n ∷ []) ++ (if is_edge_name n then Side n ∷ [] else [])
 named_by (Refs n) = []
 named_by (Foid l) = Ident l ∷ []
 

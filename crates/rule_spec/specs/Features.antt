@@ -1,5 +1,5 @@
--- Rules on the pointers, codes and group of a feature.
-use Rattle.std.specs.Prelude.{ℕ, ◌==◌, ◌&&◌, ◌||◌, Bool, true, not, List, [], ◌∷◌, length, map, nat_lt, is_some, if◌then◌else◌}
+-- Rules on the pointers, codes, group and texts of a feature.
+use Rattle.std.specs.Prelude.{ℕ, ◌==◌, ◌&&◌, ◌||◌, Bool, true, not, List, [], ◌∷◌, length, map, take, nat_le, nat_lt, is_some, if◌then◌else◌}
 use Rattle.std.specs.List.{list_any}
 use Rattle.s57_types.specs.declared.name.RecName.{RecName}
 use Rattle.s57_types.specs.declared.record.Attr.{Attr}
@@ -65,3 +65,12 @@ is_coverage_area f = (f.prim == 3) && (f.objl == 302) && list_any says_covered f
 -- WrongGroup: an area of Group 1 has another group (GRUP) than 1, or another feature has group 1
 abbrev pub wrong_group : Cell → Feature → Found
 wrong_group c f = found_if (if is_group1_area f then not (f.grup == 1) else f.grup == 1) []
+
+-- a value has a byte beyond ASCII
+abbrev pub is_beyond_ascii : Attr → Bool
+is_beyond_ascii a = list_any (nat_le 128) a.value
+
+-- BadLevel: at the lexical level 0 of general texts (AALL; Part 3, 2.4) the value of an attribute (ATTF) has a byte beyond ASCII; the first such
+-- attribute's place. This project's own rule
+abbrev pub bad_level : Cell → Feature → Found
+bad_level c f = if c.head.aall == 0 then take 1 (places_where is_beyond_ascii f.attf) else []

@@ -5,13 +5,13 @@ use Rattle.std.specs.Ordering.{is_lt}
 use Rattle.s57_types.specs.declared.name.Lnam.{Lnam}
 use Rattle.s57_types.specs.declared.name.RecName.{RecName}
 use Rattle.s57_types.specs.declared.record.Rec.{Rec as Record}
-use Rattle.s57_types.specs.declared.record.Rec.TheVariants.{V, F}
+use Rattle.s57_types.specs.declared.record.Rec.TheVariants.{V, F, H}
 use Rattle.s57_types.specs.declared.cell.Cell.{Cell}
 use Rattle.cell_spec.specs.declared.finding.Finding.{Finding}
 use Rattle.cell_spec.specs.declared.key.Subject.{Subject}
 use Rattle.cell_spec.specs.declared.key.Subject.TheVariants.{Rec, Side, Pair, Ident}
 use Rattle.cell_spec.specs.Ascending.{ascending}
-use Rattle.cell_spec.specs.Lookup.{all_records, name_of, identities_of, lookup_record, lookup_identity}
+use Rattle.cell_spec.specs.Lookup.{all_records, name_of, identities_of, listed_record, lookup_record, lookup_identity}
 use Rattle.cell_spec.specs.Names.{name_order, subject_order}
 use Rattle.rule_spec.specs.Records.{edge_named, is_chain_part}
 use Rattle.rule_spec.specs.Rule.{Found}
@@ -21,10 +21,10 @@ use Rattle.rule_spec.specs.Rules.{vector_rules, pair_rules, feature_rules, side_
 abbrev pub is_below : RecName → RecName → Bool
 is_below a b = is_lt (name_order a b)
 
--- whether a cell has a subject: each record, the side of each edge, each two connected nodes or edges with the lesser name first, and
+-- whether a cell has a subject: each record, but not the head, the side of each edge, each two connected nodes or edges with the lesser name first, and
 -- each identifier that a feature bears
 abbrev pub is_subject : Cell → Subject → Bool
-is_subject c (Rec n) = is_some (lookup_record c n)
+is_subject c (Rec n) = is_some (listed_record c n)
 is_subject c (Side n) = is_some (edge_named c n)
 is_subject c (Pair a b) = is_below a b && is_chain_part c a && is_chain_part c b
 is_subject c (Ident l) = nat_lt 0 (length (lookup_identity c l))
@@ -53,6 +53,7 @@ findings_of_rules {R} judge rules = flat_map (λ (r : RuleRow R). map (finding r
 abbrev pub findings_of_record : Cell → Record → List Finding
 findings_of_record c (V v) = findings_of_rules (λ rule. rule c v) vector_rules
 findings_of_record c (F f) = findings_of_rules (λ rule. rule c f) feature_rules
+findings_of_record c (H h) = []
 
 -- the findings about what is named by a subject
 abbrev pub findings_about : Cell → Subject → List Finding

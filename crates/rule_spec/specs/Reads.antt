@@ -8,6 +8,7 @@ use Rattle.s57_types.specs.declared.record.Partner.{Partner}
 use Rattle.s57_types.specs.declared.record.Spot.{Spot}
 use Rattle.s57_types.specs.declared.record.Vector.{Vector}
 use Rattle.s57_types.specs.declared.cell.Cell.{Cell}
+use Rattle.s57_types.specs.Heads.{head_name}
 use Rattle.cell_spec.specs.declared.key.Key.{Key}
 use Rattle.cell_spec.specs.declared.key.Key.TheVariants.{Name, Refs, Foid}
 use Rattle.cell_spec.specs.declared.key.Ref.{Ref}
@@ -26,16 +27,17 @@ end_keys e = map (λ (end : End). Name end.to) e.ends
 abbrev pub end_keys_at : Cell → RecName → List Key
 end_keys_at c n = option_map_or end_keys (edge_named c n) []
 
--- the records that a feature's spatial pointers name; for an area also those that the ends of these edges name; and its partners' identifiers
+-- the head, for its level of texts; the records that a feature's spatial pointers name; for an area also those that the ends of these edges
+-- name; and its partners' identifiers
 abbrev pub feature_keys : Cell → Feature → List Key
 feature_keys c f =
-    map (λ (s : Spot). Name s.to) f.places ++ (if f.prim == 3 then flat_map (λ (s : Spot). end_keys_at c s.to) f.places else []) ++ map (λ (p : Partner). Foid p.to) f.partners
+    Name head_name ∷ map (λ (s : Spot). Name s.to) f.places ++ (if f.prim == 3 then flat_map (λ (s : Spot). end_keys_at c s.to) f.places else []) ++ map (λ (p : Partner). Foid p.to) f.partners
 
 -- what the findings about a record depend on, beside the record
 abbrev pub record_keys : Cell → RecName → List Key
 record_keys c n = Name n ∷ (end_keys_at c n ++ option_map_or (feature_keys c) (feature_named c n) [])
 
--- what the findings about a subject depend on: the record and those that it names; for a side the edge, the pointers to it and the records that
+-- what the findings about a subject depend on: the record, the head for a feature, and the records that it names; for a side the edge, the pointers to it and the records that
 -- have them; for a pair both records' keys; for an identifier its bearers
 abbrev pub keys_read : Cell → Subject → List Key
 keys_read c (Rec n) = record_keys c n

@@ -5,7 +5,7 @@ use Rattle.s57_types.specs.declared.name.RecName.{RecName}
 use Rattle.s57_types.specs.declared.record.Vector.{Vector}
 use Rattle.s57_types.specs.declared.record.Feature.{Feature}
 use Rattle.s57_types.specs.declared.record.Rec.{Rec}
-use Rattle.s57_types.specs.declared.record.Rec.TheVariants.{V, F}
+use Rattle.s57_types.specs.declared.record.Rec.TheVariants.{V, F, H}
 use Rattle.s57_types.specs.declared.cell.Cell.{Cell}
 use Rattle.cell_spec.specs.Lookup.{lookup_record}
 use Rattle.cell_spec.specs.Names.{is_of_kind}
@@ -21,10 +21,12 @@ is_edge_name n = is_of_kind Ve n
 abbrev pub vector_of : (RecName → Bool) → Rec → Option Vector
 vector_of test (V v) = if test v.name then Some v else None
 vector_of test (F f) = None
+vector_of test (H h) = None
 
 abbrev pub feature_of : Rec → Option Feature
 feature_of (V v) = None
 feature_of (F f) = Some f
+feature_of (H h) = None
 
 -- the vector record of a name, if the cell has it
 abbrev pub vector_named : (RecName → Bool) → Cell → RecName → Option Vector

@@ -9,11 +9,11 @@ use Rattle.s57_types.specs.declared.record.Vector.{Vector}
 use Rattle.rule_spec.specs.Boundary.{open_ring, mixed_ring, outer_count, wrong_turn}
 use Rattle.rule_spec.specs.Contacts.{cross, touch, coincide, same_place, node_on_edge}
 use Rattle.rule_spec.specs.EdgeEnds.{end_count, dangling_end}
-use Rattle.rule_spec.specs.Features.{prim_refs, dangling_ref, bad_codes, dangling_feature, wrong_group}
+use Rattle.rule_spec.specs.Features.{prim_refs, dangling_ref, bad_codes, dangling_feature, wrong_group, bad_level}
 use Rattle.rule_spec.specs.Records.{is_node_name, is_edge_name}
 use Rattle.rule_spec.specs.Rule.{Found}
 use Rattle.rule_spec.specs.RuleRow.{RuleRow, row}
-use Rattle.rule_spec.specs.declared.kind.TheConstants.{BAD_SHAPE, END_COUNT, DANGLING_END, STACKED, SELF_MEET, NODE_POINTER, CROSS, TOUCH, COINCIDE, SAME_PLACE, NODE_ON_EDGE, PRIM_REFS, DANGLING_REF, BAD_CODES, OPEN_RING, MIXED_RING, OUTER_COUNT, WRONG_TURN, DANGLING_FEATURE, WRONG_GROUP, ORPHAN, SIDE_OVERLAP, SIDE_UNBALANCED, FALSE_TRUNCATION, TWICE_FOID}
+use Rattle.rule_spec.specs.declared.kind.TheConstants.{BAD_SHAPE, END_COUNT, DANGLING_END, STACKED, SELF_MEET, NODE_POINTER, CROSS, TOUCH, COINCIDE, SAME_PLACE, NODE_ON_EDGE, PRIM_REFS, DANGLING_REF, BAD_CODES, OPEN_RING, MIXED_RING, OUTER_COUNT, WRONG_TURN, DANGLING_FEATURE, WRONG_GROUP, ORPHAN, SIDE_OVERLAP, SIDE_UNBALANCED, FALSE_TRUNCATION, TWICE_FOID, BAD_LEVEL}
 use Rattle.rule_spec.specs.Sides.{orphan, side_overlap, side_unbalanced, false_truncation, twice_foid}
 use Rattle.rule_spec.specs.Vectors.{bad_shape, stacked, self_meet, node_pointer}
 
@@ -57,6 +57,7 @@ feature_rules =
     row WRONG_TURN (codes "WrongTurn") 1 wrong_turn ∷
     row DANGLING_FEATURE (codes "DanglingFeature") 1 dangling_feature ∷
     row WRONG_GROUP (codes "WrongGroup") 0 wrong_group ∷
+    row BAD_LEVEL (codes "BadLevel") 1 bad_level ∷
     []
 
 -- about the two sides of an edge

@@ -54,6 +54,8 @@ pub const FALSE_TRUNCATION: u8 = 24;
 
 pub const TWICE_FOID: u8 = 25;
 
+pub const BAD_LEVEL: u8 = 26;
+
 /// The printed name of a kind of finding; of a number that is no kind's the empty text.
 pub fn kind_name(kind: u8) -> &'static str
     ensures { result.now ≡ name_of_kind kind }
@@ -84,6 +86,7 @@ pub fn kind_name(kind: u8) -> &'static str
         SIDE_UNBALANCED => "SideUnbalanced",
         FALSE_TRUNCATION => "FalseTruncation",
         TWICE_FOID => "TwiceFoid",
+        BAD_LEVEL => "BadLevel",
         _ => "",
     }
 }
@@ -113,6 +116,7 @@ pub fn number_count(kind: u8) -> usize
         SIDE_UNBALANCED => 4,
         FALSE_TRUNCATION => 2,
         TWICE_FOID => 1,
+        BAD_LEVEL => 1,
         _ => 0,
     }
 }

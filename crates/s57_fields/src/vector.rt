@@ -39,6 +39,7 @@ pub fn rcnm_of(kind: Kind) -> u8
         Kind::Vc => 120,
         Kind::Ve => 130,
         Kind::Fe => 100,
+        Kind::Head => 10,
     }
 }
 

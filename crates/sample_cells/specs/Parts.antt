@@ -1,6 +1,8 @@
 -- The parts of small cells.
 use Rattle.std.specs.Prelude.{ℕ, pos, List, [], ◌∷◌, map, replicate}
 use Rattle.s57_types.specs.declared.head.Head.{Head}
+use Rattle.s57_types.specs.declared.head.HeadEdit.{HeadEdit}
+use Rattle.s57_types.specs.declared.head.Level.{Level}
 use Rattle.s57_types.specs.declared.name.Kind.TheVariants.{Vi, Vc, Ve, Fe}
 use Rattle.s57_types.specs.declared.name.Lnam.{Lnam}
 use Rattle.s57_types.specs.declared.name.RecName.{RecName}
@@ -82,6 +84,10 @@ catcov byte = record { code = 18; value = byte ∷ [] }
 abbrev pub coverage_area : ℕ → List Spot → Rec
 coverage_area n places = feature n 3 2 302 (catcov 49 ∷ []) places
 
+-- OBJNAM of these bytes
+abbrev pub objnam : List ℕ → Attr
+objnam bytes = record { code = 116; value = bytes }
+
 abbrev pub head : Head
 head = record {
   dsid_rcid = 1;
@@ -113,6 +119,10 @@ head = record {
   somf = 10;
   dspm_comt = [];
 }
+
+-- the values of that head with a level of texts
+abbrev pub head_values : Level → HeadEdit
+head_values level = record { edtn = []; updn = []; uadt = replicate 8 48; isdt = replicate 8 48; aall = level; comt = [] }
 
 -- the boundary of a square of the edges 1 to 4, clockwise
 abbrev pub square : List Spot

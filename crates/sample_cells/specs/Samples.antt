@@ -1,12 +1,13 @@
 -- Small cells.
 use Rattle.std.specs.Prelude.{ℕ, pos, negsuc, List, [], ◌∷◌, map}
 use Rattle.s57_types.specs.declared.cell.Cell.{Cell}
+use Rattle.s57_types.specs.declared.head.Level.{Level}
 use Rattle.s57_types.specs.declared.record.Rec.{Rec}
 use Rattle.s57_types.specs.declared.record.Spot.{Spot}
 use Rattle.cell_spec.specs.declared.edit.Edit.{Edit}
-use Rattle.cell_spec.specs.declared.edit.Edit.TheVariants.{Add}
+use Rattle.cell_spec.specs.declared.edit.Edit.TheVariants.{Add, Head}
 use Rattle.cell_spec.specs.Edits.{apply_edits}
-use Rattle.sample_cells.specs.Parts.{head, vi, vc, ve, at, node, edge, end_of, vector, spot, outer, feature, depth_area, coverage_area, partnered, named_alike, square}
+use Rattle.sample_cells.specs.Parts.{head, head_values, vi, vc, ve, at, node, edge, end_of, vector, spot, objnam, outer, feature, depth_area, coverage_area, partnered, named_alike, square}
 
 abbrev pub cell : List Rec → List Rec → List Rec → Cell
 cell nodes edges features = record { head = head; vi = []; vc = nodes; ve = edges; fe = features }
@@ -31,6 +32,15 @@ closed_edge = cell (node 1 (at 0 0) ∷ []) (edge 1 1 1 (at 0 100 ∷ at 100 0 �
 
 abbrev pub used_by_line : Edit
 used_by_line = Add (feature 1 2 2 30 [] (spot (ve 1) 1 255 255 ∷ []))
+
+-- a line feature with three names: the first ends ASCII, and the other two have a byte beyond it
+abbrev pub accented_line : Cell
+accented_line = apply_edits
+    (Add (feature 1 2 2 30 (objnam (65 ∷ 127 ∷ []) ∷ objnam (66 ∷ 128 ∷ []) ∷ objnam (255 ∷ 67 ∷ []) ∷ []) (spot (ve 1) 1 255 255 ∷ [])) ∷ []) closed_edge
+
+-- another level of texts
+abbrev pub at_level : Level → Edit
+at_level level = Head (head_values level)
 
 -- an edge from a node back to it, with no other point
 abbrev pub stacked_edge : Cell

@@ -2,16 +2,19 @@
 
 ghost use Rattle.std.specs.Prelude.{◌≡◌, ◌++◌, ◌∷◌, [], codes, decimal, map, true, OnErr, OnOk};
 ghost use Rattle.text_spec.specs.CellText.{name_words};
-ghost use Rattle.text_spec.specs.EditLine.{attribute_item, edit_line, feature_words, has_line, partner_item, place_item, record_words, vector_words};
+ghost use Rattle.text_spec.specs.EditLine.{attribute_item, edit_line, feature_words, has_line, head_words, partner_item, place_item, record_words, vector_words};
 ghost use Rattle.text_spec.specs.Lines.{spaced, spaced_words};
 
-use crate::item::{push_attributes, push_deep, push_ends, push_partners, push_places, push_plane};
-use crate::words::{push_bytes, push_name, push_number, push_text};
+use crate::item::{
+    push_attributes, push_deep, push_ends, push_level, push_partners, push_places, push_plane,
+    push_value,
+};
+use crate::words::{push_bytes, push_name, push_number, push_text, push_word, word_of_kind};
 use cell_spec::Edit;
-use s57_types::{Feature, Lnam, Rec, Vector};
+use s57_types::{Feature, HeadEdit, Kind, Lnam, Rec, Vector};
 use std::alloc::{AllocError, Global};
 
-/// Appends the line of an edit, or nothing. The record has a name of its own sort.
+/// Appends the line of an edit, or nothing. A record has a name of its own sort, and only an edit of the head names the head.
 ///
 /// An `Err` is want of memory.
 pub fn write_edit(alloc: Global, edit: &Edit, out: &mut Vec<u8>) -> Result<(), AllocError>
@@ -42,17 +45,23 @@ fn push_edit(out: &mut Vec<u8>, edit: &Edit) -> Result<(), AllocError>
             push_text(out, "del")?;
             push_name(out, *name)?;
         }
+        Edit::Head(head) => {
+            push_text(out, "set")?;
+            push_word(out, word_of_kind(Kind::Head))?;
+            push_head(out, head)?;
+        }
     }
     push_text(out, "\n")
 }
 
-/// Appends the words of a record.
+/// Appends the words of a record that isn't the head. The head has none.
 fn push_record(out: &mut Vec<u8>, rec: &Rec) -> Result<(), AllocError>
     ensures { OnOk result (out.new.items ≡ out.old.items ++ spaced_words (record_words rec.now)) }
 {
     match rec {
         Rec::V(vector) => push_vector(out, vector),
         Rec::F(feature) => push_feature(out, feature),
+        Rec::H(_) => Ok(()),
     }
 }
 
@@ -108,4 +117,16 @@ fn push_feature(out: &mut Vec<u8>, feature: &Feature) -> Result<(), AllocError>
     push_feature_head(out, feature)?;
     push_identity(out, feature.foid)?;
     push_feature_items(out, feature)
+}
+
+/// Appends the new values of a head.
+fn push_head(out: &mut Vec<u8>, head: &HeadEdit) -> Result<(), AllocError>
+    ensures { OnOk result (out.new.items ≡ out.old.items ++ spaced_words (head_words head.now)) }
+{
+    push_value(out, "edtn", head.edtn.as_slice())?;
+    push_value(out, "updn", head.updn.as_slice())?;
+    push_value(out, "uadt", &head.uadt)?;
+    push_value(out, "isdt", &head.isdt)?;
+    push_level(out, "aall", head.aall)?;
+    push_value(out, "comt", head.comt.as_slice())
 }

@@ -2,13 +2,14 @@
 
 ghost use Rattle.std.specs.Prelude.{◌≡◌, ◌++◌, ◌∷◌, [], ◌<◌, codes, decimal, map, OnOk};
 ghost use Rattle.std.specs.Fmt.{signed_decimal};
+ghost use Rattle.s57_types.specs.Heads.{level_number};
 ghost use Rattle.text_spec.specs.CellText.{kind_word};
-ghost use Rattle.text_spec.specs.EditLine.{attribute_item, deep_item, end_item, hexadecimal, partner_item, place_item, plane_item, stands_for_itself as stands_for_itself_lem, text_byte, text_word};
+ghost use Rattle.text_spec.specs.EditLine.{attribute_item, deep_item, end_item, hexadecimal, item, partner_item, place_item, plane_item, stands_for_itself as stands_for_itself_lem, text_byte, text_word};
 ghost use Rattle.text_spec.specs.Lines.{spaced, spaced_words};
 
 use crate::words::{push_text, push_word, word_of_kind};
 use itoa::Buffer;
-use s57_types::{Attr, End, Partner, RecName, Spot};
+use s57_types::{Attr, End, Level, Partner, RecName, Spot};
 use std::alloc::AllocError;
 
 /// The upper-case hexadecimal digit of a number below 16.
@@ -212,4 +213,22 @@ fn push_place(out: &mut Vec<u8>, place: Spot) -> Result<(), AllocError>
     push_part(out, u32::from(place.ornt))?;
     push_part(out, u32::from(place.usag))?;
     push_part(out, u32::from(place.mask))
+}
+
+/// Appends a new text of a head, as an item with the name of its subfield.
+pub fn push_value(out: &mut Vec<u8>, name: &str, value: &[u8]) -> Result<(), AllocError>
+    ensures { OnOk result (out.new.items ≡ out.old.items ++ spaced (item name.now 58 (text_word value.now) [])) }
+{
+    push_word(out, name)?;
+    out.push(b'=')?;
+    push_text_word(out, value)
+}
+
+/// Appends a new level of a head, as an item with the name of its subfield.
+pub fn push_level(out: &mut Vec<u8>, name: &str, level: Level) -> Result<(), AllocError>
+    ensures { OnOk result (out.new.items ≡ out.old.items ++ spaced (item name.now 58 (decimal (level_number level)) [])) }
+{
+    push_word(out, name)?;
+    out.push(b'=')?;
+    push_plain(out, u32::from(level.number()))
 }

@@ -17,6 +17,7 @@ pub fn word_of_kind(kind: Kind) -> &'static str
         Kind::Vc => "vc",
         Kind::Ve => "ve",
         Kind::Fe => "fe",
+        Kind::Head => "head",
     }
 }
 

@@ -4,7 +4,7 @@ use Rattle.std.specs.Prelude.{ℕ, List, [], ◌∷◌, ◌++◌, length, map, t
 use Rattle.std.specs.Fmt.{decimal}
 use Rattle.std.specs.List.{flat_map}
 use Rattle.s57_types.specs.declared.name.Kind.{Kind}
-use Rattle.s57_types.specs.declared.name.Kind.TheVariants.{Vi, Vc, Ve, Fe}
+use Rattle.s57_types.specs.declared.name.Kind.TheVariants.{Vi, Vc, Ve, Fe, Head}
 use Rattle.s57_types.specs.declared.name.RecName.{RecName}
 use Rattle.s57_types.specs.declared.cell.Cell.{Cell}
 use Rattle.cell_spec.specs.declared.finding.Finding.{Finding}
@@ -19,6 +19,7 @@ kind_word Vi = codes "vi"
 kind_word Vc = codes "vc"
 kind_word Ve = codes "ve"
 kind_word Fe = codes "fe"
+kind_word Head = codes "head"
 
 abbrev pub name_words : RecName → List (List ℕ)
 name_words n = kind_word n.kind ∷ decimal n.id ∷ []

@@ -1,9 +1,10 @@
--- The line of a record edit in a script and in a report. This project's own text.
-use Rattle.std.specs.Prelude.{ℕ, ℤ, ◌+◌, ◌/◌, ◌%◌, ◌==◌, ◌&&◌, Bool, true, false, not, nat_le, nat_lt, List, [], ◌∷◌, ◌++◌, map, codes, if◌then◌else◌}
+-- The line of an edit in a script and in a report. This project's own text.
+use Rattle.std.specs.Prelude.{ℕ, ℤ, ◌+◌, ◌/◌, ◌%◌, ◌==◌, ◌&&◌, ◌||◌, Bool, true, false, not, nat_le, nat_lt, List, [], ◌∷◌, ◌++◌, map, codes, if◌then◌else◌}
 use Rattle.std.specs.Fmt.{decimal, signed_decimal}
-use Rattle.std.specs.List.{flat_map}
+use Rattle.std.specs.List.{flat_map, list_all}
 use Rattle.s57_types.specs.declared.name.Kind.{Kind}
-use Rattle.s57_types.specs.declared.name.Kind.TheVariants.{Vi, Vc, Ve, Fe}
+use Rattle.s57_types.specs.declared.name.Kind.TheVariants.{Vi, Vc, Ve, Fe, Head as HeadKind}
+use Rattle.s57_types.specs.declared.name.RecName.{RecName}
 use Rattle.s57_types.specs.declared.record.Attr.{Attr}
 use Rattle.s57_types.specs.declared.record.End.{End}
 use Rattle.s57_types.specs.declared.record.Spot.{Spot}
@@ -11,9 +12,11 @@ use Rattle.s57_types.specs.declared.record.Partner.{Partner}
 use Rattle.s57_types.specs.declared.record.Vector.{Vector}
 use Rattle.s57_types.specs.declared.record.Feature.{Feature}
 use Rattle.s57_types.specs.declared.record.Rec.{Rec}
-use Rattle.s57_types.specs.declared.record.Rec.TheVariants.{V, F}
+use Rattle.s57_types.specs.declared.head.HeadEdit.{HeadEdit}
+use Rattle.s57_types.specs.Heads.{head_name, level_number}
+use Rattle.s57_types.specs.declared.record.Rec.TheVariants.{V, F, H}
 use Rattle.cell_spec.specs.declared.edit.Edit.{Edit}
-use Rattle.cell_spec.specs.declared.edit.Edit.TheVariants.{Add, Set, Del}
+use Rattle.cell_spec.specs.declared.edit.Edit.TheVariants.{Add, Set, Del, Head}
 use Rattle.text_spec.specs.Lines.{line}
 use Rattle.text_spec.specs.CellText.{kind_word, name_words}
 
@@ -77,25 +80,48 @@ feature_words f = name_words f.name
 abbrev pub record_words : Rec → List (List ℕ)
 record_words (V v) = vector_words v
 record_words (F f) = feature_words f
+record_words (H h) = []
 
--- an edit: what it does, and its record or its name
+-- new values of the head: EDTN, UPDN, UADT, ISDT, AALL and COMT
+abbrev pub head_words : HeadEdit → List (List ℕ)
+head_words e =
+    item (codes "edtn") 58 (text_word e.edtn) [] ∷ item (codes "updn") 58 (text_word e.updn) [] ∷ item (codes "uadt") 58 (text_word e.uadt) [] ∷ item (codes "isdt") 58 (text_word e.isdt) []
+    ∷ item (codes "aall") 58 (decimal (level_number e.aall)) [] ∷ item (codes "comt") 58 (text_word e.comt) [] ∷ []
+
+-- an edit: what it does, and its record, its name, or the head and its values
 abbrev pub edit_line : Edit → List ℕ
 edit_line (Add r) = line (codes "add") (record_words r)
 edit_line (Set r) = line (codes "set") (record_words r)
 edit_line (Del n) = line (codes "del") (name_words n)
+edit_line (Head e) = line (codes "set") (codes "head" ∷ head_words e)
 
--- an edit has a line where its record is of the sort that its kind says
 abbrev pub is_feature : Kind → Bool
 is_feature Vi = false
 is_feature Vc = false
 is_feature Ve = false
 is_feature Fe = true
+is_feature HeadKind = false
 
+abbrev pub is_head : Kind → Bool
+is_head Vi = false
+is_head Vc = false
+is_head Ve = false
+is_head Fe = false
+is_head HeadKind = true
+
+-- a record has a line where it is of the sort that its kind says, and none of its pointers names the head
 abbrev pub record_has_line : Rec → Bool
-record_has_line (V v) = not (is_feature v.name.kind)
-record_has_line (F f) = is_feature f.name.kind
+record_has_line (V v) = not (is_feature v.name.kind) && not (is_head v.name.kind) && list_all (λ (e : End). not (is_head e.to.kind)) v.ends
+record_has_line (F f) = is_feature f.name.kind && list_all (λ (s : Spot). not (is_head s.to.kind)) f.places
+record_has_line (H h) = false
 
+-- so does an edit of such a record; a record that isn't the head can be deleted, and the head be edited
 abbrev pub has_line : Edit → Bool
 has_line (Add r) = record_has_line r
 has_line (Set r) = record_has_line r
-has_line (Del n) = true
+has_line (Del n) = not (is_head n.kind)
+has_line (Head e) = true
+
+-- a guard has a line where it is the name of a record or the one name of the head
+abbrev pub guard_has_line : RecName → Bool
+guard_has_line n = not (is_head n.kind) || (n.id == head_name.id)

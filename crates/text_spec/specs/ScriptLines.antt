@@ -9,13 +9,16 @@ use Rattle.s57_types.specs.FieldRows.{name_row, attribute_row, end_row, plane_ro
 use Rattle.s57_types.specs.declared.record.Vector.{Vector}
 use Rattle.s57_types.specs.declared.record.Feature.{Feature}
 use Rattle.s57_types.specs.declared.record.Rec.{Rec}
-use Rattle.s57_types.specs.declared.record.Rec.TheVariants.{V, F}
+use Rattle.s57_types.specs.declared.record.Rec.TheVariants.{V, F, H}
 use Rattle.cell_spec.specs.declared.edit.Edit.{Edit}
-use Rattle.cell_spec.specs.declared.edit.Edit.TheVariants.{Add, Set, Del}
+use Rattle.cell_spec.specs.declared.edit.Edit.TheVariants.{Add, Set, Del, Head}
+use Rattle.s57_types.specs.declared.head.HeadEdit.{HeadEdit}
+use Rattle.s57_types.specs.Heads.{head_edit_texts}
 use Rattle.text_spec.specs.Lines.{line}
-use Rattle.text_spec.specs.EditLine.{edit_line, has_line}
+use Rattle.text_spec.specs.CellText.{name_words}
+use Rattle.text_spec.specs.EditLine.{edit_line, has_line, guard_has_line}
 use Rattle.text_spec.specs.declared.command.Command.{Command}
-use Rattle.text_spec.specs.declared.command.Command.TheVariants.{View, Commit, Drop, List as Findings, Push}
+use Rattle.text_spec.specs.declared.command.Command.TheVariants.{View, Commit, Drop, List as Findings, Push, Guard}
 
 -- a number fits its width, and a text is bytes
 abbrev pub IsOfWidth : Subfield → Type 0
@@ -35,15 +38,20 @@ feature_subfields f = frid_row (record { rcid = f.name.id; prim = f.prim; grup =
 abbrev pub record_subfields : Rec → List Subfield
 record_subfields (V v) = vector_subfields v
 record_subfields (F f) = feature_subfields f
+record_subfields (H h) = []
 
-abbrev pub edit_subfields : Edit → List Subfield
-edit_subfields (Add r) = record_subfields r
-edit_subfields (Set r) = record_subfields r
-edit_subfields (Del n) = name_row n
+-- new values of a head are values of their fields: texts of bytes, and dates of eight (S-57 Part 3, 7.3.1.1)
+pub record IsHeadEditOfWidth (e : HeadEdit) : Type 0 where
+  pub texts : All IsOfWidth (head_edit_texts e)
+  pub uadt : length e.uadt ≡ 8
+  pub isdt : length e.isdt ≡ 8
 
--- the values of an edit are values of their fields
+-- so are the values of an edit
 abbrev pub IsEditOfWidth : Edit → Type 0
-IsEditOfWidth edit = All IsOfWidth (edit_subfields edit)
+IsEditOfWidth (Add r) = All IsOfWidth (record_subfields r)
+IsEditOfWidth (Set r) = All IsOfWidth (record_subfields r)
+IsEditOfWidth (Del n) = All IsOfWidth (name_row n)
+IsEditOfWidth (Head e) = IsHeadEditOfWidth e
 
 -- the greatest number of findings that a command shows, and of commands in a script
 abbrev pub shown_limit : ℕ
@@ -59,6 +67,7 @@ command_line Commit = line (codes "commit") []
 command_line Drop = line (codes "drop") []
 command_line (Findings shown) = line (codes "list") (decimal shown ∷ [])
 command_line (Push edit) = edit_line edit
+command_line (Guard name) = line (codes "guard") (name_words name)
 
 -- a command that a line can have
 abbrev pub IsCommand : Command → Type 0
@@ -67,6 +76,7 @@ IsCommand Commit = Unit {0}
 IsCommand Drop = Unit {0}
 IsCommand (Findings shown) = shown ≤ shown_limit
 IsCommand (Push edit) = (has_line edit ≡ true) × IsEditOfWidth edit
+IsCommand (Guard name) = (guard_has_line name ≡ true) × All IsOfWidth (name_row name)
 
 -- a line is skipped where it is empty or begins with a number sign
 abbrev pub is_skipped : List ℕ → Bool
@@ -105,3 +115,4 @@ is_shared Commit = true
 is_shared Drop = false
 is_shared (Findings shown) = false
 is_shared (Push edit) = false
+is_shared (Guard name) = false

@@ -1,6 +1,7 @@
 //! The commands of a script.
 
 use cell_spec::Edit;
+use s57_types::RecName;
 
 /// One command of a session.
 #[derive(Debug, Drop)]
@@ -15,4 +16,6 @@ pub enum Command {
     List(u32),
     /// Put an edit into the draft.
     Push(Edit),
+    /// Put a guard into the draft: a commit rests on the record of this name too, though the draft doesn't edit it.
+    Guard(RecName),
 }

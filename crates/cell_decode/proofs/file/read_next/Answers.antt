@@ -2,7 +2,11 @@ use Rattle.std.proofs.Common.{◌+◌, false, sym, ap, ◌∙◌}
 use Rattle.file_spec.specs.DecodedCell.{with_following}
 use Rattle.file_spec.specs.FileRecords.{records_after}
 use Rattle.cell_decode.proofs.FileSteps.{following-frame_fault, following-refused, following-not_added, following-added}
+use Rattle.cell_decode.proofs.ListedRecords.{read_record_is_listed}
 use Rattle.cell_decode.proofs.file.read_next.Goals as goal
+
+pub add_record-requires-clause-listed : goal.add_record-requires-clause-listed
+add_record-requires-clause-listed c = read_record_is_listed c.args.reading.now.cell.head.nall c.in-Ok.frame.fields c.in-Ok-read_record.rec c.in-Ok-read_record.ensures
 
 pub returns-in-Err-clause-fault : goal.returns-in-Err-clause-fault
 returns-in-Err-clause-fault c number =

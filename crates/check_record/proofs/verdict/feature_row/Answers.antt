@@ -1,8 +1,7 @@
 use Rattle.std.proofs.Common.{◌≡◌, length, refl, sym, ap, ◌∙◌, arith}
-use Rattle.s57_types.specs.declared.record.Rec.TheVariants.{F}
 use Rattle.cell_spec.specs.declared.key.Subject.TheVariants.{Rec}
 use Rattle.rule_spec.specs.Reads.{read_set}
-use Rattle.check_record.proofs.ReadSets.{findings_found, some_keys}
+use Rattle.check_record.proofs.ReadSets.{feature_found, some_keys}
 use Rattle.check_record.proofs.verdict.feature_row.Goals as goal
 
 pub returns-in_err-reads-clause-steps : goal.returns-in_err-reads-clause-steps
@@ -35,6 +34,6 @@ returns-clause-row g c =
       findings =
           c.of_vec.ensures
           ∙ c.in_ok-findings.ensures cell name c.as_slice.result.now c.in_ok-near.ensures.near (c.as_slice.ensures ∙ c.in_ok-reads.ensures.reads) c.requires
-          ∙ sym (findings_found cell name (F c.args.feature.now) c.requires);
+          ∙ sym (feature_found cell name c.args.feature.now c.requires);
       reads = c.in_ok-reads.ensures.reads;
     }

@@ -1,6 +1,5 @@
 use Rattle.std.proofs.Common.{◌∙◌, refl, sym, arith}
-use Rattle.check_record.proofs.ReadSets.{findings_found, some_keys}
-use Rattle.s57_types.specs.declared.record.Rec.TheVariants.{V}
+use Rattle.check_record.proofs.ReadSets.{some_keys, vector_found}
 use Rattle.check_record.proofs.verdict.vector_row.Goals as goal
 
 pub returns-in_err-reads-clause-steps : goal.returns-in_err-reads-clause-steps
@@ -9,6 +8,6 @@ returns-in_err-reads-clause-steps g c = omega (arith, some_keys (g.B.Look.cell c
 pub returns-clause-row : goal.returns-clause-row
 returns-clause-row g c = record {
   subject = refl;
-  findings = c.of_vec.ensures ∙ c.in_ok-findings.ensures.findings ∙ sym (findings_found (g.B.Look.cell c.args.look.now) c.args.name (V c.args.vector.now) c.requires);
+  findings = c.of_vec.ensures ∙ c.in_ok-findings.ensures.findings ∙ sym (vector_found (g.B.Look.cell c.args.look.now) c.args.name c.args.vector.now c.requires);
   reads = c.in_ok-reads.ensures (g.B.Look.cell c.args.look.now) c.requires;
 }

@@ -1,11 +1,11 @@
-use Rattle.std.proofs.Common.{refl, ap, not}
+use Rattle.std.proofs.Common.{refl, ap}
 use Rattle.s57_types.specs.FieldRows.{attribute_forms, partner_forms, place_forms, end_forms, plane_forms, deep_forms, attribute_row, partner_row, place_row, end_row, plane_row, deep_row}
-use Rattle.s57_types.specs.Fitness.{is_feature_kind}
+use Rattle.s57_types.specs.Fitness.{is_vector_kind}
 use Rattle.s57_types.specs.declared.name.Kind.{Kind}
 use Rattle.s57_types.specs.declared.record.End.{End}
 use Rattle.s57_types.specs.declared.record.Spot.{Spot}
 use Rattle.field_spec.specs.Contents.{attribute_content, partner_content, place_content, end_content, plane_content, deep_content, any_row, names_a_vector, attribute_value, partner_value, place_value, end_value, plane_value, deep_value}
-use Rattle.field_spec.proofs.Written.{rows_written, have_values, have_tested_values, attribute_value-row, attribute_rows_told, kind_of_rcnm-rcnm_of, vector_rcnm, no_feature}
+use Rattle.field_spec.proofs.Written.{rows_written, have_values, have_tested_values, attribute_value-row, attribute_rows_told, kind_of_rcnm-rcnm_of, vector_rcnm}
 use Rattle.field_spec.proofs.law.repeating_rows_read_back.Goals as goal
 
 pub returns-clause-attributes : goal.returns-clause-attributes
@@ -21,21 +21,21 @@ returns-clause-partners c = λ partners fit. rows_written partner_value 0 partne
 pub returns-clause-places : goal.returns-clause-places
 unfolding place_content
 returns-clause-places c = λ places fit names. rows_written place_value 0 place_forms names_a_vector place_row places (record { takes = refl; fits = refl })
-    (have_tested_values place_value place_forms names_a_vector place_row (λ (s : Spot). not (is_feature_kind s.to.kind)) (λ s is test.
-    let vector = no_feature (is_feature_kind s.to.kind) test in record {
+    (have_tested_values place_value place_forms names_a_vector place_row (λ (s : Spot). is_vector_kind s.to.kind) (λ s is test.
+    record {
       fit = is;
-      is_good = vector_rcnm s.to.kind vector;
-      value_is = ap (λ (k : Kind). record s { to = record { kind = k; id = s.to.id } }) (kind_of_rcnm-rcnm_of s.to.kind vector);
+      is_good = vector_rcnm s.to.kind test;
+      value_is = ap (λ (k : Kind). record s { to = record { kind = k; id = s.to.id } }) (kind_of_rcnm-rcnm_of s.to.kind test);
     }) places fit names)
 
 pub returns-clause-ends : goal.returns-clause-ends
 unfolding end_content
 returns-clause-ends c = λ ends fit names. rows_written end_value 0 end_forms names_a_vector end_row ends (record { takes = refl; fits = refl })
-    (have_tested_values end_value end_forms names_a_vector end_row (λ (e : End). not (is_feature_kind e.to.kind)) (λ e is test.
-    let vector = no_feature (is_feature_kind e.to.kind) test in record {
+    (have_tested_values end_value end_forms names_a_vector end_row (λ (e : End). is_vector_kind e.to.kind) (λ e is test.
+    record {
       fit = is;
-      is_good = vector_rcnm e.to.kind vector;
-      value_is = ap (λ (k : Kind). record e { to = record { kind = k; id = e.to.id } }) (kind_of_rcnm-rcnm_of e.to.kind vector);
+      is_good = vector_rcnm e.to.kind test;
+      value_is = ap (λ (k : Kind). record e { to = record { kind = k; id = e.to.id } }) (kind_of_rcnm-rcnm_of e.to.kind test);
     }) ends fit names)
 
 pub returns-clause-plane : goal.returns-clause-plane

@@ -12,30 +12,13 @@ use Rattle.s57_types.specs.declared.name.RecName.{RecName}
 use Rattle.s57_types.specs.declared.record.Rec.{Rec}
 use Rattle.cell_spec.specs.Lookup.{all_records, name_of}
 use Rattle.cell_spec.specs.Names.{same_name, kind_rank}
+use Rattle.cell_spec.proofs.Orders.{same_kind}
 use Rattle.cell_spec.specs.Writable.{IsWritable, AreOfKind, AreFit, record_limit}
 use Rattle.file_samples.specs.WritableCells.{are_of_kind, are_distinct, is_writable}
 use Rattle.file_samples.proofs.law.cells_are_writable.Goals as goal
 
-same_rank : (a b : Kind) → kind_rank a ≡ kind_rank b → a ≡ b
-same_rank Vi Vi e = refl
-same_rank Vi Vc e = absurd (omega (arith, e))
-same_rank Vi Ve e = absurd (omega (arith, e))
-same_rank Vi Fe e = absurd (omega (arith, e))
-same_rank Vc Vi e = absurd (omega (arith, e))
-same_rank Vc Vc e = refl
-same_rank Vc Ve e = absurd (omega (arith, e))
-same_rank Vc Fe e = absurd (omega (arith, e))
-same_rank Ve Vi e = absurd (omega (arith, e))
-same_rank Ve Vc e = absurd (omega (arith, e))
-same_rank Ve Ve e = refl
-same_rank Ve Fe e = absurd (omega (arith, e))
-same_rank Fe Vi e = absurd (omega (arith, e))
-same_rank Fe Vc e = absurd (omega (arith, e))
-same_rank Fe Ve e = absurd (omega (arith, e))
-same_rank Fe Fe e = refl
-
 kind_decides : (a b : Kind) → Decides (kind_rank a == kind_rank b) (a ≡ b)
-kind_decides a b = Decides-like _ (same_rank a b) (ap kind_rank) (Decides-eqb (kind_rank a) (kind_rank b))
+kind_decides a b = Decides-like _ (same_kind a b) (ap kind_rank) (Decides-eqb (kind_rank a) (kind_rank b))
 
 kinds_decide : (kind : Kind) (records : List Rec) → Decides (are_of_kind kind records) (AreOfKind kind records)
 kinds_decide kind records = Decides-by_and _ _ (are_of_kind kind) (λ r. kind_decides (name_of r).kind kind) refl (λ _ _. refl) records

@@ -6,7 +6,8 @@ use Rattle.std.proofs.lemmas.List.Filters.{dedup_is}
 use Rattle.chain_topo.specs.Listed.{pair_order}
 use Rattle.cell_spec.proofs.Ascending.{sorted-ascending}
 use Rattle.chain_topo.proofs.Orders.{total_pairs, exact_pairs, pairs_tie}
-use Rattle.chain_topo.proofs.Parts.{zip-parts, dedup-ascending, keys-rise}
+use Rattle.cell_spec.proofs.Deduplicated.{dedup-ascending}
+use Rattle.chain_topo.proofs.Parts.{zip-parts, keys-rise}
 use Rattle.chain_topo.proofs.groups.Groups.make.Goals as goal
 
 -- the pairs in the vector, cut into their keys

@@ -5,6 +5,7 @@ use Rattle.std.proofs.lemmas.List.Sorted.{IsPermutation-map}
 use Rattle.s57_types.specs.declared.name.RecName.{RecName}
 use Rattle.s57_types.specs.declared.name.Lnam.{Lnam}
 use Rattle.s57_types.specs.declared.record.Rec.{Rec}
+use Rattle.s57_types.specs.declared.record.Rec.TheVariants.{H}
 use Rattle.s57_types.specs.declared.cell.Cell.{Cell}
 use Rattle.cell_spec.specs.declared.key.Ref.{Ref}
 use Rattle.cell_spec.specs.Ascending.{ascending, order_by}
@@ -43,8 +44,10 @@ answers c held moved pointers identities readable all same rises refs bearers =
 pub invariant_of-result : goal.invariant_of-result
 invariant_of-result c =
     let held : c.deref.result.now ≡ c.in_ok-records.records.items = c.deref.ensures.value in
-    let again : c.deref-2.result.now ≡ c.in_ok-records.records.items = c.deref-2.ensures.value in
-    answers c.args.cell.now c.in_ok-records.records.items c.sorted_by_name.result.items c.in_ok-pointers.pointers c.in_ok-identities.identities c.requires
-    c.in_ok-records.ensures c.sorted_by_name.ensures.same c.sorted_by_name.ensures.rises
-    (λ n. c.in_ok-pointers.ensures n ∙ ap (λ rs. ascending ref_order (flat_map (pointers_in n) (map (λ (r : Bor Rec). r.now) rs))) held)
-    (λ l. c.in_ok-identities.ensures l ∙ ap (λ rs. ascending name_order (map name_of (filter (bears l) (map (λ (r : Bor Rec). r.now) rs)))) again)
+    let again : c.deref-2.result.now ≡ c.in_ok-records.records.items = c.deref-2.ensures.value in (
+      answers c.args.cell.now c.in_ok-records.records.items c.sorted_by_name.result.items c.in_ok-pointers.pointers c.in_ok-identities.identities c.requires
+          c.in_ok-records.ensures c.sorted_by_name.ensures.same c.sorted_by_name.ensures.rises
+          (λ n. c.in_ok-pointers.ensures n ∙ ap (λ rs. ascending ref_order (flat_map (pointers_in n) (map (λ (r : Bor Rec). r.now) rs))) held)
+          (λ l. c.in_ok-identities.ensures l ∙ ap (λ rs. ascending name_order (map name_of (filter (bears l) (map (λ (r : Bor Rec). r.now) rs)))) again),
+      ap H c.in_ok-copy.ensures,
+    )
