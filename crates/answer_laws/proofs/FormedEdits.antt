@@ -10,7 +10,6 @@ use Rattle.s57_types.specs.Fitness.{has_good_names, is_feature_kind, is_vector_k
 use Rattle.s57_types.specs.Heads.{head_name}
 use Rattle.s57_types.specs.declared.fault.Unfit.{Unfit}
 use Rattle.s57_types.specs.declared.fault.Unfit.TheVariants.{BadName}
-use Rattle.s57_types.specs.declared.head.Head.{Head as CellHead}
 use Rattle.s57_types.specs.declared.name.Kind.{Kind}
 use Rattle.s57_types.specs.declared.name.Kind.TheVariants.{Vi, Vc, Ve, Fe, Head as HeadKind}
 use Rattle.s57_types.specs.declared.name.RecName.{RecName}
@@ -19,7 +18,7 @@ use Rattle.s57_types.specs.declared.record.Rec.TheVariants.{V, F, H}
 use Rattle.s57_types.specs.declared.cell.Cell.{Cell}
 use Rattle.cell_spec.specs.declared.edit.Edit.{Edit}
 use Rattle.cell_spec.specs.declared.edit.Edit.TheVariants.{Add, Set, Del, Head}
-use Rattle.cell_spec.specs.Edits.{name_of_edit, added_by, apply_edits, changed_by, edit_of, edited_record, head_by}
+use Rattle.cell_spec.specs.Edits.{name_of_edit, added_by, apply_edits, changed_by, edit_of, edited_record}
 use Rattle.cell_spec.specs.Lookup.{all_records, head_and_records, name_of}
 use Rattle.cell_spec.specs.Names.{kind_rank, same_name}
 use Rattle.cell_spec.specs.Readable.{IsReadable}
@@ -28,6 +27,7 @@ use Rattle.edit_sets.specs.FormFault.{IsFormed, unfitness_of_edit}
 use Rattle.answer_laws.specs.EditedAnswers.{has_a_list}
 use Rattle.answer_laws.specs.EditedCells.{CountsAfter, EditedCellsAreReadable, FormedEditsFindTheirRecords, is_addition}
 use Rattle.answer_laws.proofs.Among.{all_pass, Among, each_among, each_mapped, found, known_of, origin}
+use Rattle.answer_laws.proofs.EditedHead.{level_kept}
 use Rattle.answer_laws.proofs.EditedNames.{added_is, changed_or_added, distinct_after, not_the_head}
 
 -- ---- records that can be written have a list
@@ -96,16 +96,9 @@ module _ (c : Cell) (edits : List Edit) (guards : List RecName) (readable : IsRe
   all_placed = all_pass has_a_list (filter_map added_by edits) (λ r at. fit_is_listed c.head.nall r (addition_fits r at))
 
   -- ---- the edited cell
-  level_by : (h : CellHead) (e : Option Edit) → (head_by h e).nall ≡ h.nall
-  level_by h None = refl
-  level_by h (Some (Add r)) = refl
-  level_by h (Some (Set r)) = refl
-  level_by h (Some (Del n)) = refl
-  level_by h (Some (Head e)) = refl
-
   same_level : (apply_edits edits c).head.nall ≡ c.head.nall
   unfolding apply_edits
-  same_level = level_by c.head (edit_of head_name edits)
+  same_level = level_kept edits c.head
 
   changed_fits : (r s : Rec) → Among r (all_records c) → (e : Option Edit) → edit_of (name_of r) edits ≡ e → changed_by r e ≡ Some s → fits s
   changed_fits r s at None is gives = let same : r ≡ s = cc in subst fits same (record_fits r at)

@@ -9,4 +9,8 @@ pub mod EditedBearers
 pub mod Untouched
 pub mod AddedUp
 pub mod Counts
+pub mod EditedHead
 pub mod FormedEdits
+pub mod KeptRecords
+pub mod EditedLists
+pub mod EditedCell

@@ -1,14 +1,14 @@
 -- What edits make of a cell as a whole. This project's own rules.
-use Rattle.std.specs.Prelude.{◌≡◌, ◌+◌, ◌≤◌, true, false, Bool, List, ◌++◌, length, count_by}
+use Rattle.std.specs.Prelude.{◌≡◌, ◌+◌, ◌≤◌, true, false, Bool, List, ◌++◌, None, length, count_by}
 use Rattle.s57_types.specs.declared.name.RecName.{RecName}
 use Rattle.s57_types.specs.declared.cell.Cell.{Cell}
 use Rattle.cell_spec.specs.declared.edit.Edit.{Edit}
 use Rattle.cell_spec.specs.declared.edit.Edit.TheVariants.{Add, Set, Del, Head}
-use Rattle.cell_spec.specs.Edits.{apply_edits, find_their_records}
+use Rattle.cell_spec.specs.Edits.{apply_edits, find_their_records, is_applicable}
 use Rattle.cell_spec.specs.Lookup.{all_records}
 use Rattle.cell_spec.specs.Readable.{IsReadable}
-use Rattle.cell_spec.specs.Writable.{record_limit}
-use Rattle.edit_sets.specs.FormFault.{IsFormed}
+use Rattle.cell_spec.specs.Writable.{IsWritable, record_limit}
+use Rattle.edit_sets.specs.FormFault.{form_fault, IsFormed}
 use Rattle.answer_laws.specs.EditedAnswers.{FindTheirRecords}
 
 -- the edits of an edit set at the level of a readable cell, each of which has its record there, find their records
@@ -46,3 +46,8 @@ CountsAfter = (edits : List Edit) (c : Cell) → FindTheirRecords edits c
 abbrev pub EditedCellsAreReadable : Type 0
 EditedCellsAreReadable = (c : Cell) (edits : List Edit) (guards : List RecName) → IsReadable c → length (all_records c) ≤ record_limit
     → IsFormed c.head.nall edits guards → find_their_records edits c ≡ true → IsReadable (apply_edits edits c)
+
+-- edits that are an edit set with some guards at the level of a writable cell, and that the cell takes, leave a writable cell
+abbrev pub EditsKeepWritable : Type 0
+EditsKeepWritable = (c : Cell) (edits : List Edit) (guards : List RecName) → IsWritable c → form_fault c.head.nall edits guards ≡ None
+    → is_applicable edits c ≡ true → IsWritable (apply_edits edits c)

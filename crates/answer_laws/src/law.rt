@@ -1,7 +1,7 @@
 //! Each law is the contract of a function that does nothing.
 
 ghost use Rattle.answer_laws.specs.EditedAnswers.{EditedAnswers, EditedAnswersAreLocal, UntouchedKeysKeepAnswers};
-ghost use Rattle.answer_laws.specs.EditedCells.{CountsAfter, EditedCellsAreReadable, EditsAddUp, FormedEditsFindTheirRecords};
+ghost use Rattle.answer_laws.specs.EditedCells.{CountsAfter, EditedCellsAreReadable, EditsAddUp, EditsKeepWritable, FormedEditsFindTheirRecords};
 
 /// What an edited cell answers to each key, from the edits and what the cell answered before: the record of a name as the
 /// edit of that name leaves it; the head with the values that an edit of it gives; the pointers to a name, and the bearers of
@@ -48,3 +48,8 @@ pub fn edited_cells_are_readable()
     formed_edits_find_their_records();
     counts_after_edits();
 }
+
+/// Edits without a fault of form at a writable cell's level, which the cell takes, leave a writable cell.
+pub fn edits_keep_a_cell_writable()
+    ensures { EditsKeepWritable }
+{}

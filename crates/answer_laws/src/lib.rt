@@ -5,5 +5,6 @@ mod law;
 
 pub use law::{
     counts_after_edits, edited_answers, edited_answers_are_local, edited_cells_are_readable,
-    edits_add_up, formed_edits_find_their_records, untouched_keys_keep_answers,
+    edits_add_up, edits_keep_a_cell_writable, formed_edits_find_their_records,
+    untouched_keys_keep_answers,
 };

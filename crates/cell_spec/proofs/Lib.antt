@@ -1,4 +1,5 @@
 pub mod Ascending
 pub mod Deduplicated
+pub mod EachItem
 pub mod Orders
 pub mod SubjectOrder

@@ -1,8 +1,3 @@
-pub mod DistinctNames
-pub mod EditedRecords
-pub mod EditedLists
-pub mod EditedHead
-pub mod EditedCell
 pub mod TakenLines
 pub mod Refusals
 pub mod Runs

@@ -20,7 +20,7 @@ use Rattle.history_spec.specs.declared.refusal.StateRefusal.{StateRefusal}
 use Rattle.history_spec.specs.declared.reply.Reply.{Reply}
 use Rattle.history_spec.specs.declared.reply.Reply.TheVariants.{Viewed, Formed, Newer, Refused, Accepted}
 use Rattle.edit_laws.specs.KeptWritable.{RunsLeaveWritable, is_taken}
-use Rattle.edit_laws.proofs.EditedCell.{edits_keep_writable}
+use Rattle.answer_laws.proofs.EditedCell.{edits_keep_writable}
 use Rattle.edit_laws.proofs.Refusals.{refusals_are_exact}
 
 abbrev is_accepted : Reply → Bool

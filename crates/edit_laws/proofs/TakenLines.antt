@@ -25,9 +25,9 @@ use Rattle.cell_spec.specs.declared.edit.Edit.TheVariants.{Add, Set, Del, Head}
 use Rattle.cell_spec.proofs.Orders.{one_when_same}
 use Rattle.edit_sets.specs.FormFault.{IsFormed, unfitness_of_edit}
 use Rattle.edit_sets.proofs.Formed.{formed}
-use Rattle.file_spec.proofs.EachItem.{each_append, each_weaker}
+use Rattle.cell_spec.proofs.EachItem.{each_append, each_weaker}
 use Rattle.text_spec.specs.EditLine.{has_line, is_feature, is_head, record_has_line}
-use Rattle.edit_laws.proofs.EditedLists.{IsOfKind}
+use Rattle.answer_laws.proofs.EditedLists.{IsOfKind}
 use Rattle.edit_laws.specs.KeptWritable.{TakenEditsHaveLines}
 
 -- a record that can be written has good names

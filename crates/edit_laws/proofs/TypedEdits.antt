@@ -16,11 +16,11 @@ use Rattle.cell_spec.specs.declared.edit.Edit.{Edit}
 use Rattle.cell_spec.specs.declared.edit.Edit.TheVariants.{Add, Set, Del, Head}
 use Rattle.file_spec.specs.RoundTrip.{HasForms, RecordHasForms}
 use Rattle.edit_laws.specs.ReadBackAfterRuns.{EditHasItsTypes, EditsKeepTypes}
-use Rattle.file_spec.proofs.EachItem.{each_append, each_weaker}
-use Rattle.edit_laws.proofs.EditedHead.{IsAmong, found_among, level_kept}
-use Rattle.edit_laws.proofs.EditedLists.{list_has}
-use Rattle.edit_laws.proofs.EditedCell.{each_of_kind}
-use Rattle.edit_laws.proofs.EditedRecords.{Leaves}
+use Rattle.cell_spec.proofs.EachItem.{each_append, each_weaker}
+use Rattle.answer_laws.proofs.EditedHead.{IsAmong, found_among, level_kept}
+use Rattle.answer_laws.proofs.EditedLists.{list_has}
+use Rattle.answer_laws.proofs.EditedCell.{each_of_kind}
+use Rattle.answer_laws.proofs.KeptRecords.{Leaves}
 
 leaves_typed : (nall : ℕ) (edit : Edit) → EditHasItsTypes nall edit → Leaves (RecordHasForms nall) edit
 leaves_typed nall (Add r) typed = typed

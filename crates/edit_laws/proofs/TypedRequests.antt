@@ -10,7 +10,7 @@ use Rattle.cell_spec.specs.declared.edit.Edit.{Edit}
 use Rattle.history_spec.specs.Sessions.{Request, requests_from, requests_of, script_of, request_at, ordered_requests}
 use Rattle.edit_laws.specs.ReadBackAfterRuns.{EditHasItsTypes, CommandHasItsTypes}
 use Rattle.edit_laws.proofs.Runs.{Offers}
-use Rattle.file_spec.proofs.EachItem.{each_append}
+use Rattle.cell_spec.proofs.EachItem.{each_append}
 
 abbrev pub RequestHasItsTypes : ℕ → Request → Type 0
 RequestHasItsTypes nall = Offers (AllByRecursion (EditHasItsTypes nall))

@@ -12,8 +12,8 @@ use Rattle.history_spec.specs.ReportText.{final_cell}
 use Rattle.history_spec.specs.Sessions.{ordered_requests}
 use Rattle.history_spec.specs.Steps.{opening}
 use Rattle.edit_laws.specs.ReadBackAfterRuns.{EditHasItsTypes, RunsAreReadBack}
-use Rattle.edit_laws.proofs.EditedCell.{edits_keep_writable}
-use Rattle.edit_laws.proofs.EditedHead.{level_kept}
+use Rattle.answer_laws.proofs.EditedCell.{edits_keep_writable}
+use Rattle.answer_laws.proofs.EditedHead.{level_kept}
 use Rattle.edit_laws.proofs.TypedEdits.{edits_keep_types}
 use Rattle.edit_laws.proofs.TypedRequests.{requests_are_typed}
 use Rattle.edit_laws.proofs.Runs.{requests_keep}

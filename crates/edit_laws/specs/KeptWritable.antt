@@ -3,7 +3,7 @@ use Rattle.std.specs.Prelude.{◌≡◌, ℕ, Bool, true, false, List, Option, N
 use Rattle.s57_types.specs.declared.name.RecName.{RecName}
 use Rattle.s57_types.specs.declared.cell.Cell.{Cell}
 use Rattle.cell_spec.specs.declared.edit.Edit.{Edit}
-use Rattle.cell_spec.specs.Edits.{apply_edits, is_applicable}
+use Rattle.cell_spec.specs.Edits.{is_applicable}
 use Rattle.cell_spec.specs.Writable.{IsWritable}
 use Rattle.edit_sets.specs.FormFault.{form_fault}
 use Rattle.text_spec.specs.EditLine.{has_line}
@@ -13,11 +13,7 @@ use Rattle.history_spec.specs.declared.refusal.StateRefusal.TheVariants.{AddExis
 use Rattle.history_spec.specs.ReportText.{final_cell}
 use Rattle.history_spec.specs.Steps.{state_refusal}
 
--- edits that are an edit set with some guards at the level of a writable cell, and that the cell takes, leave a writable cell
-abbrev pub EditsKeepWritable : Type 0
-EditsKeepWritable = (c : Cell) (edits : List Edit) (guards : List RecName) → IsWritable c → form_fault c.head.nall edits guards ≡ None → is_applicable edits c ≡ true → IsWritable (apply_edits edits c)
-
--- and each of them has a line
+-- edits that are an edit set with some guards at the level of a writable cell, and that the cell takes, each have a line
 abbrev pub TakenEditsHaveLines : Type 0
 TakenEditsHaveLines = (c : Cell) (edits : List Edit) (guards : List RecName) → IsWritable c → form_fault c.head.nall edits guards ≡ None → is_applicable edits c ≡ true → All (λ edit. has_line edit ≡ true) edits
 

@@ -1,14 +1,9 @@
 //! Each law is the contract of a function that does nothing.
 
-ghost use Rattle.edit_laws.specs.KeptWritable.{EditsKeepWritable, RefusalsAreExact, RunsLeaveWritable, TakenEditsHaveLines};
+ghost use Rattle.edit_laws.specs.KeptWritable.{RefusalsAreExact, RunsLeaveWritable, TakenEditsHaveLines};
 ghost use Rattle.edit_laws.specs.ReadBackAfterRuns.{EditsKeepTypes, RunsAreReadBack};
 
 use file_spec::round_trip;
-
-/// Edits without a fault of form at a writable cell's level, which the cell takes, leave a writable cell.
-pub fn edits_keep_a_cell_writable()
-    ensures { EditsKeepWritable }
-{}
 
 /// Edits that a writable cell takes each have a line: they leave records that can be written, and delete no head.
 pub fn taken_edits_have_lines()

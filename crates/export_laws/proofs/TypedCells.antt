@@ -29,8 +29,8 @@ use Rattle.file_spec.specs.declared.tag.RecordType.{RecordType}
 use Rattle.file_spec.specs.declared.tag.RecordType.TheVariants as types
 use Rattle.decode_laws.proofs.Contents.{mapped_ok}
 use Rattle.decode_laws.proofs.Records.{step, passed, demanded}
-use Rattle.file_spec.proofs.EachItem.{each_append}
-use Rattle.edit_laws.proofs.EditedCell.{each_of_kind}
+use Rattle.cell_spec.proofs.EachItem.{each_append}
+use Rattle.answer_laws.proofs.EditedCell.{each_of_kind}
 use Rattle.export_laws.specs.DecodedTypes.{DecodedHasItsTypes}
 use Rattle.export_laws.proofs.FileBytes.{AreOfBytes, FoundOfBytes, RecordIsOfBytes, file_is_of_bytes}
 use Rattle.export_laws.proofs.TypedRecords.{first_tagged, behind_is_typed}

@@ -6,7 +6,7 @@ use Rattle.std.proofs.lemmas.List.Elements.{recursion_from_All}
 use Rattle.text_spec.specs.declared.command.Command.{Command}
 use Rattle.decode_laws.specs.DecodedCells.{DecodedIsWritable}
 use Rattle.edit_laws.specs.ReadBackAfterRuns.{CommandHasItsTypes, RunsAreReadBack}
-use Rattle.file_spec.proofs.EachItem.{each_weaker}
+use Rattle.cell_spec.proofs.EachItem.{each_weaker}
 use Rattle.export_laws.specs.DecodedTypes.{DecodedHasItsTypes}
 use Rattle.export_laws.specs.ExportedCells.{IsScriptOfText, ExportsAreReadBack}
 use Rattle.export_laws.specs.ScriptTypes.{ScriptHasItsTypes}

@@ -28,7 +28,7 @@ use Rattle.file_spec.specs.declared.tag.FieldTag.TheVariants as tags
 use Rattle.file_spec.specs.declared.tag.RecordType.{RecordType}
 use Rattle.file_spec.specs.declared.tag.RecordType.TheVariants as types
 use Rattle.decode_laws.proofs.Records.{step, passed, demanded}
-use Rattle.file_spec.proofs.EachItem.{each_append}
+use Rattle.cell_spec.proofs.EachItem.{each_append}
 use Rattle.export_laws.specs.DecodedTypes.{AreFileBytes}
 use Rattle.export_laws.proofs.FileBytes.{IsOfBytes, AreOfBytes}
 use Rattle.export_laws.proofs.TypedRows.{frid_typed, foid_typed, vrid_typed, attributes_typed, partners_typed, places_typed, ends_typed, plane_typed, deep_typed}

@@ -17,7 +17,7 @@ use Rattle.field_spec.specs.Contents.{dsid_content, dspm_content, frid_content, 
 use Rattle.field_spec.specs.FieldContent.{IsRow}
 use Rattle.field_spec.proofs.DecidedFields.{dsid_decided, dspm_decided, frid_decided, foid_decided, vrid_decided, attributes_decided, partners_decided, places_decided, ends_decided, plane_decided, deep_decided}
 use Rattle.file_spec.specs.RoundTrip.{IsInRange, HasForms}
-use Rattle.file_spec.proofs.EachItem.{each_weaker}
+use Rattle.cell_spec.proofs.EachItem.{each_weaker}
 use Rattle.export_laws.specs.DecodedTypes.{AreFileBytes}
 
 in_range : (s : Subfield) → IsSubfield s → IsInRange s

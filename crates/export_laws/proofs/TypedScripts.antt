@@ -18,7 +18,7 @@ use Rattle.text_spec.specs.declared.command.Command.{Command}
 use Rattle.text_spec.specs.declared.command.Command.TheVariants.{View, Commit, Drop, List as Findings, Push, Guard}
 use Rattle.text_spec.specs.ScriptLines.{IsOfWidth, record_subfields, vector_subfields, feature_subfields, IsEditOfWidth, IsCommand, ScriptLine, skipped, spoken, spoken_command, IsLine}
 use Rattle.edit_laws.specs.ReadBackAfterRuns.{EditHasItsTypes, CommandHasItsTypes}
-use Rattle.file_spec.proofs.EachItem.{each_weaker, each_front, each_back}
+use Rattle.cell_spec.proofs.EachItem.{each_weaker, each_front, each_back}
 use Rattle.export_laws.specs.ScriptTypes.{ScriptHasItsTypes}
 
 in_range : (s : Subfield) → IsOfWidth s → IsInRange s

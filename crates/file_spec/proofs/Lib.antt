@@ -4,6 +4,5 @@ pub mod WrittenFile
 pub mod RecordBack
 pub mod CellBack
 pub mod RoundTrip
-pub mod EachItem
 pub mod GrownCell
 pub mod TypedCell

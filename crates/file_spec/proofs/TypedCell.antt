@@ -5,7 +5,7 @@ use Rattle.s57_types.specs.FieldRows.{attribute_forms, attribute_row}
 use Rattle.s57_types.specs.declared.record.Attr.{Attr}
 use Rattle.s57_types.specs.declared.record.Rec.{Rec}
 use Rattle.file_spec.specs.RoundTrip.{HasForms, AttributeHasForms, RecordHasForms}
-use Rattle.file_spec.proofs.EachItem.{each_weaker}
+use Rattle.cell_spec.proofs.EachItem.{each_weaker}
 
 -- what was shown of a part that was lent
 pub of_lent : {X : Type 0} (P : X → Type 0) (lent items : List X) → lent ≡ items → AllByRecursion P lent → AllByRecursion P items

@@ -20,7 +20,7 @@ use Rattle.history_spec.specs.declared.refusal.StateRefusal.{StateRefusal}
 use Rattle.history_spec.specs.declared.refusal.StateRefusal.TheVariants.{CellFull, FindingsFull, HeadTooLong}
 use Rattle.history_spec.specs.Steps.{edit_refusal, finding_limit, first_of, size_refusal, state_refusal}
 use Rattle.edit_laws.specs.KeptWritable.{is_taken}
-use Rattle.edit_laws.proofs.EditedCell.{edits_keep_writable}
+use Rattle.answer_laws.proofs.EditedCell.{edits_keep_writable}
 use Rattle.edit_laws.proofs.Refusals.{refusals_are_exact}
 use Rattle.edit_laws.proofs.TakenLines.{taken_edits_have_lines}
 use Rattle.record_fit.specs.Lengths.{saturated}

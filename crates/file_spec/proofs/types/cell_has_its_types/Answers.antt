@@ -1,7 +1,7 @@
 use Rattle.std.proofs.Common.{List, ◌++◌}
 use Rattle.s57_types.specs.declared.record.Rec.{Rec}
 use Rattle.file_spec.specs.RoundTrip.{RecordHasForms}
-use Rattle.file_spec.proofs.EachItem.{each_append}
+use Rattle.cell_spec.proofs.EachItem.{each_append}
 use Rattle.file_spec.proofs.TypedCell.{records_at}
 use Rattle.file_spec.proofs.types.cell_has_its_types.Goals as goal
 

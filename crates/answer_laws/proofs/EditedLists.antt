@@ -1,21 +1,18 @@
 -- One list of an edited cell.
-use Rattle.std.proofs.Common.{◌≡◌, true, false, List, ◌++◌, map, filter, Option, None, Some, sym, ap, subst, ◌∙◌}
+use Rattle.std.proofs.Common.{◌≡◌, true, List, ◌++◌, filter, Option, None, Some, ap, ◌∙◌}
 use Rattle.std.specs.Prelude.{IfSome, filter_map}
-use Rattle.std.specs.List.{All, AllByRecursion, IsDistinct}
-use Rattle.std.proofs.lemmas.List.{map-append}
+use Rattle.std.specs.List.{All, AllByRecursion}
 use Rattle.std.proofs.lemmas.List.Elements.{recursion_from_All, All-from_recursion, All-weaker, All-filter, filter_passes}
 use Rattle.s57_types.specs.declared.name.Kind.{Kind}
 use Rattle.s57_types.specs.declared.record.Rec.{Rec}
 use Rattle.s57_types.specs.declared.cell.Cell.{Cell}
-use Rattle.cell_spec.specs.Edits.{name_of_edit, added_by, edited_record, edited_list, list_of_kind}
+use Rattle.cell_spec.specs.Edits.{added_by, edited_record, edited_list, list_of_kind}
 use Rattle.cell_spec.specs.Lookup.{name_of}
-use Rattle.cell_spec.specs.Names.{same_name, is_of_kind}
-use Rattle.cell_spec.specs.Writable.{HaveDistinctNames}
+use Rattle.cell_spec.specs.Names.{is_of_kind}
 use Rattle.cell_spec.specs.declared.edit.Edit.{Edit}
 use Rattle.cell_spec.proofs.Orders.{one_kind}
-use Rattle.file_spec.proofs.EachItem.{each_append, each_weaker}
-use Rattle.edit_laws.proofs.DistinctNames.{IsApart, distinct_append}
-use Rattle.edit_laws.proofs.EditedRecords.{Leaves, name_kept, property_kept, each_kept, each_added, names_kept, names_filtered, distinct_kept, distinct_added, distinct_filtered}
+use Rattle.cell_spec.proofs.EachItem.{each_append}
+use Rattle.answer_laws.proofs.KeptRecords.{Leaves, name_kept, property_kept, each_kept, each_added}
 
 -- the records of a list that stay, and those that are added to it
 abbrev kept_in : List Edit → List Rec → List Rec
@@ -45,17 +42,3 @@ pub list_has : (P : Rec → Type 0) (edits : List Edit) (kind : Kind) (c : Cell)
 list_has P edits kind c leaves all =
     let new : All P (added_to edits kind) = All-filter (λ r. is_of_kind kind (name_of r)) P (filter_map added_by edits) (All-from_recursion P (filter_map added_by edits) (each_added P edits leaves)) in
     each_append P (kept_in edits (list_of_kind kind c)) (added_to edits kind) (each_kept P edits (λ r here. property_kept P edits r leaves here) (list_of_kind kind c) all) (recursion_from_All P (added_to edits kind) new)
-
-pub distinct_lists : (xs ys : List Rec) → HaveDistinctNames xs → HaveDistinctNames ys → AllByRecursion (IsApart (map name_of xs)) (map name_of ys) → HaveDistinctNames (xs ++ ys)
-distinct_lists xs ys first second apart = subst (IsDistinct same_name) (sym (map-append name_of xs ys)) (distinct_append (map name_of xs) (map name_of ys) first second apart)
-
--- a list keeps distinct names, where the names of additions are new
-pub list_is_distinct : (edits : List Edit) (kind : Kind) (c : Cell) → HaveDistinctNames (list_of_kind kind c) → IsDistinct same_name (map name_of_edit edits)
-    → AllByRecursion (IsApart (map name_of (list_of_kind kind c))) (map name_of (filter_map added_by edits)) → HaveDistinctNames (edited_list edits kind c)
-list_is_distinct edits kind c distinct different new =
-    let held = list_of_kind kind c in
-    let apart : AllByRecursion (IsApart (map name_of (kept_in edits held))) (map name_of (added_to edits kind)) =
-    each_weaker (IsApart (map name_of held)) (IsApart (map name_of (kept_in edits held))) (λ n away. names_kept (λ m. same_name n m ≡ false) edits held away) (map name_of (added_to edits kind))
-    (names_filtered (IsApart (map name_of held)) (λ r. is_of_kind kind (name_of r)) (filter_map added_by edits) new) in
-    distinct_lists (kept_in edits held) (added_to edits kind) (distinct_kept edits held distinct)
-    (distinct_filtered (λ r. is_of_kind kind (name_of r)) (filter_map added_by edits) (distinct_added edits different)) apart

@@ -1,5 +1,0 @@
-use Rattle.edit_laws.proofs.EditedCell.{edits_keep_writable}
-use Rattle.edit_laws.proofs.law.edits_keep_a_cell_writable.Goals as goal
-
-pub returns : goal.returns
-returns c = edits_keep_writable
