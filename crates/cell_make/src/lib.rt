@@ -10,6 +10,3 @@ mod script;
 pub use cell::make_cell;
 pub use law::{one_square_is_made, records_are_numbered};
 pub use script::make_scripts;
-
-#[cfg(test)]
-mod tests;

@@ -9,6 +9,3 @@ mod places;
 pub use cell_spec::Edit;
 pub use edit_set::EditSet;
 pub use fault::{FormFault, FormRefusal};
-
-#[cfg(test)]
-mod tests;

@@ -17,6 +17,3 @@ pub use shelf::{Failed, Got, Shelf};
 pub use sink::Sink;
 pub use sure_shelf::SureShelf;
 pub use sure_sink::SureSink;
-
-#[cfg(test)]
-mod tests;

@@ -7,6 +7,3 @@ mod write;
 
 pub use field::{LeaderKind, OutField, WriteRefusal};
 pub use write::write_record;
-
-#[cfg(test)]
-mod tests;

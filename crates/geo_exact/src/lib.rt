@@ -11,6 +11,3 @@ pub use contact::{meeting, on_segment};
 pub use geometry_spec::{Box4, MeetCase, Point, TileRange};
 pub use side::orient;
 pub use tiling::{box_of, tiles_of};
-
-#[cfg(test)]
-mod tests;

@@ -6,6 +6,3 @@ mod leader;
 
 pub use frame::{Frame, next_record};
 pub use frame_spec::FrameFault;
-
-#[cfg(test)]
-mod tests;

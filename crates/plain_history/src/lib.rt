@@ -13,6 +13,3 @@ pub use apply::apply_edits;
 pub use history::History;
 pub use newer::newer_answer;
 pub use trial::{FINDING_LIMIT, Trial, try_edits};
-
-#[cfg(test)]
-mod tests;

@@ -14,6 +14,3 @@ pub use order::push_order;
 pub use reply::push_reply;
 pub use seen::Seen;
 pub use session::push_session;
-
-#[cfg(test)]
-mod tests;

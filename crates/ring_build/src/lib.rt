@@ -10,6 +10,3 @@ pub use law::computed_cut_is_only;
 pub use partition::cut;
 pub use ring::{Block, Blocks, RingCut};
 pub use turn::turn_of;
-
-#[cfg(test)]
-mod tests;

@@ -18,6 +18,3 @@ pub use head::{Head, HeadEdit, Level};
 pub use items::{Attrs, Deep, Ends, Items, Partners, Places, Plane, Recs, Text};
 pub use name::{Kind, Lnam, RecName};
 pub use record::{Attr, End, Feature, Partner, Rec, Spot, Vector};
-
-#[cfg(test)]
-mod tests;

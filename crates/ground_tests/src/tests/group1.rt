@@ -1,4 +1,6 @@
-use super::*;
+//! Areas of Group 1.
+
+use plain_lookups::is_group1_area;
 use s57_types::{Attrs, Feature, Items, Kind, Lnam, Partners, RecName};
 use std::alloc::Global;
 use std::test::Fail;

@@ -1,4 +1,6 @@
-use super::*;
+//! Records that are read.
+
+use iso_frame::{FrameFault, next_record};
 use std::alloc::Global;
 use std::test::Fail;
 

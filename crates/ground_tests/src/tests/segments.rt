@@ -1,6 +1,6 @@
-//! Examples worked out by hand. Points are (y, x).
+//! Segments, boxes and tiles, worked out by hand. Points are (y, x).
 
-use crate::{
+use geo_exact::{
     Box4, MeetCase, Point, TileRange, box_of, meeting, on_segment, orient, tiles_of,
     twice_area_step,
 };

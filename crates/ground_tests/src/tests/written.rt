@@ -1,4 +1,6 @@
-use super::*;
+//! Records that are written.
+
+use frame_write::{LeaderKind, OutField, write_record};
 use std::alloc::Global;
 use std::test::Fail;
 

@@ -1,6 +1,8 @@
+//! Generated cells and scripts.
+
 ghost use Rattle.std.specs.Prelude.{◌≤◌};
 
-use super::*;
+use cell_make::{make_cell, make_scripts};
 use cell_spec::Edit;
 use cell_write::write_cell;
 use s57_types::{Kind, Rec, RecName};

@@ -1,4 +1,7 @@
-use super::*;
+//! Edit sets and the faults of their form.
+
+use cell_spec::Edit;
+use edit_sets::{EditSet, FormFault, FormRefusal};
 use s57_types::{
     Attr, Attrs, Deep, Duplicate, Ends, HeadEdit, Kind, Level, Plane, Rec, RecName, Text, Unfit,
     Vector,

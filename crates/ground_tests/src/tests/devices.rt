@@ -1,4 +1,6 @@
-use super::*;
+//! Stand-ins in memory for the devices.
+
+use enc_outside::{Failed, Got, Meet, MemShelf, MemSink, NoMeet, Shelf, Sink, SureShelf, SureSink};
 use std::test::Fail;
 
 #[test]

@@ -1,4 +1,6 @@
-use super::*;
+//! Boundaries cut into loops, and the turns of loops.
+
+use ring_build::{Block, Blocks, RingCut, cut, turn_of};
 use s57_types::{Kind, Plane, RecName};
 use std::test::Fail;
 

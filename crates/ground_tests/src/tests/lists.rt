@@ -1,4 +1,8 @@
-use super::*;
+//! Lists, names and copies.
+
+use s57_types::{
+    Attr, Attrs, Deep, Duplicate, Ends, Kind, Plane, Rec, RecName, Recs, Text, Vector,
+};
 use std::test::Fail;
 
 #[test]

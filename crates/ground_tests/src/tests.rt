@@ -1,0 +1,9 @@
+mod devices;
+mod edits;
+mod frames;
+mod generated;
+mod group1;
+mod lists;
+mod loops;
+mod segments;
+mod written;
