@@ -12,12 +12,12 @@ ghost use Rattle.enc_top.specs.Refused.{IsRefusal};
 
 use crate::input::{InputRefusal, read_file};
 use crate::status::Status;
+use cell_bench::FINDING_LIMIT;
 use cell_decode::ReadRefusal;
 use cell_findings::{FindingRefusal, Findings, find_all};
 use decode_laws::decoded_cell_is_writable;
 use enc_outside::Shelf;
 use order_text::{Order, OrderRefusal, read_order};
-use plain_history::FINDING_LIMIT;
 use s57_types::{Cell, Text};
 use script_text::{Script, ScriptRefusal, read_script};
 use std::alloc::{AllocError, Global};

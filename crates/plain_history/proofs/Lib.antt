@@ -2,4 +2,3 @@ mod Bases
 mod Contested
 mod Firsts
 mod StepStates
-mod WritableEdits

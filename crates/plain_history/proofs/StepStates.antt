@@ -11,7 +11,7 @@ use Rattle.history_spec.specs.declared.reply.Reply.TheVariants.{Accepted, Refuse
 use Rattle.history_spec.specs.Steps.{AcceptedCommit, History, commit, with_base, commit_answer, left_after, newer_answer, state_refusal, with_commit}
 use Rattle.s57_types.specs.declared.cell.Cell.{Cell}
 use Rattle.cell_findings.specs.declared.list.SubjectFinding.{SubjectFinding}
-use Rattle.plain_history.specs.Trials.{IsEdited}
+use Rattle.cell_bench.specs.Trials.{IsEdited}
 use Rattle.plain_history.specs.Kept.{IsStep, KeptHistory, base_of, state_of}
 use Rattle.plain_history.proofs.Bases.{base_set}
 

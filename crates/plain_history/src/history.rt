@@ -12,9 +12,8 @@ ghost use Rattle.cell_findings.specs.AllFindings.{IsAllOf};
 ghost use Rattle.plain_history.specs.Kept.{HaveLines, IsAnswered, IsStep, base_of, desk_limit, state_of};
 
 use crate::accepted::Accepted;
-use crate::count::narrow;
 use crate::newer::newer_answer;
-use crate::trial::{Trial, try_edits};
+use cell_bench::{Trial, narrow, try_edits};
 use cell_findings::Findings;
 use cell_spec::Edit;
 use edit_sets::{EditSet, FormRefusal};

@@ -9,7 +9,7 @@ ghost use Rattle.history_spec.specs.Steps.{clash_with as spec_clash_with, contes
 ghost use Rattle.plain_history.specs.Kept.{IsNewer};
 
 use crate::accepted::Accepted;
-use crate::count::narrow;
+use cell_bench::narrow;
 use edit_sets::EditSet;
 use history_spec::Reply;
 use s57_types::{Duplicate, RecName};

@@ -1,7 +1,7 @@
 use Rattle.std.proofs.Common.{sym, ap, ◌∙◌, subst}
 use Rattle.history_spec.specs.Steps.{newer_answer}
 use Rattle.plain_history.specs.Kept.{KeptHistory, base_of}
-use Rattle.plain_history.specs.Trials.{IsTrial}
+use Rattle.cell_bench.specs.Trials.{IsTrial}
 use Rattle.plain_history.proofs.StepStates.{commit_refused, commit_taken}
 use Rattle.plain_history.proofs.history.History.commit.Goals as goal
 

@@ -1,7 +1,7 @@
 use Rattle.std.proofs.Common.{◌<◌, sym, ◌∙◌, arith}
 use Rattle.s57_types.specs.RecordFields.{identification_length}
-use Rattle.plain_history.proofs.WritableEdits.{head_judged, head_stays, small_count}
-use Rattle.plain_history.proofs.trial.head_refusal.Goals as goal
+use Rattle.cell_bench.proofs.WritableEdits.{head_judged, head_stays, small_count}
+use Rattle.cell_bench.proofs.trial.head_refusal.Goals as goal
 
 pub returns-then-not-has_head_edit : goal.returns-then-not-has_head_edit
 returns-then-not-has_head_edit c = head_stays c.args.head.now c.args.edits.now (sym c.has_head_edit.ensures ∙ c.if-not-has_head_edit.true)

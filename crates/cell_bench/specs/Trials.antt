@@ -15,8 +15,8 @@ use Rattle.history_spec.specs.declared.refusal.StateRefusal.{StateRefusal}
 use Rattle.history_spec.specs.declared.refusal.StateRefusal.TheVariants.{CellFull, FindingsFull, HeadTooLong}
 use Rattle.cell_findings.specs.AllFindings.{IsAllOf}
 use Rattle.cell_findings.specs.declared.list.SubjectFinding.{SubjectFinding}
-use Rattle.plain_history.specs.declared.trial.Trial.{Trial}
-use Rattle.plain_history.specs.declared.trial.Trial.TheVariants.{Edited, Refused}
+use Rattle.cell_bench.specs.declared.trial.Trial.{Trial}
+use Rattle.cell_bench.specs.declared.trial.Trial.TheVariants.{Edited, Refused}
 
 -- a head that edits left is too long, where one of them is of the head
 abbrev pub is_long_head : Head → List CellEdit → Bool

@@ -7,7 +7,7 @@ ghost use Rattle.cell_spec.specs.Edits.{apply_edits as spec_apply_edits, is_head
 ghost use Rattle.cell_spec.specs.Lookup.{listed_record as spec_listed_record};
 ghost use Rattle.cell_spec.specs.Writable.{IsWritable};
 ghost use Rattle.history_spec.specs.Steps.{edit_refusal as spec_edit_refusal, first_of};
-ghost use Rattle.plain_history.specs.Trials.{FitsWhenSmall, IsSize, IsTrial, head_refusal};
+ghost use Rattle.cell_bench.specs.Trials.{FitsWhenSmall, IsSize, IsTrial, head_refusal};
 
 use crate::apply::apply_edits;
 use crate::count::{narrow, record_count};

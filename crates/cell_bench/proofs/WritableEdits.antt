@@ -24,7 +24,7 @@ use Rattle.answer_laws.proofs.EditedCell.{edits_keep_writable}
 use Rattle.edit_laws.proofs.Refusals.{refusals_are_exact}
 use Rattle.edit_laws.proofs.TakenLines.{taken_edits_have_lines}
 use Rattle.record_fit.specs.Lengths.{saturated}
-use Rattle.plain_history.specs.Trials.{head_refusal, is_long_head, size_refusal_of}
+use Rattle.cell_bench.specs.Trials.{head_refusal, is_long_head, size_refusal_of}
 
 -- the size of an edited cell is that of what edits left
 pub size_of_edited : (c : Cell) (edits : List Edit) → size_refusal_of (apply_edits edits c) edits ≡ size_refusal c edits

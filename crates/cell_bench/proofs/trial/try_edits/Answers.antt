@@ -1,11 +1,11 @@
-use Rattle.std.proofs.Common.{sym, ap, ◌∙◌, subst, Some, filter_map, length}
+use Rattle.std.proofs.Common.{sym, ap, ◌∙◌, subst, Some, filter_map}
 use Rattle.std.specs.Option.{option_map_or}
 use Rattle.cell_spec.specs.Edits.{apply_edits}
 use Rattle.edit_sets.specs.FormFault.{form_fault}
 use Rattle.history_spec.specs.Steps.{edit_refusal, first_of, size_refusal}
-use Rattle.plain_history.specs.Trials.{IsSize, FitsWhenSmall, size_refusal_of}
-use Rattle.plain_history.proofs.WritableEdits.{lines_after, size_of_edited, writable_after}
-use Rattle.plain_history.proofs.trial.try_edits.Goals as goal
+use Rattle.cell_bench.specs.Trials.{IsSize, FitsWhenSmall, size_refusal_of}
+use Rattle.cell_bench.proofs.WritableEdits.{lines_after, size_of_edited, writable_after}
+use Rattle.cell_bench.proofs.trial.try_edits.Goals as goal
 
 pub judge_size-requires : goal.judge_size-requires
 judge_size-requires c =

@@ -1,0 +1,3 @@
+pub mod FindingTables
+pub mod Trials
+pub mod Benches
