@@ -31,7 +31,9 @@ EditsKeepPlaces =
 abbrev pub ReadsAreAsListed : Type 0
 ReadsAreAsListed =
     (read_set self_named (Rec (ve 1)) ≡ Name (ve 1) ∷ []) ×
+    (read_set grid (Rec (vc 1)) ≡ Name (vc 1) ∷ []) ×
     (read_set grid (Rec (ve 1)) ≡ Name (vc 1) ∷ Name (vc 2) ∷ Name (ve 1) ∷ []) ×
+    (read_set accented_line (Rec (fe 1)) ≡ Name (ve 1) ∷ Name (fe 1) ∷ Name head_name ∷ []) ×
     (read_set grid (Rec (fe 1)) ≡ Name (vc 1) ∷ Name (vc 2) ∷ Name (vc 3) ∷ Name (vc 4) ∷ Name (ve 1) ∷ Name (ve 2) ∷ Name (ve 3) ∷ Name (ve 4) ∷ Name (fe 1) ∷ Name head_name ∷ []) ×
     (read_set grid (Side (ve 1)) ≡ Name (ve 1) ∷ Name (fe 1) ∷ Name (fe 2) ∷ Refs (ve 1) ∷ []) ×
     (read_set grid (Pair (vc 1) (ve 1)) ≡ Name (vc 1) ∷ Name (vc 2) ∷ Name (ve 1) ∷ []) ×

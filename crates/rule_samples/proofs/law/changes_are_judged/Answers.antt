@@ -19,7 +19,7 @@ returns-clause-places c = (refl, refl, refl, refl)
 
 pub returns-clause-reads : goal.returns-clause-reads
 unfolding read_set
-returns-clause-reads c = (refl, refl, refl, refl, refl, refl, refl)
+returns-clause-reads c = (refl, refl, refl, refl, refl, refl, refl, refl, refl)
 
 pub returns-clause-touched : goal.returns-clause-touched
 unfolding touched_keys

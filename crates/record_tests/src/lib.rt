@@ -1,5 +1,0 @@
-//! Tests of what verdicts read, and of boxes.
-#![tactic(auto)]
-
-#[cfg(test)]
-mod tests;

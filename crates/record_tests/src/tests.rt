@@ -1,5 +1,0 @@
-mod boxes;
-mod charts;
-mod pairs;
-mod records;
-mod sides;
