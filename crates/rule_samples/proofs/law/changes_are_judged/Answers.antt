@@ -18,7 +18,7 @@ unfolding apply_edits digits
 returns-clause-places c = (refl, refl, refl, refl)
 
 pub returns-clause-reads : goal.returns-clause-reads
-unfolding read_set
+unfolding apply_edits read_set
 returns-clause-reads c = (refl, refl, refl, refl, refl, refl, refl, refl, refl)
 
 pub returns-clause-touched : goal.returns-clause-touched
