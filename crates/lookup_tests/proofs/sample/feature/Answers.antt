@@ -1,7 +1,0 @@
-use Rattle.chain_topo.proofs.SmallRecords.{feature-fits-with}
-use Rattle.lookup_tests.proofs.sample.feature.Goals as goal
-
-pub returns-clause-fits : goal.returns-clause-fits
-returns-clause-fits c =
-    feature-fits-with c.of.result c.args.foid c.make.result c.make-2.result c.make-3.result c.of_vec.result c.args.places.items
-    c.make.ensures c.make-2.ensures c.make-3.ensures c.of_vec.ensures c.of.ensures.kind c.requires.targets c.requires.few
