@@ -1,3 +1,4 @@
+mod FirstFindings
 mod Lines
 mod ShownFindings
 mod Steps

@@ -1,9 +1,8 @@
 -- The lines of the findings that a command shows.
-use Rattle.std.proofs.Common.{◌≡◌, ℕ, zero, suc, ◌≤◌, List, [], ◌∷◌, ◌++◌, length, take, map, refl, sym, ap, ◌∙◌, append_assoc, take_all, arith}
+use Rattle.std.proofs.Common.{◌≡◌, ℕ, zero, suc, ◌≤◌, List, [], ◌∷◌, ◌++◌, take, map, refl, sym, ap, ◌∙◌, append_assoc, arith}
 use Rattle.std.specs.List.{flat_map}
 use Rattle.std.specs.Prelude.{codes}
 use Rattle.std.specs.Fmt.{decimal}
-use Rattle.std.proofs.lemmas.Bool.{cases_lt}
 use Rattle.std.proofs.lemmas.List.{take-map}
 use Rattle.std.proofs.lemmas.List.Folds.{flat_map-map}
 use Rattle.s57_types.specs.declared.cell.Cell.{Cell}
@@ -58,3 +57,13 @@ lines_shown limit base shown c seen start first whole is within is_first is_whol
     ∙ (λ i. (start ++ headed base (Seen.total (is i))) ++ shown_text limit shown rows within i)
     ∙ ap (λ total. (start ++ headed base total) ++ flat_map (λ l. l) (take shown (flat_map (λ (row : Subject × List Finding). map (finding_line row.0) row.1) rows))) (row_counts rows)
     ∙ append_assoc start (headed base (finding_total c)) (flat_map (λ l. l) (take shown (flat_map (λ (row : Subject × List Finding). map (finding_line row.0) row.1) rows)))
+
+-- the lines of the first findings of all
+pub list_shown : (base shown total : ℕ) (c : Cell) (rows : List (Subject × List Finding)) (found : List SubjectFinding) (start first whole : List ℕ) → total ≡ finding_total c → rows ≡ all_findings c
+    → found ≡ take shown (findings_of_rows rows) → start ≡ [] → first ≡ start ++ headed base total → whole ≡ first ++ flat_map line_of found → whole ≡ list_lines base shown c
+list_shown base shown total c rows found start first whole is_total is_rows is_found none is_first is_whole =
+    is_whole
+    ∙ (λ i. (is_first ∙ ap (λ text. text ++ headed base total) none) i ++ flat_map line_of (is_found i))
+    ∙ (λ i. headed base (is_total i) ++ flat_map line_of (take shown (findings_of_rows (is_rows i))))
+    ∙ ap (λ text. headed base (finding_total c) ++ text)
+    (sym (ap (flat_map line_of) (taken_twice shown shown (findings_of_rows (all_findings c)) (omega arith))) ∙ shown_text shown shown (all_findings c) (omega arith))

@@ -10,7 +10,6 @@ use Rattle.text_spec.specs.declared.command.Command.TheVariants.{View, Commit, D
 use Rattle.history_spec.specs.declared.reply.Reply.{Reply}
 use Rattle.history_spec.specs.declared.reply.Reply.TheVariants.{Viewed, Formed, Newer, Refused, Accepted}
 use Rattle.history_spec.specs.ReportText.{base_after, reply_line}
-use Rattle.report_text.specs.SeenFindings.{ShowsAtMost}
 use Rattle.report_text.specs.Transcript.{IsBaseBelow, drafted_after, local_lines, transcript}
 use Rattle.report_text.proofs.Transcripts.{ended_transcript, shared_transcript, local_transcript, no_transcript}
 

@@ -1,12 +1,13 @@
 //! What a command shows of the findings of a cell.
 
-ghost use Rattle.std.specs.Prelude.{◌≡◌, ◌++◌, ◌<◌, ◌≤◌, ◌^◌, ℕ, All, IfOk, OnOk, length, take};
+ghost use Rattle.std.specs.Prelude.{◌≡◌, ◌++◌, ◌<◌, ◌≤◌, ◌^◌, ℕ, All, IfOk, OnOk, length};
 ghost use Rattle.s57_types.specs.declared.cell.Cell.{Cell as SpecCell};
 ghost use Rattle.history_spec.specs.ReportText.{list_lines};
 ghost use Rattle.report_text.specs.SeenFindings.{seen_among, seen_of};
 
+use crate::first::at_most;
 use crate::reply::push_state;
-use cell_findings::{Findings, SubjectFinding, push_findings};
+use cell_findings::{Findings, push_findings};
 use std::alloc::{AllocError, Global};
 
 /// What may be shown of a cell's findings: how many there are, and the first of them.
@@ -14,18 +15,6 @@ use std::alloc::{AllocError, Global};
 pub struct Seen {
     total: u32,
     first: Findings,
-}
-
-/// The first of some findings, at most so many.
-fn at_most(findings: &[SubjectFinding], limit: u32) -> &[SubjectFinding]
-    ensures { result.now ≡ take limit findings.now }
-{
-    let limit = limit as usize;
-    if findings.len() <= limit {
-        findings
-    } else {
-        &findings[..limit]
-    }
 }
 
 impl Seen {
@@ -37,7 +26,7 @@ impl Seen {
         ensures { IfOk result (λ seen. seen ≡ seen_among limit findings.now) }
     {
         let all = findings.as_slice();
-        let first = Vec::from_slice(alloc, at_most(all, limit))?;
+        let first = Vec::from_slice(alloc, at_most(all, limit as usize))?;
         Ok(Seen {
             total: all.len() as u32,
             first: Findings::of_vec(first),
@@ -56,5 +45,5 @@ pub(crate) fn push_list(
     ensures { (c : SpecCell) (limit : ℕ) → seen.now ≡ seen_of limit c → shown ≤ limit → OnOk result (out.new.items ≡ out.old.items ++ list_lines base shown c) }
 {
     push_state(out, "list", "seen", base, seen.total)?;
-    push_findings(out, at_most(seen.first.as_slice(), shown))
+    push_findings(out, at_most(seen.first.as_slice(), shown as usize))
 }

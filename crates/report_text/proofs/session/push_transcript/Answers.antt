@@ -1,6 +1,5 @@
-use Rattle.std.proofs.Common.{◌≤◌, ◌<◌, ◌++◌, ◌∙◌, ℕ, sym, ap, subst, map, length, arith}
+use Rattle.std.proofs.Common.{◌≤◌, ◌++◌, ◌∙◌, sym, ap, map, length, arith}
 use Rattle.std.proofs.lemmas.List.{length-map}
-use Rattle.history_spec.specs.ReportText.{base_after}
 use Rattle.report_text.specs.SeenFindings.{ShowsAtMost}
 use Rattle.report_text.specs.Transcript.{IsBaseBelow, local_lines}
 use Rattle.report_text.proofs.Steps.{base_below, none_left, one_mapped, one_of, drafted_after-le, unanswered, answered, told_alone}
