@@ -1,3 +1,4 @@
 mod Absent
+mod Counted
 mod Parts
 mod Places

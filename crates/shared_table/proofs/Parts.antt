@@ -1,9 +1,8 @@
 -- Parts of a table one after another: where a key goes, and what a change of one part makes of all rows.
-use Rattle.std.proofs.Common.{◌≡◌, ℕ, zero, suc, ◌+◌, ◌-◌, ◌<◌, ◌≤◌, List, [], ◌∷◌, ◌++◌, length, get_or, set, insert, remove, take, drop, refl, sym, ap, subst, ◌∙◌, arith, Ordering, Less, is_le, Bool, true, false, cond, All, inl, inr, append_assoc, take-append-drop, length-take, length-append}
+use Rattle.std.proofs.Common.{◌≡◌, ℕ, zero, suc, ◌+◌, ◌-◌, ◌<◌, ◌≤◌, List, [], ◌∷◌, ◌++◌, length, get_or, set, insert, remove, take, drop, refl, sym, ap, subst, ◌∙◌, arith, Ordering, Less, Equal, Greater, is_gt, is_le, Bool, true, false, cond, All, append_assoc, take-append-drop, length-take, length-append}
 use Rattle.std.specs.Cmp.{IsTotalOrder}
-use Rattle.std.specs.List.Sorted.{IsPartitionedBy, IsPartitionPoint}
+use Rattle.std.specs.List.{HoldsAt}
 use Rattle.std.proofs.Common.{take_all, length-drop, add-one, Some, None, is_some, slice_get, true≢false}
-use Rattle.std.proofs.lemmas.Bool.{cases_lt}
 use Rattle.std.proofs.lemmas.List.{get_or-map, get_or-take, length-map, map-set, map-append, take-map, drop-map}
 use Rattle.std.proofs.lemmas.List.Elements.{All-nil, All-cons, All-set, All-append, All-take, All-drop}
 use Rattle.row_table.specs.Rows.{EachKeyIs, begins_by, with_row, without_key, value_of}
@@ -26,9 +25,27 @@ set_insert (z ∷ xs) (suc i) x y lt = ap (λ rest. z ∷ rest) (set_insert xs i
 pub rest_from : {X : Type 0} (xs : List X) (k : ℕ) → take (length xs - k) (drop k xs) ≡ drop k xs
 rest_from xs k = take_all (length xs - k) (drop k xs) (omega (arith, length-drop k xs))
 
+-- an element behind the first
+from_second : {X : Type 0} (xs : List X) (i : ℕ) (x : X) → i < length (take (length xs - 1) (drop 1 xs)) → x ≡ get_or (take (length xs - 1) (drop 1 xs)) i x → (suc i < length xs) × (x ≡ get_or xs (suc i) x)
+from_second [] i x lt is = absurd (omega arith)
+from_second (y ∷ xs) i x lt is = (omega (arith, lt, ap length (rest_from (y ∷ xs) 1)), is ∙ ap (λ rest. get_or rest i x) (rest_from (y ∷ xs) 1))
+
+pub behind_first : {X : Type 0} (xs ys : List X) (i : ℕ) (x : X) → ys ≡ xs → i < length (take (length ys - 1) (drop 1 ys)) → x ≡ get_or (take (length ys - 1) (drop 1 ys)) i x → (suc i < length xs) × (x ≡ get_or xs (suc i) x)
+behind_first xs ys i x same lt is = subst (λ zs. (suc i < length zs) × (x ≡ get_or zs (suc i) x)) same (from_second ys i x lt is)
+
 one_at_most : (b : Bool) (n m : ℕ) → m ≡ n + cond b 0 1 → m ≤ n + 1
 one_at_most true n m is = omega arith
 one_at_most false n m is = omega arith
+
+is_le_of : (answer : Ordering) → is_gt answer ≡ false → is_le answer ≡ true
+is_le_of Less is = refl
+is_le_of Equal is = refl
+is_le_of Greater is = absurd (true≢false is)
+
+not_le : (answer : Ordering) → is_gt answer ≡ true → is_le answer ≡ false
+not_le Less is = absurd (true≢false (sym is))
+not_le Equal is = absurd (true≢false (sym is))
+not_le Greater is = refl
 
 module _ {K V : Type 0} where
   -- a part begins with its key
@@ -72,21 +89,6 @@ module _ {K V : Type 0} where
       let in_parts : k < length (part ∷ parts) = omega (arith, length-map (part ∷ parts) (λ p. p.1)) in
       rw (block_at-parts (part ∷ parts) k part in_parts) (begins-some _ _ (begin k part in_parts))
 
-  each-right : (cmp : K → K → Ordering) (answer : Ordering) (key : K) (front back : List (K × V)) → EachKeyIs cmp answer key (front ++ back) → EachKeyIs cmp answer key back
-  each-right cmp answer key [] back each = each
-  each-right cmp answer key (row ∷ front) back each = each-right cmp answer key front back each.1
-
-  each-first : (cmp : K → K → Ordering) (answer : Ordering) (key start : K) (front back : List (K × V)) → BeginsWith start front → EachKeyIs cmp answer key (front ++ back) → cmp start key ≡ answer
-  each-first cmp answer key start [] back begins each = absurd begins
-  each-first cmp answer key start (row ∷ front) back begins each = ap (λ k. cmp k key) (sym begins) ∙ each.0
-
-  -- the start of a part stands among the rows of the parts up to it
-  start_below : (cmp : K → K → Ordering) (key : K) (parts : List (K × List (K × V))) (i j : ℕ) (d : K × List (K × V)) → All Begins parts → i < j → j < length parts → EachKeyIs cmp Less key (joined (take j (blocks_of parts))) → cmp (get_or parts i d).0 key ≡ Less
-  start_below cmp key [] i j d begin lt within each = absurd (omega arith)
-  start_below cmp key (part ∷ parts) i zero d begin lt within each = absurd (omega arith)
-  start_below cmp key (part ∷ parts) zero (suc j) d begin lt within each = each-first cmp Less key part.0 part.1 (joined (take j (blocks_of parts))) (begin 0 part (omega arith)) each
-  start_below cmp key (part ∷ parts) (suc i) (suc j) d begin lt within each = start_below cmp key parts i j d (λ k e below. begin (suc k) e (omega arith)) (omega arith) (omega arith) (each-right cmp Less key part.1 (joined (take j (blocks_of parts))) each)
-
   pub length-blocks : (parts : List (K × List (K × V))) → length (blocks_of parts) ≡ length parts
   length-blocks parts = length-map parts (λ part. part.1)
 
@@ -101,38 +103,25 @@ module _ {K V : Type 0} where
     begins_at : (parts : List (K × List (K × V))) (k : ℕ) (d : K × List (K × V)) (answer : Bool) → All Begins parts → k < length parts → is_le (cmp (get_or parts k d).0 key) ≡ answer → begins_by cmp (block_at (blocks_of parts) k) key ≡ answer
     begins_at parts k d answer begin lt is = ap (λ rows. begins_by cmp rows key) (block_at-parts parts k d lt) ∙ begins_by-start cmp (get_or parts k d).0 key (get_or parts k d).1 (begin k d lt) ∙ is
 
-    -- the parts that start by the key stand in front
-    pub parts_parted : (parts : List (K × List (K × V))) → AreParts cmp parts → IsPartitionedBy (λ part. is_le (cmp part.0 key)) parts
-    parts_parted parts are i j d le lt begins = elim (cases_lt i j) [
-      | inl less ↦
-          let in_blocks : j < length (blocks_of parts) = omega (arith, length-map parts (λ p. p.1)) in
-          ap is_le (start_below cmp key parts i j d are.begin less lt (below_block cmp total key (blocks_of parts) j in_blocks are.ascending (begins_at parts j d true are.begin lt begins)))
-      | inr more ↦
-          let same : j ≡ i = omega arith in
-          subst (λ k. is_le (cmp (get_or parts k d).0 key) ≡ true) same begins
-    ]
-
     begins_in : (parts : List (K × List (K × V))) (k : ℕ) (d : K × List (K × V)) (answer : Bool) → AreParts cmp parts → k < length parts → is_le (cmp (get_or parts k d).0 key) ≡ answer → begins_by cmp (block_at (blocks_of parts) k) key ≡ answer
     begins_in parts k d answer are lt is = begins_at parts k d answer are.begin lt is
 
-    -- the part before the first that does not start by the key has the key or a place for it
-    pub place_found : (parts : List (K × List (K × V))) (n i : ℕ) → AreParts cmp parts → 0 < length parts → n ≤ length parts → i ≡ n - 1 → IsPartitionPoint (λ part. is_le (cmp part.0 key) ≡ true) (λ part. is_le (cmp part.0 key) ≡ false) parts n → IsBlockFor cmp (blocks_of parts) key i
-    place_found [] n i are some within is point = absurd (omega arith)
-    place_found (part ∷ parts) zero i are some within is point =
-        let first : 0 ≡ i = omega arith in
-        subst (IsBlockFor cmp (blocks_of (part ∷ parts)) key) first (record {
-          in_range = omega arith;
-          below = tt;
-          above = each-right cmp _ key part.1 (rows_of parts) (above_block cmp total key (blocks_of (part ∷ parts)) 0 (some_row (part ∷ parts) are.begin) are.ascending (λ lt. begins_in (part ∷ parts) 0 part false are (omega arith) (point.1 0 part (omega arith) (omega arith))));
-        })
-    place_found (part ∷ parts) (suc m) i are some within is point =
-        let before : m ≡ i = omega arith in
-        let in_blocks : m < length (blocks_of (part ∷ parts)) = omega (arith, length-blocks (part ∷ parts)) in
-        subst (IsBlockFor cmp (blocks_of (part ∷ parts)) key) before (record {
+    -- the part before the first behind the front one that starts above the key has the key or a place for it
+    pub place_counted : (parts : List (K × List (K × V))) (i : ℕ) → AreParts cmp parts → i < length parts → (0 < i → HoldsAt (λ part. is_gt (cmp part.0 key) ≡ false) parts i) → (suc i < length parts → HoldsAt (λ part. is_gt (cmp part.0 key) ≡ true) parts (suc i)) → IsBlockFor cmp (blocks_of parts) key i
+    place_counted [] i are lt from to = absurd (omega arith)
+    place_counted (part ∷ parts) i are lt from to =
+        let in_blocks : i < length (blocks_of (part ∷ parts)) = omega (arith, lt, length-blocks (part ∷ parts)) in
+        record {
           in_range = in_blocks;
-          below = below_block cmp total key (blocks_of (part ∷ parts)) m in_blocks are.ascending (begins_in (part ∷ parts) m part true are (omega arith) (point.0 m part (omega arith) (omega arith)));
-          above = above_block cmp total key (blocks_of (part ∷ parts)) (suc m) (some_row (part ∷ parts) are.begin) are.ascending (λ lt. begins_in (part ∷ parts) (suc m) part false are (omega (arith, length-blocks (part ∷ parts))) (point.1 (suc m) part (omega arith) (omega (arith, length-blocks (part ∷ parts)))));
-        })
+          below = before i in_blocks from;
+          above = above_block cmp total key (blocks_of (part ∷ parts)) (suc i) (some_row (part ∷ parts) are.begin) are.ascending (λ next.
+              let in_parts : suc i < length (part ∷ parts) = omega (arith, next, length-blocks (part ∷ parts)) in
+              begins_in (part ∷ parts) (suc i) part false are in_parts (not_le _ (to in_parts part)));
+        }
+      where
+        before : (k : ℕ) → k < length (blocks_of (part ∷ parts)) → (0 < k → HoldsAt (λ p. is_gt (cmp p.0 key) ≡ false) (part ∷ parts) k) → EachKeyIs cmp Less key (joined (take k (blocks_of (part ∷ parts))))
+        before zero in_blocks starts = tt
+        before (suc k) in_blocks starts = below_block cmp total key (blocks_of (part ∷ parts)) (suc k) in_blocks are.ascending (begins_in (part ∷ parts) (suc k) part true are (omega (arith, in_blocks, length-blocks (part ∷ parts))) (is_le_of _ (starts (omega arith) part)))
 
   -- ---- a change of one part
 

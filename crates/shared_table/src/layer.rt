@@ -30,14 +30,18 @@ impl<K: Ord + Drop, V, P: Piece<K, V>> Model for Layer<K, V, P> {
 }
 
 impl<K: Ord + Drop, V: Drop, P: Piece<K, V>> Layer<K, V, P> {
-    // The place of the piece that has the key or that the key goes to.
+    // The place of the piece that has the key or that the key goes to. Keys are compared from the front: they are few, and the processor
+    // foresees the branches of a search by halves so seldom that it takes longer.
     fn place_for(&self, key: &K) -> usize
         requires { 0 < length self.now }
         ensures { IsBlockFor K.cmp (blocks_of self.now) key.now result }
     {
-        self.entries
-            .partition_point(|entry| entry.key().cmp(key).is_le())
-            .saturating_sub(1)
+        for (place, entry) in self.entries[1..].iter().enumerate() {
+            if entry.key().cmp(key).is_gt() {
+                return place;
+            }
+        }
+        self.entries.len() - 1
     }
 
     // How many rows the pieces before a place have.
@@ -151,7 +155,8 @@ fn share_entries<K: Ord + Copy + Drop, V: Drop, P: Piece<K, V>>(
 ) -> Result<Vec<Entry<K, V, P>>, AllocError>
     ensures { IfOk result (λ twins. twins.items ≡ entries.now) }
 {
-    let mut twins = Vec::with_capacity(alloc, entries.len())?;
+    // Mostly a copy is made for a put, which then finds room for one more.
+    let mut twins = Vec::with_capacity(alloc, entries.len().max(PIECE_ROWS))?;
     for entry in entries {
         twins.push(entry.share()?)?;
     }

@@ -8,6 +8,7 @@ ghost use Rattle.shared_table.specs.Pieces.{IsRunAt, BeginsWith, AreHalves};
 use crate::piece::{ChangingPiece, PIECE_ROWS, Piece};
 use s57_types::Duplicate;
 use std::alloc::{AllocError, Global};
+use std::cmp::Ordering;
 use std::marker::Model;
 
 /// Rows in one vector.
@@ -28,11 +29,18 @@ impl<K: Ord, V> Model for Run<K, V> {
 }
 
 impl<K: Ord + Drop, V: Drop> Run<K, V> {
-    // Where the key's row is, or where it would go.
+    // Where the key's row is, or where it would go. Keys are compared from the front, as those of a layer.
     fn search(&self, key: &K) -> Result<usize, usize>
         ensures { MatchResult result (IsRowAt K.cmp self.now key.now) (IsGapAt K.cmp self.now key.now) }
     {
-        self.rows.binary_search_by(|row| row.0.cmp(key))
+        for (place, row) in self.rows.iter().enumerate() {
+            match row.0.cmp(key) {
+                Ordering::Less => {}
+                Ordering::Equal => return Ok(place),
+                Ordering::Greater => return Err(place),
+            }
+        }
+        Err(self.rows.len())
     }
 }
 
@@ -129,7 +137,8 @@ fn copy_rows<K: Copy + Drop, V: Duplicate + Drop>(
 ) -> Result<Vec<(K, V)>, AllocError>
     ensures { IfOk result (λ twins. twins.items ≡ rows.now) }
 {
-    let mut twins = Vec::with_capacity(alloc, rows.len())?;
+    // Mostly a copy is made for a put, which then finds room for one more.
+    let mut twins = Vec::with_capacity(alloc, rows.len().max(PIECE_ROWS))?;
     for (key, value) in rows {
         twins.push((*key, value.copy(alloc)?))?;
     }
