@@ -1,16 +1,15 @@
 -- Accepted commits behind a base, with their numbers and their edit sets.
-use Rattle.std.proofs.Common.{◌≡◌, ℕ, zero, suc, ◌+◌, List, [], ◌∷◌, All, drop, map, refl, sym, ap, subst, ◌∙◌, arith}
-use Rattle.std.specs.Prelude.{Result, Ok, Err, IfOk}
+use Rattle.std.proofs.Common.{◌≡◌, ℕ, zero, suc, ◌+◌, List, [], ◌∷◌, All, drop, length, map, refl, sym, ap, subst, ◌∙◌, arith}
 use Rattle.std.specs.List.{enumerate_from}
-use Rattle.std.proofs.lemmas.List.{drop-map}
-use Rattle.std.proofs.lemmas.List.Elements.{All-drop, All-map}
+use Rattle.std.proofs.lemmas.List.{drop-map, length-map}
+use Rattle.std.proofs.lemmas.List.Elements.{All-map}
 use Rattle.s57_types.specs.declared.cell.Cell.{Cell}
 use Rattle.edit_sets.specs.FormFault.{GuardedEdits}
 use Rattle.history_spec.specs.declared.entry.Entry.{Entry}
 use Rattle.history_spec.specs.Entries.{replayed}
 use Rattle.history_spec.specs.Steps.{AcceptedCommit}
 use Rattle.commit_book.specs.declared.accepted.Accepted.{Accepted as Taken}
-use Rattle.commit_book.specs.Books.{AreSetsOf, IsKept, commit_of, set_in}
+use Rattle.commit_book.specs.Books.{AreSetsOf, IsKept, accepted_sets, commit_of, set_in}
 
 -- the items behind the first, with their numbers
 numbered_behind : {X : Type 0} (b n : ℕ) (xs : List X) → enumerate_from (n + b) (drop b xs) ≡ drop b (enumerate_from n xs)
@@ -28,22 +27,16 @@ same_edits : (accepted : List Taken) → map (λ (set : GuardedEdits). set.edits
 same_edits [] = refl
 same_edits (taken ∷ accepted) = ap (λ all. taken.set.edits ∷ all) (same_edits accepted)
 
--- the edit sets of the commits behind a base
-sets_behind : (c : Cell) (entries : List Entry) (cell : Cell) (accepted : List Taken) (base : ℕ) → IsKept c entries cell accepted → (sets : List GuardedEdits) → sets ≡ map set_in (drop base accepted)
-    → AreSetsOf c.head.nall (drop base (replayed c entries).commits) sets
-sets_behind c entries cell accepted base kept sets are = record {
-  edits = ap (map (λ (set : GuardedEdits). set.edits)) are
-      ∙ same_edits (drop base accepted)
-      ∙ ap (map (λ (commit : AcceptedCommit). commit.edits)) (sym (drop-map commit_of base accepted) ∙ ap (drop base) kept.commits_are);
-  levels = subst (All (λ (set : GuardedEdits). set.nall ≡ c.head.nall)) (sym are)
-      (All-map (λ (set : GuardedEdits). set.nall ≡ c.head.nall) set_in (drop base accepted) (All-drop (λ (taken : Taken). taken.set.nall ≡ c.head.nall) base accepted kept.levels));
-}
+-- what a book keeps of the edit sets of its commits
+module _ (c : Cell) (entries : List Entry) (cell : Cell) (accepted : List Taken) (kept : IsKept c entries cell accepted) where
+  pub sets_behind : (base : ℕ) → map set_in (drop base accepted) ≡ drop base (accepted_sets entries)
+  sets_behind base = sym (drop-map set_in base accepted) ∙ ap (drop base) kept.sets_are
 
-ok_then : {T E : Type 0} (P Q : T → Type 0) → ((x : T) → P x → Q x) → (result : Result T E) → IfOk result P → IfOk result Q
-ok_then P Q f (Ok x) p = f x p
-ok_then P Q f (Err e) p = tt
+  pub as_many_sets : length (replayed c entries).commits ≡ length (accepted_sets entries)
+  as_many_sets = sym (ap length kept.commits_are) ∙ length-map accepted commit_of ∙ sym (length-map accepted set_in) ∙ ap length kept.sets_are
 
-pub sets_told_behind : {V E : Type 0} (items : V → List GuardedEdits) (c : Cell) (entries : List Entry) (cell : Cell) (accepted : List Taken) (base : ℕ) → IsKept c entries cell accepted → (result : Result V E)
-    → IfOk result (λ sets. items sets ≡ map set_in (drop base accepted)) → IfOk result (λ sets. AreSetsOf c.head.nall (drop base (replayed c entries).commits) (items sets))
-sets_told_behind items c entries cell accepted base kept =
-    ok_then (λ sets. items sets ≡ map set_in (drop base accepted)) (λ sets. AreSetsOf c.head.nall (drop base (replayed c entries).commits) (items sets)) (λ sets. sets_behind c entries cell accepted base kept (items sets))
+  pub sets_of_commits : AreSetsOf c.head.nall (replayed c entries).commits (accepted_sets entries)
+  sets_of_commits = record {
+    edits = ap (map (λ (set : GuardedEdits). set.edits)) (sym kept.sets_are) ∙ same_edits accepted ∙ ap (map (λ (commit : AcceptedCommit). commit.edits)) kept.commits_are;
+    levels = subst (All (λ (set : GuardedEdits). set.nall ≡ c.head.nall)) kept.sets_are (All-map (λ (set : GuardedEdits). set.nall ≡ c.head.nall) set_in accepted kept.levels);
+  }

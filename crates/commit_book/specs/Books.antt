@@ -1,11 +1,13 @@
 -- The log of an editing history: what it is seen as, what it keeps, and what its calls answer and leave. This project's own rules.
-use Rattle.std.specs.Prelude.{◌≡◌, ℕ, ◌≤◌, List, [], ◌∷◌, ◌++◌, length, map, drop, All}
+use Rattle.std.specs.Prelude.{◌≡◌, ℕ, ◌≤◌, List, [], ◌∷◌, ◌++◌, length, map, drop, filter_map, All, Option, None, Some}
 use Rattle.s57_types.specs.declared.cell.Cell.{Cell}
 use Rattle.edit_sets.specs.FormFault.{GuardedEdits}
 use Rattle.rule_spec.specs.Findings.{finding_total}
 use Rattle.history_spec.specs.declared.entry.Asked.{Asked}
+use Rattle.history_spec.specs.declared.entry.Asked.TheVariants.{View, Faulty, Commit}
 use Rattle.history_spec.specs.declared.entry.Entry.{Entry}
 use Rattle.history_spec.specs.declared.reply.Brief.{Brief}
+use Rattle.history_spec.specs.declared.reply.Brief.TheVariants as brief
 use Rattle.history_spec.specs.declared.reply.Reply.{Reply}
 use Rattle.history_spec.specs.declared.reply.Reply.TheVariants.{Viewed, Formed, Newer, Refused, Accepted}
 use Rattle.history_spec.specs.Entries.{AreTold, brief_of, event_asked, replayed}
@@ -35,12 +37,38 @@ history_of book = replayed book.opening book.entries
 abbrev pub commit_of : Taken → AcceptedCommit
 commit_of taken = record { desk = taken.desk; edits = taken.set.edits }
 
+abbrev pub set_in : Taken → GuardedEdits
+set_in taken = taken.set
+
+-- the edit set of an entry whose answer accepts it
+abbrev pub accepted_by : Asked → Brief → Option GuardedEdits
+accepted_by View told = None
+accepted_by (Faulty fault) told = None
+accepted_by (Commit base set) (brief.Viewed number findings) = None
+accepted_by (Commit base set) (brief.Formed fault) = None
+accepted_by (Commit base set) (brief.Newer number name desk) = None
+accepted_by (Commit base set) (brief.Refused refusal) = None
+accepted_by (Commit base set) (brief.Accepted number findings) = Some set
+
+abbrev pub accepted_in : Entry → Option GuardedEdits
+accepted_in e = accepted_by e.asked e.brief
+
+-- the edit sets that entries accept, in their order
+abbrev pub accepted_sets : List Entry → List GuardedEdits
+accepted_sets = filter_map accepted_in
+
+-- the edit sets of commits, each for a level of national texts
+pub record AreSetsOf (level : ℕ) (commits : List AcceptedCommit) (sets : List GuardedEdits) : Type 0 where
+  pub edits : map (λ (set : GuardedEdits). set.edits) sets ≡ map (λ (accepted : AcceptedCommit). accepted.edits) commits
+  pub levels : All (λ (set : GuardedEdits). set.nall ≡ level) sets
+
 -- each entry has the answer at its point; the cell and the accepted commits are those that the entries leave, and each of these commits is for
 -- the opening's level of national texts
 pub record IsKept (c : Cell) (entries : List Entry) (cell : Cell) (accepted : List Taken) : Type 0 where
   pub told : AreTold c entries
   pub cell_is : cell ≡ (replayed c entries).cell
   pub commits_are : map commit_of accepted ≡ (replayed c entries).commits
+  pub sets_are : map set_in accepted ≡ accepted_sets entries
   pub levels : All (λ (taken : Taken). taken.set.nall ≡ c.head.nall) accepted
   pub few : length accepted ≤ length entries
   pub within : length entries ≤ entry_limit
@@ -64,22 +92,16 @@ abbrev pub IsBookRefusal : List Entry → BookRefusal → Type 0
 IsBookRefusal entries LogFull = length entries ≡ entry_limit
 IsBookRefusal entries NoMemory = Unit {0}
 
--- the accepted commits of which an answer tells: those after a base, where the base moves
-abbrev pub commits_told : Reply → ℕ → List AcceptedCommit → List AcceptedCommit
-commits_told (Viewed number findings) base commits = drop base commits
-commits_told (Formed fault) base commits = []
-commits_told (Newer number name desk edit) base commits = []
-commits_told (Refused refusal) base commits = []
-commits_told (Accepted number findings) base commits = drop base commits
+-- the news of an answer: the edit sets that were accepted after a base, where the base moves
+abbrev pub news_of : Reply → ℕ → List GuardedEdits → List GuardedEdits
+news_of (Viewed number findings) base sets = drop base sets
+news_of (Formed fault) base sets = []
+news_of (Newer number name desk edit) base sets = []
+news_of (Refused refusal) base sets = []
+news_of (Accepted number findings) base sets = drop base sets
 
--- the edit sets of commits, each for a level of national texts
-pub record AreSetsOf (level : ℕ) (commits : List AcceptedCommit) (sets : List GuardedEdits) : Type 0 where
-  pub edits : map (λ (set : GuardedEdits). set.edits) sets ≡ map (λ (accepted : AcceptedCommit). accepted.edits) commits
-  pub levels : All (λ (set : GuardedEdits). set.nall ≡ level) sets
-
--- the news are the edit sets of the commits of which the answer tells, each for the opening's level of national texts
 abbrev pub IsNews : ℕ → BookState → Told → Type 0
-IsNews base new told = AreSetsOf new.opening.head.nall (commits_told told.reply base (history_of new).commits) told.news
+IsNews base new told = told.news ≡ news_of told.reply base (accepted_sets new.entries)
 
 -- edit sets, where an answer accepts the last of them
 abbrev pub sets_told : Reply → List GuardedEdits → List GuardedEdits
@@ -88,9 +110,6 @@ sets_told (Formed fault) sets = []
 sets_told (Newer number name desk edit) sets = []
 sets_told (Refused refusal) sets = []
 sets_told (Accepted number findings) sets = sets
-
-abbrev pub set_in : Taken → GuardedEdits
-set_in taken = taken.set
 
 -- the answer tells of a newer commit
 abbrev pub IsNewer : Reply → Type 0

@@ -4,7 +4,7 @@ ghost use Rattle.std.specs.Prelude.{◌≡◌, ◌≤◌, [], Err, IfOk, IfErr, 
 ghost use Rattle.cell_spec.specs.Writable.{IsWritable};
 ghost use Rattle.history_spec.specs.Entries.{AreTold};
 ghost use Rattle.cell_bench.specs.Benches.{IsLoadRefusal};
-ghost use Rattle.commit_book.specs.Books.{AreSetsOf, IsBookRefusal, IsEntered, IsNews, IsOpened, entry_limit, history_of};
+ghost use Rattle.commit_book.specs.Books.{AreSetsOf, IsBookRefusal, IsEntered, IsNews, IsOpened, accepted_sets, entry_limit, history_of};
 
 use crate::accepted::Accepted;
 use crate::refusal::BookRefusal;
@@ -61,11 +61,12 @@ impl Book {
         })
     }
 
-    /// What every book keeps: each entry has the answer at its point, the level of national texts is that of the opening, there
-    /// are at most 1,000,000 entries, and the cell can be written.
+    /// What every book keeps: each entry has the answer at its point, the level of national texts is that of the opening, the edit
+    /// sets that were accepted are those of the commits, there are at most 1,000,000 entries, and the cell can be written.
     pub fn known(&self)
         ensures told { AreTold self.now.opening self.now.entries }
         ensures level { (history_of self.now).cell.head.nall ≡ self.now.opening.head.nall }
+        ensures sets { AreSetsOf self.now.opening.head.nall (history_of self.now).commits (accepted_sets self.now.entries) }
         ensures within { length self.now.entries ≤ entry_limit }
         ensures writable { IsWritable (history_of self.now).cell }
     {
@@ -103,7 +104,8 @@ impl Book {
     /// The edit sets that were accepted after a base.
     fn sets_after(&self, alloc: Global, base: u32) -> Result<Vec<EditSet>, AllocError>
         requires { base ≤ length (history_of self.now).commits }
-        ensures { IfOk result (λ sets. AreSetsOf self.now.opening.head.nall (drop base (history_of self.now).commits) sets.items) }
+        ensures sets { IfOk result (λ sets. sets.items ≡ drop base (accepted_sets self.now.entries)) }
+        ensures within { base ≤ length (accepted_sets self.now.entries) }
     {
         sets_after(alloc, self.accepted.as_slice(), base)
     }

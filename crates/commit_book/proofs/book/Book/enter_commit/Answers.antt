@@ -1,4 +1,4 @@
-use Rattle.std.proofs.Common.{map, sym, ap, subst, ◌∙◌}
+use Rattle.std.proofs.Common.{◌≡◌, map, sym, ap, subst, ◌∙◌}
 use Rattle.s57_types.specs.declared.cell.Cell.{Cell}
 use Rattle.edit_sets.specs.FormFault.{GuardedEdits}
 use Rattle.history_spec.specs.Steps.{newer_answer}
@@ -22,7 +22,7 @@ accept-requires-clause-answered g c =
     let book = c.self.inside in
     let set = c.edits-set.result.now in
     let base = c.base-base.result in
-    let newer = c.in_ok-reply.ensures.same ∙ ap (λ accepted. newer_answer (map commit_of accepted) base set.edits set.guards) c.as_slice.ensures.value in
+    let newer = subst (λ accepted. c.in_ok-reply.field-0 ≡ newer_answer (map commit_of accepted) base set.edits set.guards) c.as_slice.ensures.value c.in_ok-reply.ensures.same in
     commit_accepted c.args.self.now (book_state book.opening.value book.entries.items) book.bench book.accepted.items c.self.view_is c.self.invariant base set (sym newer ∙ c.in_default.is) c.in-Ok.plan c.in-Ok.ensures
 
 pub refuse-requires-in-Err-State-clause-answered : goal.refuse-requires-in-Err-State-clause-answered
@@ -30,6 +30,6 @@ refuse-requires-in-Err-State-clause-answered g c =
     let book = c.self.inside in
     let set = c.edits-set.result.now in
     let base = c.base-base.result in
-    let newer = c.in_ok-reply.ensures.same ∙ ap (λ accepted. newer_answer (map commit_of accepted) base set.edits set.guards) c.as_slice.ensures.value in
+    let newer = subst (λ accepted. c.in_ok-reply.field-0 ≡ newer_answer (map commit_of accepted) base set.edits set.guards) c.as_slice.ensures.value c.in_ok-reply.ensures.same in
     commit_refused c.args.self.now (book_state book.opening.value book.entries.items) book.bench book.accepted.items c.self.view_is c.self.invariant base set (sym newer ∙ c.in_default.is) c.in-Err-State.refusal
     (subst (IsPlanRefusal book.bench set.edits) c.in-Err-State.field-0-is c.in-Err-State.ensures)
