@@ -8,7 +8,7 @@ ghost use Rattle.commit_book.specs.Books.{AreSetsOf, IsBookRefusal, IsEntered, I
 
 use crate::accepted::Accepted;
 use crate::refusal::BookRefusal;
-use crate::told::{EditSets, Told, news_of, sets_after, with_set};
+use crate::told::{EditSets, Told, sets_after, sets_told, with_set};
 use cell_bench::{Bench, LoadRefusal, Prepared};
 use chain_topo::Steps;
 use edit_sets::{EditSet, FormFault};
@@ -176,7 +176,7 @@ impl Book {
         let newer = self.sets_after(alloc, prepared.base())?;
         let sets = with_set(alloc, newer, prepared.edits())?;
         let reply = self.enter_commit(alloc, desk, prepared, steps)?;
-        let news = news_of(alloc, &reply, sets);
+        let news = sets_told(alloc, &reply, sets);
         Ok(Told { reply, news })
     }
 }

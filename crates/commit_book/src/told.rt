@@ -2,7 +2,7 @@
 
 ghost use Rattle.std.specs.Prelude.{◌≡◌, ◌≤◌, ◌++◌, [], ◌∷◌, IfOk, drop, length, map};
 ghost use Rattle.history_spec.specs.Entries.{brief_of as spec_brief_of};
-ghost use Rattle.commit_book.specs.Books.{set_in, sets_told};
+ghost use Rattle.commit_book.specs.Books.{set_in, sets_told as spec_sets_told};
 
 use crate::accepted::Accepted;
 use edit_sets::EditSet;
@@ -79,8 +79,8 @@ pub(crate) fn with_set(
 }
 
 /// The news of a commit: the edit sets up to its own, if it is accepted.
-pub(crate) fn news_of(alloc: Global, reply: &Reply, sets: Vec<EditSet>) -> EditSets
-    ensures { result ≡ sets_told reply.now sets.items }
+pub(crate) fn sets_told(alloc: Global, reply: &Reply, sets: Vec<EditSet>) -> EditSets
+    ensures { result ≡ spec_sets_told reply.now sets.items }
 {
     match reply {
         Reply::Accepted { .. } => EditSets::of_vec(sets),

@@ -10,7 +10,7 @@ returns-clause-ok g c =
     let reply = c.in_ok-reply.reply in
     let told = c.in_ok-reply.ensures in
     let newer = c.in_ok-newer.ensures.sets ∙ ap (λ n. drop n (accepted_sets old.entries)) c.base.ensures in
-    let all = c.news_of-news.ensures ∙ ap (sets_told reply) (c.in_ok-sets.ensures ∙ (λ i. newer i ++ c.edits.ensures i ∷ [])) in (
+    let all = c.sets_told-news.ensures ∙ ap (sets_told reply) (c.in_ok-sets.ensures ∙ (λ i. newer i ++ c.edits.ensures i ∷ [])) in (
       told.ok,
       all ∙ commit_news old c.enter_commit.new.self c.args.desk base c.args.prepared.now.edits reply told.ok told.verdict
           (subst (λ n. n ≤ length (accepted_sets old.entries)) c.base.ensures c.sets_after.ensures.within),
