@@ -1,6 +1,8 @@
 -- The log of an editing history: what it is seen as, what it keeps, and what its calls answer and leave. This project's own rules.
 use Rattle.std.specs.Prelude.{◌≡◌, ℕ, ◌≤◌, List, [], ◌∷◌, ◌++◌, length, map, drop, filter_map, All, Option, None, Some}
 use Rattle.s57_types.specs.declared.cell.Cell.{Cell}
+use Rattle.s57_types.specs.declared.name.RecName.{RecName}
+use Rattle.cell_spec.specs.declared.edit.Edit.{Edit}
 use Rattle.edit_sets.specs.FormFault.{GuardedEdits}
 use Rattle.rule_spec.specs.Findings.{finding_total}
 use Rattle.history_spec.specs.declared.entry.Asked.{Asked}
@@ -11,7 +13,7 @@ use Rattle.history_spec.specs.declared.reply.Brief.TheVariants as brief
 use Rattle.history_spec.specs.declared.reply.Reply.{Reply}
 use Rattle.history_spec.specs.declared.reply.Reply.TheVariants.{Viewed, Formed, Newer, Refused, Accepted}
 use Rattle.history_spec.specs.Entries.{AreTold, brief_of, event_asked, replayed}
-use Rattle.history_spec.specs.Steps.{AcceptedCommit, History, answer, finding_limit}
+use Rattle.history_spec.specs.Steps.{AcceptedCommit, History, answer, clash_with, commit, finding_limit, first_of}
 use Rattle.commit_book.specs.declared.accepted.Accepted.{Accepted as Taken}
 use Rattle.commit_book.specs.declared.refusal.BookRefusal.{BookRefusal}
 use Rattle.commit_book.specs.declared.refusal.BookRefusal.TheVariants.{LogFull, NoMemory}
@@ -32,6 +34,10 @@ book_state c entries = record { opening = c; entries = entries }
 -- the state of the history that its entries leave
 abbrev pub history_of : BookState → History
 history_of book = replayed book.opening book.entries
+
+-- the answer of a book to a commit
+abbrev pub answer_to : BookState → ℕ → GuardedEdits → Reply
+answer_to book base set = answer (history_of book) (commit base set.edits set.guards)
 
 -- an accepted commit without its guards
 abbrev pub commit_of : Taken → AcceptedCommit
@@ -92,6 +98,11 @@ abbrev pub IsBookRefusal : List Entry → BookRefusal → Type 0
 IsBookRefusal entries LogFull = length entries ≡ entry_limit
 IsBookRefusal entries NoMemory = Unit {0}
 
+-- there are as many entries as there may be
+pub record IsFull (entries : List Entry) (why : BookRefusal) : Type 0 where
+  pub why_is : why ≡ LogFull
+  pub full : length entries ≡ entry_limit
+
 -- the news of an answer: the edit sets that were accepted after a base, where the base moves
 abbrev pub news_of : Reply → ℕ → List GuardedEdits → List GuardedEdits
 news_of (Viewed number findings) base sets = drop base sets
@@ -110,6 +121,10 @@ sets_told (Formed fault) sets = []
 sets_told (Newer number name desk edit) sets = []
 sets_told (Refused refusal) sets = []
 sets_told (Accepted number findings) sets = sets
+
+-- the answer where one of some commits, each with its number, clashes with edits and guards: the first that does
+abbrev pub first_clash : List Edit → List RecName → List (ℕ × AcceptedCommit) → Option Reply
+first_clash edits guards commits = first_of (filter_map (clash_with edits guards) commits)
 
 -- the answer tells of a newer commit
 abbrev pub IsNewer : Reply → Type 0

@@ -115,7 +115,8 @@ impl Book {
     /// An `Err` says that there are as many entries as there may be, or is want of memory; nothing is changed then.
     pub fn view(&mut self, alloc: Global, desk: u32, base: u32) -> Result<Told, BookRefusal>
         requires { base ≤ length (history_of self.old).commits }
-        ensures ok { IfOk result (λ told. IsEntered self.old desk Asked.View self.new told.reply × IsNews base self.new told) }
+        ensures ok { IfOk result (λ told. IsEntered self.old desk Asked.View self.new told.reply) }
+        ensures news { IfOk result (IsNews base self.new) }
         ensures err { IfErr result (λ why. IsBookRefusal self.old.entries why × (self.new ≡ self.old)) }
         ensures full { length self.old.entries ≡ entry_limit → result ≡ Err BookRefusal.LogFull }
     {
@@ -141,7 +142,8 @@ impl Book {
         desk: u32,
         fault: FormFault,
     ) -> Result<Told, BookRefusal>
-        ensures ok { IfOk result (λ told. IsEntered self.old desk (Asked.Faulty fault) self.new told.reply × (told.news ≡ [])) }
+        ensures ok { IfOk result (λ told. IsEntered self.old desk (Asked.Faulty fault) self.new told.reply) }
+        ensures news { IfOk result (λ told. told.news ≡ []) }
         ensures err { IfErr result (λ why. IsBookRefusal self.old.entries why × (self.new ≡ self.old)) }
         ensures full { length self.old.entries ≡ entry_limit → result ≡ Err BookRefusal.LogFull }
     {
@@ -168,7 +170,8 @@ impl Book {
         requires base { prepared.now.base ≤ length (history_of self.old).commits }
         requires level { prepared.now.edits.nall ≡ self.old.opening.head.nall }
         requires rows { prepared.now.rows ≡ [] }
-        ensures ok { IfOk result (λ told. IsEntered self.old desk (Asked.Commit prepared.now.base prepared.now.edits) self.new told.reply × IsNews prepared.now.base self.new told) }
+        ensures ok { IfOk result (λ told. IsEntered self.old desk (Asked.Commit prepared.now.base prepared.now.edits) self.new told.reply) }
+        ensures news { IfOk result (IsNews prepared.now.base self.new) }
         ensures err { IfErr result (λ why. IsBookRefusal self.old.entries why × (self.new ≡ self.old)) }
         ensures full { length self.old.entries ≡ entry_limit → result ≡ Err BookRefusal.LogFull }
     {

@@ -4,8 +4,8 @@ ghost use Rattle.std.specs.Prelude.{◌≡◌, ◌+◌, ◌≤◌, ◌<◌, [], 
 ghost use Rattle.cell_spec.specs.Edits.{apply_edits};
 ghost use Rattle.rule_spec.specs.Findings.{finding_total};
 ghost use Rattle.history_spec.specs.Entries.{event_asked};
-ghost use Rattle.history_spec.specs.Steps.{answer as spec_answer, commit as spec_commit};
-ghost use Rattle.commit_book.specs.Books.{IsEntered, IsVerdict, LeavesCommits, entry_limit, history_of};
+ghost use Rattle.history_spec.specs.Steps.{answer};
+ghost use Rattle.commit_book.specs.Books.{IsEntered, IsFull, IsVerdict, LeavesCommits, answer_to, entry_limit, history_of};
 
 use crate::accepted::Accepted;
 use crate::book::Book;
@@ -26,7 +26,7 @@ const ENTRY_LIMIT: usize = 1_000_000;
 impl Book {
     /// Whether an entry can be added.
     pub(crate) fn need_room(&self) -> Result<(), BookRefusal>
-        ensures { MatchResult result (λ _. length self.now.entries < entry_limit) (λ why. (why ≡ BookRefusal.LogFull) × (length self.now.entries ≡ entry_limit)) }
+        ensures { MatchResult result (λ _. length self.now.entries < entry_limit) (IsFull self.now.entries) }
     {
         if self.entries.len() >= ENTRY_LIMIT {
             return Err(BookRefusal::LogFull);
@@ -42,7 +42,7 @@ impl Book {
         reply: &Reply,
     ) -> Result<(), BookRefusal>
         requires room { length self.old.entries < entry_limit }
-        requires answered { reply.now ≡ spec_answer (history_of self.old) (event_asked asked) }
+        requires answered { reply.now ≡ answer (history_of self.old) (event_asked asked) }
         requires leaves { LeavesCommits reply.now }
         ensures ok { OnOk result (IsEntered self.old desk asked self.new reply.now) }
         ensures err { IfErr result (λ why. (why ≡ BookRefusal.NoMemory) × (self.new ≡ self.old)) }
@@ -63,7 +63,7 @@ impl Book {
         reply: &Reply,
     ) -> Result<(), BookRefusal>
         requires room { length self.old.entries < entry_limit }
-        requires answered { reply.now ≡ spec_answer (history_of self.old) (spec_commit base set.now.edits set.now.guards) }
+        requires answered { reply.now ≡ answer_to self.old base set.now }
         requires leaves { LeavesCommits reply.now }
         ensures ok { OnOk result (IsEntered self.old desk (Asked.Commit base set.now) self.new reply.now) }
         ensures err { IfErr result (λ why. (why ≡ BookRefusal.NoMemory) × (self.new ≡ self.old)) }
@@ -87,7 +87,7 @@ impl Book {
         requires room { length self.old.entries < entry_limit }
         requires level { set.now.nall ≡ self.old.opening.head.nall }
         requires planned { plan ≡ apply_edits set.now.edits (history_of self.old).cell }
-        requires answered { spec_answer (history_of self.old) (spec_commit base set.now.edits set.now.guards) ≡ Reply.Accepted (length (history_of self.old).commits + 1) (finding_total plan) }
+        requires answered { answer_to self.old base set.now ≡ Reply.Accepted (length (history_of self.old).commits + 1) (finding_total plan) }
         ensures ok { IfOk result (IsEntered self.old desk (Asked.Commit base set.now) self.new) }
         ensures verdict { IfOk result IsVerdict }
         ensures err { IfErr result (λ why. (why ≡ BookRefusal.NoMemory) × (self.new ≡ self.old)) }

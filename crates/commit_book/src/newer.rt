@@ -1,9 +1,9 @@
 //! The clash of a commit with a newer one.
 
-ghost use Rattle.std.specs.Prelude.{◌≡◌, ◌+◌, ◌≤◌, ◌<◌, ◌^◌, IfOk, IfSome, filter_map, length, map};
+ghost use Rattle.std.specs.Prelude.{◌≡◌, ◌+◌, ◌≤◌, ◌<◌, ◌^◌, IfOk, IfSome, length, map};
 ghost use Rattle.std.specs.List.{enumerate_from};
-ghost use Rattle.history_spec.specs.Steps.{clash_with as spec_clash_with, first_of, newer_answer as spec_newer_answer};
-ghost use Rattle.commit_book.specs.Books.{IsNewer, commit_of};
+ghost use Rattle.history_spec.specs.Steps.{clash_with as spec_clash_with, newer_answer as spec_newer_answer};
+ghost use Rattle.commit_book.specs.Books.{IsNewer, commit_of, first_clash as spec_first_clash};
 
 use crate::accepted::Accepted;
 use crate::names::least_contested;
@@ -44,7 +44,7 @@ fn first_clash(
     newer: &[Accepted],
 ) -> Result<Option<Reply>, AllocError>
     requires { before + length newer.now < 2 ^ 32 }
-    ensures same { IfOk result (λ reply. reply ≡ first_of (filter_map (spec_clash_with set.now.edits set.now.guards) (enumerate_from (before + 1) (map commit_of newer.now)))) }
+    ensures same { IfOk result (λ reply. reply ≡ spec_first_clash set.now.edits set.now.guards (enumerate_from (before + 1) (map commit_of newer.now))) }
     ensures newer { IfOk result (λ reply. IfSome reply IsNewer) }
 {
     for (k, accepted) in newer.iter().enumerate() {

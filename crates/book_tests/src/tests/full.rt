@@ -2,21 +2,34 @@
 
 ghost use Rattle.std.specs.Prelude.{◌≡◌, ◌<◌};
 
-use super::books::{Offer, node_name, open_book, set_for};
-use cell_spec::{Edit, Rows};
-use commit_book::{BookRefusal, Prepared, Told};
+use super::books::{Offer, open_book, prepared};
+use commit_book::{Book, BookRefusal, Told};
 use edit_sets::FormFault;
 use look_counter::start_counter;
+use s57_types::Kind::Vc;
 use std::alloc::{AllocError, Global};
 use std::marker::Brand;
 use std::process::Abort;
 use std::sync::ledger::{Blank, Ledger};
 use std::test::Fail;
 
+const OFFER: Offer = Offer {
+    desk: 1,
+    base: 0,
+    deleted: &[(Vc, 1)],
+    guards: &[],
+};
+
 fn need_full(rt: &impl Abort, told: Result<Told, BookRefusal>) {
     match told {
         Ok(_) => panic!(rt; "an entry more"),
         Err(why) => assert_eq!(rt; why, BookRefusal::LogFull),
+    }
+}
+
+fn fill(rt: &impl Abort, alloc: Global, book: &mut Book) {
+    for _ in 0..1_000_000 {
+        assert!(rt; book.view(alloc, 1, 0).is_ok());
     }
 }
 
@@ -27,19 +40,10 @@ fn check_full<L: Ledger>(rt: &impl Abort, alloc: Global, blank: Blank) -> Result
 {
     let mut steps = start_counter::<L>(blank);
     let mut book = open_book(rt, alloc, &mut steps)?;
-    for _ in 0..1_000_000 {
-        assert!(rt; book.view(alloc, 1, 0).is_ok());
-    }
+    fill(rt, alloc, &mut book);
     need_full(rt, book.view(alloc, 1, 0));
     need_full(rt, book.faulty(alloc, 1, FormFault::Empty));
-    let offer = Offer {
-        desk: 1,
-        base: 0,
-        edits: &[Edit::Del(node_name(1))],
-        guards: &[],
-    };
-    let set = set_for(rt, alloc, &book, &offer);
-    let prepared = Prepared::make(0, set, Rows::make(alloc));
+    let prepared = prepared(rt, alloc, &book, &OFFER)?;
     need_full(rt, book.commit(alloc, 1, &prepared, &mut steps));
     assert_eq!(rt; book.entries().len(), 1_000_000);
     Ok(())
