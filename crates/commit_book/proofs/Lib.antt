@@ -1,0 +1,5 @@
+pub mod Merging
+pub mod Contested
+pub mod Kept
+pub mod Numbered
+pub mod News

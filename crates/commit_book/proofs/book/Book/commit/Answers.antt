@@ -1,0 +1,16 @@
+use Rattle.std.proofs.Common.{◌≤◌, ◌++◌, ◌∷◌, [], drop, length, ap, subst, ◌∙◌}
+use Rattle.commit_book.specs.Books.{accepted_sets, sets_told}
+use Rattle.commit_book.proofs.News.{commit_news}
+use Rattle.commit_book.proofs.book.Book.commit.Goals as goal
+
+pub returns-clause-news : goal.returns-clause-news
+returns-clause-news g c =
+    let old = c.args.self.now in
+    let base = c.args.prepared.now.base in
+    let reply = c.in_ok-reply.reply in
+    let told = c.in_ok-reply.ensures in
+    let newer = c.in_ok-newer.ensures.sets ∙ ap (λ n. drop n (accepted_sets old.entries)) c.base.ensures in
+    let all = c.sets_told-news.ensures ∙ ap (sets_told reply) (c.in_ok-sets.ensures ∙ (λ i. newer i ++ c.edits.ensures i ∷ [])) in
+    all
+    ∙ commit_news old c.enter_commit.new.self c.args.desk base c.args.prepared.now.edits reply told.ok told.verdict
+    (subst (λ n. n ≤ length (accepted_sets old.entries)) c.base.ensures c.sets_after.ensures.within)

@@ -1,0 +1,185 @@
+//! The log of the editing history of a cell.
+
+ghost use Rattle.std.specs.Prelude.{◌≡◌, ◌≤◌, [], Err, IfOk, IfErr, MatchResult, drop, length};
+ghost use Rattle.cell_spec.specs.Writable.{IsWritable};
+ghost use Rattle.history_spec.specs.Entries.{AreTold};
+ghost use Rattle.cell_bench.specs.Benches.{IsLoadRefusal};
+ghost use Rattle.commit_book.specs.Books.{AreSetsOf, IsBookRefusal, IsEntered, IsNews, IsOpened, accepted_sets, entry_limit, history_of};
+
+use crate::accepted::Accepted;
+use crate::refusal::BookRefusal;
+use crate::told::{EditSets, Told, sets_after, sets_told, with_set};
+use cell_bench::{Bench, LoadRefusal, Prepared};
+use chain_topo::Steps;
+use edit_sets::{EditSet, FormFault};
+use history_spec::{Asked, Entry, Reply};
+use s57_types::Cell;
+use std::alloc::{AllocError, Global};
+use std::marker::Model;
+use std::snapshot::Snapshot;
+use std::sync::ledger::Ledger;
+
+/// A cell in the course of its editing: its bench, the commits that it took, and an entry for each answer. It is seen as the cell
+/// with which it was opened and its entries, which tell all else.
+#[derive(Drop)]
+pub struct Book {
+    opening: Snapshot<Cell>,
+    pub(crate) bench: Bench,
+    pub(crate) accepted: Vec<Accepted>,
+    pub(crate) entries: Vec<Entry>,
+}
+
+impl Model for Book {
+    ghost use Rattle.commit_book.specs.Books.{BookState, IsKept};
+
+    ghost Value = { BookState };
+
+    ghost view = { λ b. record { opening = b.opening.value; entries = b.entries.items } };
+
+    ghost invariant = { λ b. IsKept b.opening.value b.entries.items b.bench b.accepted.items };
+}
+
+impl Book {
+    /// The book of a writable cell before its first entry, with the look-ups that finding its findings takes.
+    ///
+    /// An `Err` says that the cell has more findings than the limit, or is want of memory.
+    pub fn make<L: Ledger>(
+        alloc: Global,
+        cell: Cell,
+        steps: &mut Steps<L>,
+    ) -> Result<Book, LoadRefusal>
+        requires { IsWritable cell }
+        ensures { MatchResult result (IsOpened cell) (IsLoadRefusal cell) }
+    {
+        let opening = Snapshot::of(&cell);
+        let bench = Bench::load(alloc, cell, steps)?;
+        Ok(Book {
+            opening,
+            bench,
+            accepted: Vec::new(alloc),
+            entries: Vec::new(alloc),
+        })
+    }
+
+    /// What every book keeps: each entry has the answer at its point, the level of national texts is that of the opening, the edit
+    /// sets that were accepted are those of the commits, there are at most 1,000,000 entries, and the cell can be written.
+    pub fn known(&self)
+        ensures told { AreTold self.now.opening self.now.entries }
+        ensures level { (history_of self.now).cell.head.nall ≡ self.now.opening.head.nall }
+        ensures sets { AreSetsOf self.now.opening.head.nall (history_of self.now).commits (accepted_sets self.now.entries) }
+        ensures within { length self.now.entries ≤ entry_limit }
+        ensures writable { IsWritable (history_of self.now).cell }
+    {
+        self.bench.known();
+    }
+
+    /// The entries in their order.
+    pub fn entries(&self) -> &[Entry]
+        ensures { result.now ≡ self.now.entries }
+    {
+        self.entries.as_slice()
+    }
+
+    /// How many commits the cell took.
+    pub fn commits(&self) -> u32
+        ensures { result ≡ length (history_of self.now).commits }
+    {
+        self.accepted.len() as u32
+    }
+
+    /// The bench of the cell after all entries.
+    pub fn bench(&self) -> &Bench
+        ensures { result.now ≡ (history_of self.now).cell }
+    {
+        &self.bench
+    }
+
+    /// The bench of the cell after all entries, without taking memory.
+    pub fn into_bench(self) -> Bench
+        ensures { result ≡ (history_of self).cell }
+    {
+        self.bench
+    }
+
+    /// The edit sets that were accepted after a base.
+    fn sets_after(&self, alloc: Global, base: u32) -> Result<Vec<EditSet>, AllocError>
+        requires { base ≤ length (history_of self.now).commits }
+        ensures sets { IfOk result (λ sets. sets.items ≡ drop base (accepted_sets self.now.entries)) }
+        ensures within { base ≤ length (accepted_sets self.now.entries) }
+    {
+        sets_after(alloc, self.accepted.as_slice(), base)
+    }
+
+    /// Lets a desk see the newest state, and tells it the edit sets that were accepted after its base.
+    ///
+    /// An `Err` says that there are as many entries as there may be, or is want of memory; nothing is changed then.
+    pub fn view(&mut self, alloc: Global, desk: u32, base: u32) -> Result<Told, BookRefusal>
+        requires { base ≤ length (history_of self.old).commits }
+        ensures ok { IfOk result (λ told. IsEntered self.old desk Asked.View self.new told.reply) }
+        ensures news { IfOk result (IsNews base self.new) }
+        ensures err { IfErr result (λ why. IsBookRefusal self.old.entries why × (self.new ≡ self.old)) }
+        ensures full { length self.old.entries ≡ entry_limit → result ≡ Err BookRefusal.LogFull }
+    {
+        self.need_room()?;
+        let sets = self.sets_after(alloc, base)?;
+        let reply = Reply::Viewed {
+            number: self.commits(),
+            findings: self.bench.finding_count(),
+        };
+        self.enter(desk, Asked::View, &reply)?;
+        Ok(Told {
+            reply,
+            news: EditSets::of_vec(sets),
+        })
+    }
+
+    /// Tells a desk the fault of its draft.
+    ///
+    /// An `Err` is as that of a view.
+    pub fn faulty(
+        &mut self,
+        alloc: Global,
+        desk: u32,
+        fault: FormFault,
+    ) -> Result<Told, BookRefusal>
+        ensures ok { IfOk result (λ told. IsEntered self.old desk (Asked.Faulty fault) self.new told.reply) }
+        ensures news { IfOk result (λ told. told.news ≡ []) }
+        ensures err { IfErr result (λ why. IsBookRefusal self.old.entries why × (self.new ≡ self.old)) }
+        ensures full { length self.old.entries ≡ entry_limit → result ≡ Err BookRefusal.LogFull }
+    {
+        self.need_room()?;
+        let reply = Reply::Formed(fault);
+        self.enter(desk, Asked::Faulty(fault), &reply)?;
+        Ok(Told {
+            reply,
+            news: EditSets::make(alloc),
+        })
+    }
+
+    /// Commits the edits that a desk prepared, unless a newer commit edits what they edit or guard, or the cell doesn't take them;
+    /// an accepted commit tells the edit sets that were accepted after its base, its own the last. No rows can be ready yet.
+    ///
+    /// An `Err` is as that of a view.
+    pub fn commit<L: Ledger>(
+        &mut self,
+        alloc: Global,
+        desk: u32,
+        prepared: &Prepared,
+        steps: &mut Steps<L>,
+    ) -> Result<Told, BookRefusal>
+        requires base { prepared.now.base ≤ length (history_of self.old).commits }
+        requires level { prepared.now.edits.nall ≡ self.old.opening.head.nall }
+        requires rows { prepared.now.rows ≡ [] }
+        ensures ok { IfOk result (λ told. IsEntered self.old desk (Asked.Commit prepared.now.base prepared.now.edits) self.new told.reply) }
+        ensures news { IfOk result (IsNews prepared.now.base self.new) }
+        ensures err { IfErr result (λ why. IsBookRefusal self.old.entries why × (self.new ≡ self.old)) }
+        ensures full { length self.old.entries ≡ entry_limit → result ≡ Err BookRefusal.LogFull }
+    {
+        self.need_room()?;
+        let newer = self.sets_after(alloc, prepared.base())?;
+        let sets = with_set(alloc, newer, prepared.edits())?;
+        let reply = self.enter_commit(alloc, desk, prepared, steps)?;
+        let news = sets_told(alloc, &reply, sets);
+        Ok(Told { reply, news })
+    }
+}
