@@ -1,0 +1,102 @@
+-- Pairs of a key and a subject: their order, what a put and a removal change, and what many of them do.
+use Rattle.std.proofs.Common.{◌≡◌, ◌&&◌, ◌||◌, Bool, true, false, not, List, Option, None, Some, cond, is_some, refl, ap, ◌∙◌}
+use Rattle.std.specs.Ordering.{is_eq}
+use Rattle.std.specs.Cmp.{Equal-is, IsTotalOrder, eq_by_cmp_equiv}
+use Rattle.std.proofs.lemmas.Cmp.{on_total, then_total}
+use Rattle.std.proofs.lemmas.Map.Lookups.{CmpEqualImpliesEq, exact_pairs}
+use Rattle.cell_spec.specs.declared.key.Key.{Key}
+use Rattle.cell_spec.specs.declared.key.Subject.{Subject}
+use Rattle.cell_spec.specs.Names.{key_order, same_key, same_subject, subject_order}
+use Rattle.cell_spec.proofs.Orders.{both_tie, exact_keys, total_keys}
+use Rattle.cell_spec.proofs.SubjectOrder.{exact_subjects, total_subjects}
+use Rattle.row_table.specs.Rows.{IsAscending, value_of, with_row, without_key}
+use Rattle.row_table.proofs.Changes.{value_of-with_row, value_of-without_key}
+use Rattle.depend_map.specs.Readers.{has_pair, reader_order, same_pair}
+
+pub total_readers : IsTotalOrder reader_order
+total_readers = then_total (on_total (λ (p : Key × Subject). p.0) total_keys) (on_total (λ (p : Key × Subject). p.1) total_subjects)
+
+pub exact_readers : CmpEqualImpliesEq reader_order
+exact_readers = exact_pairs key_order subject_order exact_keys exact_subjects
+
+-- keys and subjects that test as one are one, from either side
+pub one_key : (j k : Key) → same_key j k ≡ true → j ≡ k
+one_key j k e = exact_keys j k ((Equal-is (key_order j k)).0 e)
+
+pub one_subject : (s t : Subject) → same_subject s t ≡ true → s ≡ t
+one_subject s t e = exact_subjects s t ((Equal-is (subject_order s t)).0 e)
+
+pub either_key : (j k : Key) → same_key j k ≡ same_key k j
+either_key j k = (eq_by_cmp_equiv total_keys).symm j k
+
+pub either_subject : (s t : Subject) → same_subject s t ≡ same_subject t s
+either_subject s t = (eq_by_cmp_equiv total_subjects).symm s t
+
+put_some : {V : Type 0} (b : Bool) (v : V) (o : Option V) → is_some (cond b (Some v) o) ≡ (b || is_some o)
+put_some true v o = refl
+put_some false v o = refl
+
+took_some : {V : Type 0} (b : Bool) (o : Option V) → is_some (cond b None o) ≡ (not b && is_some o)
+took_some true o = refl
+took_some false o = refl
+
+module _ {V : Type 0} (pairs : List ((Key × Subject) × V)) (j : Key) (t : Subject) (k : Key) (s : Subject) where
+  -- two pairs tie where both parts do
+  tie : is_eq (reader_order (j, t) (k, s)) ≡ same_pair j t k s
+  tie = both_tie (key_order j k) (subject_order t s)
+
+  pub has-put : (v : V) → has_pair (with_row reader_order pairs (j, t) v) k s ≡ (same_pair j t k s || has_pair pairs k s)
+  has-put v =
+      ap is_some (value_of-with_row reader_order total_readers pairs (j, t) (k, s) v)
+      ∙ put_some (is_eq (reader_order (j, t) (k, s))) v (value_of reader_order pairs (k, s))
+      ∙ ap (λ b. b || has_pair pairs k s) tie
+
+  pub has-take : IsAscending reader_order pairs → has_pair (without_key reader_order pairs (j, t)) k s ≡ (not (same_pair j t k s) && has_pair pairs k s)
+  has-take ascending =
+      ap is_some (value_of-without_key reader_order total_readers pairs (j, t) (k, s) ascending)
+      ∙ took_some (is_eq (reader_order (j, t) (k, s))) (value_of reader_order pairs (k, s))
+      ∙ ap (λ b. not b && has_pair pairs k s) tie
+
+-- ---- one more key, where all of one subject are looked at in turn
+-- it isn't among the new ones, and is taken
+pub one_taken : (t e a n h : Bool) → (e ≡ true → n ≡ false) → (not (e && t) && (not (t && (a && not n)) && h)) ≡ (not (t && ((a || e) && not n)) && h)
+one_taken false false a n h f = refl
+one_taken false true a n h f = refl
+one_taken true false false n h f = refl
+one_taken true false true n h f = refl
+one_taken true true a true h f = let no = f refl in cc
+one_taken true true false false h f = refl
+one_taken true true true false h f = refl
+
+-- it is among the new ones, and stays
+pub one_stays : (t e a n h : Bool) → (e ≡ true → n ≡ true) → (not (t && (a && not n)) && h) ≡ (not (t && ((a || e) && not n)) && h)
+one_stays false e a n h f = refl
+one_stays true false false n h f = refl
+one_stays true false true n h f = refl
+one_stays true true a false h f = let no = f refl in cc
+one_stays true true false true h f = refl
+one_stays true true true true h f = refl
+
+-- it isn't there, and is put
+pub one_put : (t e a h : Bool) → ((e && t) || ((t && a) || h)) ≡ ((t && (a || e)) || h)
+one_put false false a h = refl
+one_put false true a h = refl
+one_put true false false h = refl
+one_put true false true h = refl
+one_put true true false h = refl
+one_put true true true h = refl
+
+-- it is there
+pub one_there : (t e a h : Bool) → (e ≡ true → t ≡ true → ((t && a) || h) ≡ true) → ((t && a) || h) ≡ ((t && (a || e)) || h)
+one_there false e a h f = refl
+one_there true false false h f = refl
+one_there true false true h f = refl
+one_there true true false h f = f refl refl
+one_there true true true h f = refl
+
+-- lost ones are taken, then gained ones put: the new ones are there for the subject, and for others what was there
+pub replaced : (t o n h : Bool) → (t ≡ true → h ≡ o) → ((t && n) || (not (t && (o && not n)) && h)) ≡ cond t n h
+replaced false o n h f = refl
+replaced true o true h f = refl
+replaced true false false h f = f refl
+replaced true true false h f = refl

@@ -1,0 +1,27 @@
+use Rattle.std.proofs.Common.{◌≡◌, cond, subst, sym, ap, ◌∙◌}
+use Rattle.std.specs.declared.cmp.Ordering.{Ordering}
+use Rattle.cell_spec.specs.declared.key.Subject.{Subject}
+use Rattle.cell_spec.specs.Names.{same_subject, subject_order}
+use Rattle.row_table.specs.Rows.{IsAscending, with_row}
+use Rattle.depend_map.specs.Readers.{AreReadersOf, has_pair, holds_key}
+use Rattle.depend_map.proofs.Changed.{put_readers, with_same}
+use Rattle.depend_map.proofs.map.DependMap.with_keys.Goals as goal
+
+pub returns-then-has_row : goal.returns-then-has_row
+returns-then-has_row c =
+    let rows = c.self.inside.reads in
+    let ascending = subst (λ (order : Subject → Subject → Ordering). IsAscending order rows)
+    (λ i a b. c.orders_are_by_parts.ensures.subjects a b i) c.len-count.ensures.ascending in
+    sym (with_same rows c.args.subject c.args.keys.now ascending (c.has_row.ensures.0 c.if-has_row.true))
+    ∙ ap (λ those. with_row subject_order those c.args.subject c.args.keys.now) c.self.view_is
+
+pub invariant_of-result-2 : goal.invariant_of-result-2
+invariant_of-result-2 c =
+    let rows = c.self.inside.reads in
+    let put = subst (λ (order : Subject → Subject → Ordering). c.put.new.self ≡ with_row order rows c.args.subject c.in_ok-make.field-0)
+    (λ i a b. c.orders_are_by_parts.ensures.subjects a b i) c.in_ok-put.ensures.ok in
+    let value = c.in_ok-make.ensures ∙ c.in_ok-copy.ensures in
+    subst (λ those. AreReadersOf those c.replace_keys.new.readers) (sym (put ∙ ap (with_row subject_order rows c.args.subject) value))
+    (put_readers rows c.self.inside.readers c.replace_keys.new.readers c.args.subject c.args.keys.now c.self.invariant
+    (λ k s. c.in_ok-replace_keys.ensures k s
+    ∙ ap (λ keys. cond (same_subject c.args.subject s) (holds_key keys k) (has_pair c.self.inside.readers k s)) c.as_slice.ensures))

@@ -1,0 +1,29 @@
+use Rattle.std.proofs.Common.{ap, sym, ◌∙◌}
+use Rattle.s57_types.specs.declared.name.Kind.TheVariants.{Vi}
+use Rattle.cell_spec.specs.declared.key.Key.{Key}
+use Rattle.cell_spec.specs.declared.key.Key.TheVariants.{Name}
+use Rattle.depend_map.specs.Readers.{has_pair}
+use Rattle.depend_map.proofs.Pairs.{one_key, one_subject}
+use Rattle.depend_map.proofs.Steps.{put, there}
+use Rattle.depend_map.proofs.set.put_gained.Goals as goal
+use Rattle.depend_map.proofs.set.put_gained.Goals.{then-not-has+in_ok-put, else-not-has}
+
+abbrev default : Key
+default = Name (record { kind = Vi; id = 0 })
+
+pub loop-key-preserved : goal.loop-key-preserved
+loop-key-preserved c = λ k s.
+    let subject = c.args.subject in
+    let keys = c.args.keys.now in
+    let was = has_pair c.args.readers.now k s in
+    let before = has_pair c.loop-key.readers k s in
+    let after = has_pair c.if-not-has.readers k s in
+    elim c.if-not-has.branch [
+      | then-not-has+in_ok-put w ↦
+          put subject keys c.loop-key.key-index default k s was before after c.loop-key-test.true
+          (c.loop-key.invariant k s) (ap (λ pairs. has_pair pairs k s) w.readers-is ∙ w.in_ok-put.ensures k s)
+      | else-not-has w ↦
+          ap (λ pairs. has_pair pairs k s) w.readers-is
+          ∙ there subject keys c.loop-key.key-index default k s was before after c.loop-key-test.true (c.loop-key.invariant k s)
+          (λ e f. (λ i. has_pair c.loop-key.readers (one_key k _ e i) (sym (one_subject subject s f) i)) ∙ sym c.has.ensures ∙ w.if-not-has.false)
+    ]

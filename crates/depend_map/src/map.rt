@@ -1,0 +1,264 @@
+//! The dependency index and plans of its changes.
+
+ghost use Rattle.std.specs.Prelude.{◌≡◌, ◌++◌, ◌↔◌, [], IfOk, IsOk, IsTrue, OnOk, Some, map};
+ghost use Rattle.std.specs.Option.{option_copied, option_map_or};
+ghost use Rattle.std.specs.declared.cmp.Ordering.TheVariants.{Equal};
+ghost use Rattle.cell_spec.specs.Names.{subject_order};
+ghost use Rattle.rule_spec.specs.Affected.{is_single};
+ghost use Rattle.row_table.specs.Rows.{IsAscending, value_of, with_row, without_key};
+ghost use Rattle.finding_laws.specs.Tables.{readers_in};
+ghost use Rattle.depend_map.specs.Changes.{after_change, after_changes, kept_of};
+
+use crate::change::ReadChange;
+use crate::readers::Readers;
+use crate::set::{ReaderSet, replace_keys, set_of};
+use cell_spec::{Key, Keys, Subject, orders_are_by_parts};
+use s57_types::{Duplicate, Kind, RecName};
+use shared_table::{Shared, SharedTable};
+use std::alloc::{AllocError, Global};
+use std::marker::Model;
+
+/// The read sets of records, sides and identifiers, seen as rows of a subject and its keys, in ascending order of the subjects.
+/// Copies share what they hold, and a change of one of two leaves the other as it is.
+#[derive(Drop)]
+pub struct DependMap {
+    reads: SharedTable<Subject, Shared<Keys>>,
+    readers: ReaderSet,
+}
+
+impl Model for DependMap {
+    ghost use Rattle.std.specs.Prelude.{List};
+    ghost use Rattle.cell_spec.specs.declared.key.Key.{Key};
+    ghost use Rattle.cell_spec.specs.declared.key.Subject.{Subject};
+
+    ghost Value = { List (Subject × List Key) };
+
+    ghost use Rattle.depend_map.specs.Readers.{AreReadersOf};
+
+    ghost view = { λ m. m.reads };
+
+    ghost invariant = { λ m. AreReadersOf m.reads m.readers };
+}
+
+/// The whole of a map after some changes, seen as its rows.
+#[derive(Drop)]
+pub struct ReadPlan {
+    map: DependMap,
+}
+
+impl Model for ReadPlan {
+    ghost use Rattle.std.specs.Prelude.{List};
+    ghost use Rattle.cell_spec.specs.declared.key.Key.{Key};
+    ghost use Rattle.cell_spec.specs.declared.key.Subject.{Subject};
+
+    ghost Value = { List (Subject × List Key) };
+
+    ghost view = { λ p. p.map };
+}
+
+// No subject is below this one.
+const LEAST: Subject = Subject::Rec(RecName {
+    kind: Kind::Vi,
+    id: 0,
+});
+
+impl DependMap {
+    /// A map that keeps no reads.
+    pub fn make() -> DependMap
+        ensures { result ≡ [] }
+    {
+        DependMap {
+            reads: SharedTable::make(),
+            readers: SharedTable::make(),
+        }
+    }
+
+    /// The keys that a subject reads, if they are kept.
+    pub fn reads(&self, subject: &Subject) -> Option<&Keys>
+        ensures { option_copied result ≡ value_of subject_order self.now subject.now }
+    {
+        orders_are_by_parts();
+        match self.reads.get(subject) {
+            Some(keys) => Some(keys),
+            None => None,
+        }
+    }
+
+    /// The subjects whose reads hold a key, in ascending order.
+    pub fn readers(&self, key: Key) -> Readers<'_>
+        ensures { result ≡ readers_in self.now key }
+    {
+        orders_are_by_parts();
+        // The rows of both tables ascend.
+        let _kept = self.reads.len();
+        let _pairs = self.readers.len();
+        Readers::from(self.readers.rows_from(&(key, LEAST)), key)
+    }
+
+    /// The map after some changes, one after the other. It takes all memory that they need, and an `Err` is want of it.
+    pub fn plan(&self, alloc: Global, changes: &[ReadChange]) -> Result<ReadPlan, AllocError>
+        ensures { IfOk result (λ plan. plan ≡ after_changes self.now changes.now) }
+    {
+        let mut map = self.copy(alloc)?;
+        for change in changes {
+            map = map.changed(alloc, change)?;
+        }
+        Ok(ReadPlan { map })
+    }
+
+    /// Takes the memory that installing a plan needs: none, since the plan has taken it.
+    pub fn reserve(&mut self, _alloc: Global, _plan: &ReadPlan) -> Result<(), AllocError>
+        ensures ok { IsOk result }
+        ensures same { self.new ≡ self.old }
+    {
+        Ok(())
+    }
+
+    /// Puts the map of a plan in this one's place. It takes no memory.
+    pub fn install(&mut self, plan: ReadPlan)
+        ensures { self.new ≡ plan }
+    {
+        *self = plan.map;
+    }
+
+    /// The map of these rows, without those of pairs.
+    pub fn from_rows(alloc: Global, rows: Vec<(Subject, Keys)>) -> Result<DependMap, AllocError>
+        requires { IsAscending subject_order rows.items }
+        ensures { IfOk result (λ map. map ≡ kept_of rows.items) }
+    {
+        orders_are_by_parts();
+        let mut kept = Vec::new(alloc);
+        let mut pairs = Vec::new(alloc);
+        for (subject, keys) in rows {
+            if is_kept(subject) {
+                push_pairs(&mut pairs, subject, &keys)?;
+                kept.push((subject, Shared::make(alloc, keys)?))?;
+            }
+        }
+        Ok(DependMap {
+            reads: SharedTable::from_ascending(alloc, kept)?,
+            readers: set_of(alloc, pairs)?,
+        })
+    }
+
+    // The map after a change.
+    fn changed(self, alloc: Global, change: &ReadChange) -> Result<DependMap, AllocError>
+        ensures { IfOk result (λ map. map ≡ after_change self change.now) }
+    {
+        if !is_kept(change.subject) {
+            return Ok(self);
+        }
+        match &change.reads {
+            Some(keys) => self.with_keys(alloc, change.subject, keys),
+            None => self.without(alloc, change.subject),
+        }
+    }
+
+    // The map with new keys of a subject.
+    fn with_keys(
+        self,
+        alloc: Global,
+        subject: Subject,
+        keys: &Keys,
+    ) -> Result<DependMap, AllocError>
+        ensures { IfOk result (λ map. map ≡ with_row subject_order self subject keys.now) }
+    {
+        orders_are_by_parts();
+        let DependMap {
+            mut reads,
+            mut readers,
+        } = self;
+        // The rows ascend, so that one that is put again changes nothing.
+        let _count = reads.len();
+        if has_row(&reads, &subject, keys) {
+            return Ok(DependMap { reads, readers });
+        }
+        let old = kept_keys(&reads, &subject);
+        replace_keys(alloc, &mut readers, subject, old, keys.as_slice())?;
+        reads.put(alloc, subject, Shared::make(alloc, keys.copy(alloc)?)?)?;
+        Ok(DependMap { reads, readers })
+    }
+
+    // The map without a subject.
+    fn without(self, alloc: Global, subject: Subject) -> Result<DependMap, AllocError>
+        ensures { IfOk result (λ map. map ≡ without_key subject_order self subject) }
+    {
+        orders_are_by_parts();
+        let DependMap {
+            mut reads,
+            mut readers,
+        } = self;
+        // The rows ascend, so that the subject has one.
+        let _count = reads.len();
+        replace_keys(
+            alloc,
+            &mut readers,
+            subject,
+            kept_keys(&reads, &subject),
+            &[],
+        )?;
+        reads.take(alloc, &subject)?;
+        Ok(DependMap { reads, readers })
+    }
+}
+
+impl Duplicate for DependMap {
+    /// The same map. It counts what both share, and copies no row.
+    fn copy(&self, _alloc: Global) -> Result<DependMap, AllocError> {
+        Ok(DependMap {
+            reads: self.reads.share()?,
+            readers: self.readers.share()?,
+        })
+    }
+}
+
+// Whether a subject has a row, with these keys.
+fn has_row(reads: &SharedTable<Subject, Shared<Keys>>, subject: &Subject, keys: &Keys) -> bool
+    ensures { IsTrue result ↔ (value_of subject_order reads.now subject.now ≡ Some keys.now) }
+{
+    orders_are_by_parts();
+    match reads.get(subject) {
+        Some(old) => are_same(old.as_slice(), keys.as_slice()),
+        None => false,
+    }
+}
+
+// Whether two lists have the same items in the same order.
+fn are_same<T: Ord>(items: &[T], others: &[T]) -> bool
+    requires exact { (a b : T) → T.cmp a b ≡ Equal → a ≡ b }
+    ensures { IsTrue result ↔ (items.now ≡ others.now) }
+{
+    items == others
+}
+
+// The keys of a subject's row, none where it has no row.
+fn kept_keys<'a>(reads: &'a SharedTable<Subject, Shared<Keys>>, subject: &Subject) -> &'a [Key]
+    ensures { result.now ≡ option_map_or (λ keys. keys) (value_of subject_order reads.now subject.now) [] }
+{
+    orders_are_by_parts();
+    match reads.get(subject) {
+        Some(keys) => keys.as_slice(),
+        None => &[],
+    }
+}
+
+// Whether a subject's reads are kept: those of pairs aren't.
+fn is_kept(subject: Subject) -> bool
+    ensures { result ≡ is_single subject }
+{
+    !matches!(subject, Subject::Pair(..))
+}
+
+// Appends each of the keys with the subject.
+fn push_pairs(
+    pairs: &mut Vec<(Key, Subject)>,
+    subject: Subject,
+    keys: &Keys,
+) -> Result<(), AllocError>
+    ensures { OnOk result (pairs.new.items ≡ pairs.old.items ++ map (λ k. (k, subject)) keys.now) }
+{
+    for key in keys.as_slice() {
+        pairs.push((*key, subject))?;
+    }
+    Ok(())
+}

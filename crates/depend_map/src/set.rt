@@ -1,0 +1,129 @@
+//! The set of pairs of a key and a subject that reads it.
+
+ghost use Rattle.std.specs.Prelude.{◌≡◌, ◌&&◌, ◌||◌, IfOk, OnOk, not, if◌then◌else◌};
+ghost use Rattle.std.specs.List.{list_any};
+ghost use Rattle.std.specs.List.Sorted.{IsStrictlySortedBy};
+ghost use Rattle.cell_spec.specs.declared.key.Key.{Key as SpecKey};
+ghost use Rattle.cell_spec.specs.declared.key.Subject.{Subject as SpecSubject};
+ghost use Rattle.cell_spec.specs.Names.{key_order, same_subject};
+ghost use Rattle.depend_map.specs.Readers.{has_pair, holds_key, is_lost, same_pair};
+
+use cell_spec::{Key, Subject, ascending_keys, orders_are_by_parts};
+use s57_types::Items;
+use shared_table::SharedTable;
+use std::alloc::{AllocError, Global};
+
+/// The pairs in ascending order. A pair is a row by itself: a list for each key would be copied whole wherever a feature comes or goes,
+/// since all features read the key of the head.
+pub(crate) type ReaderSet = SharedTable<(Key, Subject), ()>;
+
+// Whether the key stands there with the subject.
+fn has(readers: &ReaderSet, key: Key, subject: Subject) -> bool
+    ensures { result ≡ has_pair readers.now key subject }
+{
+    orders_are_by_parts();
+    readers.get(&(key, subject)).is_some()
+}
+
+// Puts the key with the subject.
+fn put(alloc: Global, readers: &mut ReaderSet, key: Key, subject: Subject) -> Result<(), AllocError>
+    ensures { OnOk result ((k : SpecKey) (s : SpecSubject) →
+        has_pair readers.new k s ≡ (same_pair key subject k s || has_pair readers.old k s)) }
+{
+    orders_are_by_parts();
+    readers.put(alloc, (key, subject), ())
+}
+
+// Takes the key out with the subject.
+fn take(
+    alloc: Global,
+    readers: &mut ReaderSet,
+    key: Key,
+    subject: Subject,
+) -> Result<(), AllocError>
+    ensures { OnOk result ((k : SpecKey) (s : SpecSubject) →
+        has_pair readers.new k s ≡ (not (same_pair key subject k s) && has_pair readers.old k s)) }
+{
+    orders_are_by_parts();
+    // The rows ascend, so that the key stands there once.
+    let _count = readers.len();
+    readers.take(alloc, &(key, subject))
+}
+
+// Whether a key stands among keys in order.
+fn holds(keys: &[Key], key: Key) -> bool
+    requires { IsStrictlySortedBy key_order keys.now }
+    ensures { result ≡ holds_key keys.now key }
+{
+    orders_are_by_parts();
+    keys.binary_search(&key).is_ok()
+}
+
+// Takes a subject's lost keys out: the old ones that aren't among the new ones.
+fn take_lost(
+    alloc: Global,
+    readers: &mut ReaderSet,
+    subject: Subject,
+    old: &[Key],
+    new: &[Key],
+) -> Result<(), AllocError>
+    requires { IsStrictlySortedBy key_order new.now }
+    ensures { OnOk result ((k : SpecKey) (s : SpecSubject) →
+        has_pair readers.new k s ≡ (not (same_subject subject s && is_lost old.now new.now k) && has_pair readers.old k s)) }
+{
+    for key in old {
+        if !holds(new, *key) {
+            take(alloc, readers, *key, subject)?;
+        }
+    }
+    Ok(())
+}
+
+// Puts a subject's gained keys: those that aren't there with it.
+fn put_gained(
+    alloc: Global,
+    readers: &mut ReaderSet,
+    subject: Subject,
+    keys: &[Key],
+) -> Result<(), AllocError>
+    ensures { OnOk result ((k : SpecKey) (s : SpecSubject) →
+        has_pair readers.new k s ≡ ((same_subject subject s && holds_key keys.now k) || has_pair readers.old k s)) }
+{
+    for key in keys {
+        if !has(readers, *key, subject) {
+            put(alloc, readers, *key, subject)?;
+        }
+    }
+    Ok(())
+}
+
+/// Puts new keys of a subject in place of its old ones, each that is lost or gained by itself.
+pub(crate) fn replace_keys(
+    alloc: Global,
+    readers: &mut ReaderSet,
+    subject: Subject,
+    old: &[Key],
+    new: &[Key],
+) -> Result<(), AllocError>
+    requires { (k : SpecKey) → has_pair readers.old k subject ≡ holds_key old.now k }
+    ensures { OnOk result ((k : SpecKey) (s : SpecSubject) →
+        has_pair readers.new k s ≡ (if same_subject subject s then holds_key new.now k else has_pair readers.old k s)) }
+{
+    let sorted = ascending_keys(Items::copy_of(alloc, new)?.into_vec());
+    take_lost(alloc, readers, subject, old, sorted.as_slice())?;
+    put_gained(alloc, readers, subject, new)
+}
+
+/// The set of these pairs.
+pub(crate) fn set_of(alloc: Global, mut pairs: Vec<(Key, Subject)>) -> Result<ReaderSet, AllocError>
+    ensures { IfOk result (λ set. (k : SpecKey) (s : SpecSubject) →
+        has_pair set k s ≡ list_any (λ pair. same_pair pair.0 pair.1 k s) pairs.items) }
+{
+    // Rows that come in ascending order fill the table's pieces, and each is put where the last one was.
+    pairs.sort_unstable();
+    let mut set = SharedTable::make();
+    for (key, subject) in pairs {
+        put(alloc, &mut set, key, subject)?;
+    }
+    Ok(set)
+}
