@@ -1,4 +1,4 @@
-//! Tests of words in lines, and of the lines of a report.
+//! Tests of words in lines, and of a session's lines in a report.
 #![tactic(auto)]
 
 #[cfg(test)]

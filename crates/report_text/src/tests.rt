@@ -1,12 +1,10 @@
-//! The lines of answers, orders, drafts and commits.
-
 ghost use Rattle.std.specs.Prelude.{◌≡◌, IfOk, false, true};
 ghost use Rattle.text_spec.specs.EditLine.{is_head, record_has_line};
 
+use super::*;
 use cell_spec::Edit;
 use edit_sets::FormFault;
 use history_spec::{Reply, StateRefusal};
-use report_text::{push_commit, push_draft, push_order, push_reply};
 use s57_types::{
     Attrs, Deep, End, Ends, HeadEdit, Kind, Level, Plane, Rec, RecName, Text, Unfit, Vector,
 };
