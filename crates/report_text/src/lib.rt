@@ -17,6 +17,3 @@ pub use reply::push_reply;
 pub use seen::Seen;
 pub use session::push_session;
 pub use transcript::Transcript;
-
-#[cfg(test)]
-mod tests;
