@@ -16,7 +16,7 @@ use Rattle.history_spec.specs.Entries.{AreTold, AreToldFrom, brief_of, entry_ste
 use Rattle.history_spec.specs.Steps.{History, answer, left_after, opening}
 use Rattle.room_laws.proofs.Steps.{level_left}
 use Rattle.commit_book.specs.declared.accepted.Accepted.{Accepted as Taken}
-use Rattle.commit_book.specs.Books.{IsKept, LeavesCommits, accepted_by, accepted_in, accepted_sets, commit_of, entry_of, set_in}
+use Rattle.commit_book.specs.Books.{HaveLines, IsKept, LeavesCommits, accepted_by, accepted_in, accepted_sets, commit_of, entry_of, set_in}
 
 -- the state after one entry more
 pub replayed_more : (c : Cell) (entries : List Entry) (e : Entry) → replayed c (entries ++ e ∷ []) ≡ stepped (replayed c entries) e
@@ -98,15 +98,16 @@ kept_entered c entries after cell accepted desk asked reply kept room is leaves 
       commits_are = kept.commits_are ∙ commits_left (replayed c entries) desk asked reply leaves ∙ ap (λ (h : History). h.commits) left;
       sets_are = kept.sets_are ∙ sym (ap accepted_sets more ∙ sets_left entries desk asked reply leaves);
       levels = kept.levels;
+      lines = subst (All HaveLines) (sym (ap accepted_sets more ∙ sets_left entries desk asked reply leaves)) kept.lines;
       few = let few = kept.few in omega (arith, few, longer);
       within = omega (arith, room, longer);
     }
 
 -- an entry of an accepted commit
 pub kept_accepted : (c : Cell) (entries after : List Entry) (cell planned : Cell) (accepted taken : List Taken) (desk base : ℕ) (set : GuardedEdits) (number findings : ℕ) → IsKept c entries cell accepted
-    → length entries < 1000000 → Accepted number findings ≡ answer (replayed c entries) (event_asked (Commit base set)) → set.nall ≡ c.head.nall → planned ≡ apply_edits set.edits (replayed c entries).cell
+    → length entries < 1000000 → Accepted number findings ≡ answer (replayed c entries) (event_asked (Commit base set)) → set.nall ≡ c.head.nall → HaveLines set → planned ≡ apply_edits set.edits (replayed c entries).cell
     → taken ≡ accepted ++ record { desk = desk; set = set } ∷ [] → after ≡ entries ++ entered desk (Commit base set) (Accepted number findings) ∷ [] → IsKept c after planned taken
-kept_accepted c entries after cell planned accepted taken desk base set number findings kept room is level edited pushed more =
+kept_accepted c entries after cell planned accepted taken desk base set number findings kept room is level lines edited pushed more =
     let left = sym (replayed_entered c entries desk (Commit base set) (Accepted number findings) is) ∙ ap (replayed c) (sym more) in
     let longer = ap length more ∙ length-append entries (entered desk (Commit base set) (Accepted number findings) ∷ []) in
     let one : Taken = record { desk = desk; set = set } in
@@ -119,6 +120,7 @@ kept_accepted c entries after cell planned accepted taken desk base set number f
           ∙ ap (λ sets. sets ++ set ∷ []) kept.sets_are
           ∙ sym (ap accepted_sets more ∙ sets_pushed entries desk base set number findings);
       levels = subst (All (λ (t : Taken). t.set.nall ≡ c.head.nall)) (sym pushed) (All-push (λ (t : Taken). t.set.nall ≡ c.head.nall) accepted one kept.levels level);
+      lines = subst (All HaveLines) (sym (ap accepted_sets more ∙ sets_pushed entries desk base set number findings)) (All-push HaveLines (accepted_sets entries) set kept.lines lines);
       few = let few = kept.few in let one_more = ap length pushed ∙ length-append accepted (one ∷ []) in omega (arith, few, longer, one_more);
       within = omega (arith, room, longer);
     }

@@ -1,10 +1,11 @@
 -- The log of an editing history: what it is seen as, what it keeps, and what its calls answer and leave. This project's own rules.
-use Rattle.std.specs.Prelude.{◌≡◌, ℕ, ◌≤◌, List, [], ◌∷◌, ◌++◌, length, map, drop, filter_map, All, Option, None, Some}
+use Rattle.std.specs.Prelude.{◌≡◌, ℕ, ◌≤◌, true, List, [], ◌∷◌, ◌++◌, length, map, drop, filter_map, All, Option, None, Some}
 use Rattle.s57_types.specs.declared.cell.Cell.{Cell}
 use Rattle.s57_types.specs.declared.name.RecName.{RecName}
 use Rattle.cell_spec.specs.declared.edit.Edit.{Edit}
 use Rattle.edit_sets.specs.FormFault.{GuardedEdits}
 use Rattle.rule_spec.specs.Findings.{finding_total}
+use Rattle.text_spec.specs.EditLine.{has_line}
 use Rattle.history_spec.specs.declared.entry.Asked.{Asked}
 use Rattle.history_spec.specs.declared.entry.Asked.TheVariants.{View, Faulty, Commit}
 use Rattle.history_spec.specs.declared.entry.Entry.{Entry}
@@ -68,14 +69,19 @@ pub record AreSetsOf (level : ℕ) (commits : List AcceptedCommit) (sets : List 
   pub edits : map (λ (set : GuardedEdits). set.edits) sets ≡ map (λ (accepted : AcceptedCommit). accepted.edits) commits
   pub levels : All (λ (set : GuardedEdits). set.nall ≡ level) sets
 
+-- each edit has a line
+abbrev pub HaveLines : GuardedEdits → Type 0
+HaveLines set = All (λ (edit : Edit). has_line edit ≡ true) set.edits
+
 -- each entry has the answer at its point; the cell and the accepted commits are those that the entries leave, and each of these commits is for
--- the opening's level of national texts
+-- the opening's level of national texts, with edits that have lines
 pub record IsKept (c : Cell) (entries : List Entry) (cell : Cell) (accepted : List Taken) : Type 0 where
   pub told : AreTold c entries
   pub cell_is : cell ≡ (replayed c entries).cell
   pub commits_are : map commit_of accepted ≡ (replayed c entries).commits
   pub sets_are : map set_in accepted ≡ accepted_sets entries
   pub levels : All (λ (taken : Taken). taken.set.nall ≡ c.head.nall) accepted
+  pub lines : All HaveLines (accepted_sets entries)
   pub few : length accepted ≤ length entries
   pub within : length entries ≤ entry_limit
 

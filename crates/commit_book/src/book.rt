@@ -1,10 +1,10 @@
 //! The log of the editing history of a cell.
 
-ghost use Rattle.std.specs.Prelude.{◌≡◌, ◌≤◌, [], Err, IfOk, IfErr, MatchResult, drop, length};
+ghost use Rattle.std.specs.Prelude.{◌≡◌, ◌≤◌, [], All, Err, IfOk, IfErr, MatchResult, drop, length};
 ghost use Rattle.cell_spec.specs.Writable.{IsWritable};
 ghost use Rattle.history_spec.specs.Entries.{AreTold};
 ghost use Rattle.cell_bench.specs.Benches.{IsLoadRefusal};
-ghost use Rattle.commit_book.specs.Books.{AreSetsOf, IsBookRefusal, IsEntered, IsNews, IsOpened, accepted_sets, entry_limit, history_of};
+ghost use Rattle.commit_book.specs.Books.{AreSetsOf, HaveLines, IsBookRefusal, IsEntered, IsNews, IsOpened, accepted_sets, entry_limit, history_of};
 
 use crate::accepted::Accepted;
 use crate::refusal::BookRefusal;
@@ -62,11 +62,13 @@ impl Book {
     }
 
     /// What every book keeps: each entry has the answer at its point, the level of national texts is that of the opening, the edit
-    /// sets that were accepted are those of the commits, there are at most 1,000,000 entries, and the cell can be written.
+    /// sets that were accepted are those of the commits, their edits have lines, there are at most 1,000,000 entries, and the cell can be
+    /// written.
     pub fn known(&self)
         ensures told { AreTold self.now.opening self.now.entries }
         ensures level { (history_of self.now).cell.head.nall ≡ self.now.opening.head.nall }
         ensures sets { AreSetsOf self.now.opening.head.nall (history_of self.now).commits (accepted_sets self.now.entries) }
+        ensures lines { All HaveLines (accepted_sets self.now.entries) }
         ensures within { length self.now.entries ≤ entry_limit }
         ensures writable { IsWritable (history_of self.now).cell }
     {

@@ -5,7 +5,7 @@ ghost use Rattle.cell_spec.specs.Edits.{apply_edits};
 ghost use Rattle.rule_spec.specs.Findings.{finding_total};
 ghost use Rattle.history_spec.specs.Entries.{event_asked};
 ghost use Rattle.history_spec.specs.Steps.{answer};
-ghost use Rattle.commit_book.specs.Books.{IsEntered, IsFull, IsVerdict, LeavesCommits, answer_to, entry_limit, history_of};
+ghost use Rattle.commit_book.specs.Books.{HaveLines, IsEntered, IsFull, IsVerdict, LeavesCommits, answer_to, entry_limit, history_of};
 
 use crate::accepted::Accepted;
 use crate::book::Book;
@@ -14,6 +14,7 @@ use crate::refusal::BookRefusal;
 use crate::told::brief_of;
 use cell_bench::{BenchPlan, PlanRefusal, Prepared};
 use chain_topo::Steps;
+use edit_laws::{refusals_tell_what_a_cell_takes, taken_edits_have_lines};
 use edit_sets::EditSet;
 use history_spec::{Asked, Brief, Entry, Reply};
 use s57_types::Duplicate;
@@ -86,6 +87,7 @@ impl Book {
     ) -> Result<Reply, BookRefusal>
         requires room { length self.old.entries < entry_limit }
         requires level { set.now.nall ≡ self.old.opening.head.nall }
+        requires lines { HaveLines set.now }
         requires planned { plan ≡ apply_edits set.now.edits (history_of self.old).cell }
         requires answered { answer_to self.old base set.now ≡ Reply.Accepted (length (history_of self.old).commits + 1) (finding_total plan) }
         ensures ok { IfOk result (IsEntered self.old desk (Asked.Commit base set.now) self.new) }
@@ -130,6 +132,10 @@ impl Book {
     {
         let base = prepared.base();
         let set = prepared.edits();
+        set.known();
+        self.bench.known();
+        taken_edits_have_lines();
+        refusals_tell_what_a_cell_takes();
         if let Some(reply) = newer_answer(alloc, self.accepted.as_slice(), base, set)? {
             self.refuse(alloc, desk, base, set, &reply)?;
             return Ok(reply);

@@ -11,8 +11,8 @@ use Rattle.enc_top.specs.Outcome.{IsAskedBy, IsBuilt, IsOutput}
 use Rattle.enc_top.specs.Task.{task_of}
 use Rattle.enc_top.specs.Words.{Form}
 use Rattle.enc_top.specs.declared.work.Work.{Work}
-use Rattle.enc_top.specs.declared.status.Status.{Status}
-use Rattle.enc_top.specs.declared.status.Status.TheVariants.{Done, Usage, Absent, BadCell, BadScript, ReadFault, WriteFault, TooLarge, NoMemory, BadOrder, Stuck, TooManyFindings, NotYet}
+use Rattle.report_text.specs.declared.status.Status.{Status}
+use Rattle.report_text.specs.declared.status.Status.TheVariants.{Done, Usage, Absent, BadCell, BadScript, ReadFault, WriteFault, TooLarge, NoMemory, BadOrder, Stuck, TooManyFindings, NotYet}
 
 pub both_told : {P Q R : Files → Type 0} (files : Option Files) → IfSome files P → IfSome files Q → ((fs : Files) → P fs → Q fs → R fs) → IfSome files R
 both_told None p q make = tt

@@ -6,8 +6,8 @@ use Rattle.enc_top.specs.Inputs.{IsInputOf, OutputIs}
 use Rattle.enc_top.specs.Outcome.{IsAsked, IsAskedBy, IsBuilt, IsCause, IsCauseOf, IsCut, IsDoneWork, IsExact, IsExpected, IsOutput, IsSilent, IsSmooth, Outside}
 use Rattle.enc_top.specs.Task.{Task, task_of}
 use Rattle.enc_top.specs.Words.{Form, later_form, no_form, form_of}
-use Rattle.enc_top.specs.declared.status.Status.{Status}
-use Rattle.enc_top.specs.declared.status.Status.TheVariants.{Done, Usage, Absent, BadCell, BadScript, ReadFault, WriteFault, TooLarge, NoMemory, BadOrder, Stuck, TooManyFindings, NotYet}
+use Rattle.report_text.specs.declared.status.Status.{Status}
+use Rattle.report_text.specs.declared.status.Status.TheVariants.{Done, Usage, Absent, BadCell, BadScript, ReadFault, WriteFault, TooLarge, NoMemory, BadOrder, Stuck, TooManyFindings, NotYet}
 use Rattle.enc_top.specs.declared.work.Work.{Work}
 
 pub work_cause : (form : Form) (before after : Outside) (work : Work) (status : Status)

@@ -14,12 +14,13 @@ use Rattle.text_spec.specs.ScriptLines.{is_shared}
 use Rattle.text_spec.specs.declared.command.Command.{Command}
 use Rattle.order_text.proofs.OrderLines.{order_of-line}
 use Rattle.enc_top.specs.Complete.{AreGood, AreGoodScripts, IsComplete, IsGoodCell, IsGoodOrder, IsGoodScript, IsThere}
-use Rattle.enc_top.specs.Inputs.{AreScripts, CellIs, FileIs, OrderIs, OutputIs, ScriptIs, ScriptsAre, cell_limit, order_in, order_limit, quotas_of, script_limit}
+use Rattle.room_laws.specs.Orders.{quotas_of}
+use Rattle.enc_top.specs.Inputs.{AreScripts, CellIs, FileIs, OrderIs, OutputIs, ScriptIs, ScriptsAre, cell_limit, order_in, order_limit, script_limit}
 use Rattle.enc_top.specs.Outcome.{AreWritten, IsCause, IsCauseOf, IsExact, IsExpected, IsFormReadBack, IsOutReadBack, IsReadBackFrom, IsReplayOf, Outside}
 use Rattle.enc_top.specs.Task.{Task, check_task, run_task}
 use Rattle.enc_top.specs.Words.{Form, check_among, check_form, form_of, is_between, is_later_form, is_word, later_form, no_form, replay_among, replay_form}
-use Rattle.enc_top.specs.declared.status.Status.{Status}
-use Rattle.enc_top.specs.declared.status.Status.TheVariants.{Done, Usage, Absent, BadCell, BadScript, ReadFault, WriteFault, TooLarge, NoMemory, BadOrder, Stuck, TooManyFindings, NotYet}
+use Rattle.report_text.specs.declared.status.Status.{Status}
+use Rattle.report_text.specs.declared.status.Status.TheVariants.{Done, Usage, Absent, BadCell, BadScript, ReadFault, WriteFault, TooLarge, NoMemory, BadOrder, Stuck, TooManyFindings, NotYet}
 use Rattle.enc_top.proofs.OneAnswer.{ok_not_err, one_output}
 
 not_above : (limit n : ℕ) → n ≤ limit → nat_lt limit n ≡ false

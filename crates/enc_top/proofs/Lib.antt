@@ -3,7 +3,6 @@ pub mod Ranges
 pub mod WordLists
 pub mod FileWrites
 pub mod Answered
-pub mod Sessions
 pub mod Causes
 pub mod FormWords
 pub mod OneAnswer

@@ -8,11 +8,12 @@ use Rattle.s57_types.specs.declared.cell.Cell.{Cell}
 use Rattle.script_text.specs.Faults.{IsFirstFault}
 use Rattle.script_text.proofs.Readings.{same_readings}
 use Rattle.text_spec.specs.declared.command.Command.{Command}
-use Rattle.enc_top.specs.Inputs.{AndThen, AreScripts, CellIs, FileIs, IsFirstBad, OrderIs, OrderedRunIs, OutputIs, RunIs, ScriptIn, ScriptIs, ScriptsAre, cell_limit, order_limit, quotas_of, script_limit}
+use Rattle.room_laws.specs.Orders.{quotas_of}
+use Rattle.enc_top.specs.Inputs.{AndThen, AreScripts, CellIs, FileIs, IsFirstBad, OrderIs, OrderedRunIs, OutputIs, RunIs, ScriptIn, ScriptIs, ScriptsAre, cell_limit, order_limit, script_limit}
 use Rattle.enc_top.specs.Task.{Task}
 use Rattle.enc_top.specs.Words.{Form, check_form, later_form, no_form, replay_form}
-use Rattle.enc_top.specs.declared.status.Status.{Status}
-use Rattle.enc_top.specs.declared.status.Status.TheVariants.{Done, Usage, Absent, BadCell, BadScript, ReadFault, WriteFault, TooLarge, NoMemory, BadOrder, Stuck, TooManyFindings, NotYet}
+use Rattle.report_text.specs.declared.status.Status.{Status}
+use Rattle.report_text.specs.declared.status.Status.TheVariants.{Done, Usage, Absent, BadCell, BadScript, ReadFault, WriteFault, TooLarge, NoMemory, BadOrder, Stuck, TooManyFindings, NotYet}
 
 -- a relation that has one answer at most
 abbrev IsOne : {A : Type 0} → (A → Type 0) → Type 0

@@ -8,11 +8,12 @@ use Rattle.s57_types.specs.declared.cell.Cell.{Cell}
 use Rattle.text_spec.specs.OrderLine.{IsOrder, order_line}
 use Rattle.text_spec.specs.ScriptLines.{IsScript}
 use Rattle.text_spec.specs.declared.command.Command.{Command}
-use Rattle.enc_top.specs.Inputs.{cell_limit, order_limit, quotas_of, script_limit}
+use Rattle.room_laws.specs.Orders.{quotas_of}
+use Rattle.enc_top.specs.Inputs.{cell_limit, order_limit, script_limit}
 use Rattle.enc_top.specs.Outcome.{IsSmooth, Outside}
 use Rattle.enc_top.specs.Words.{Form, check_form, form_of, later_form, no_form, replay_form}
-use Rattle.enc_top.specs.declared.status.Status.{Status}
-use Rattle.enc_top.specs.declared.status.Status.TheVariants.{Done, NoMemory}
+use Rattle.report_text.specs.declared.status.Status.{Status}
+use Rattle.report_text.specs.declared.status.Status.TheVariants.{Done, NoMemory}
 
 -- a file is there and within its limit
 pub record IsThere (limit : ℕ) (name bytes : List ℕ) (files : Files) : Type 0 where

@@ -1,5 +1,5 @@
 -- What input files are, or why a call ends there. A relation tells what a step answers where nothing fails. This project's own.
-use Rattle.std.specs.Prelude.{◌≡◌, ◌⊎◌, ℕ, ◌+◌, ◌<◌, nat_lt, List, [], length, map, count_by, slice_index_or, Option, None, Some, Result, Ok, Err, IfSome, if◌then◌else◌}
+use Rattle.std.specs.Prelude.{◌≡◌, ◌⊎◌, ℕ, ◌+◌, ◌<◌, nat_lt, List, [], length, slice_index_or, Option, None, Some, Result, Ok, Err, IfSome, if◌then◌else◌}
 use Rattle.enc_outside.specs.Count.{Rose}
 use Rattle.enc_outside.specs.Files.{Files}
 use Rattle.export_laws.specs.DecodedTypes.{AreFileBytes}
@@ -9,14 +9,15 @@ use Rattle.rule_spec.specs.Findings.{finding_total}
 use Rattle.s57_types.specs.declared.cell.Cell.{Cell}
 use Rattle.s57_types.specs.declared.fault.CellFault.{CellFault}
 use Rattle.text_spec.specs.OrderLine.{order_of}
-use Rattle.text_spec.specs.ScriptLines.{IsScript, is_shared}
+use Rattle.text_spec.specs.ScriptLines.{IsScript}
+use Rattle.room_laws.specs.Orders.{quotas_of}
 use Rattle.script_text.specs.Faults.{IsFirstFault}
 use Rattle.text_spec.specs.declared.command.Command.{Command}
 use Rattle.history_spec.specs.Steps.{finding_limit}
 use Rattle.enc_top.specs.Task.{Task, check_task, run_task}
 use Rattle.enc_top.specs.Words.{Form, check_form, replay_form, later_form, no_form}
-use Rattle.enc_top.specs.declared.status.Status.{Status}
-use Rattle.enc_top.specs.declared.status.Status.TheVariants.{Done, Usage, Absent, BadCell, BadScript, ReadFault, WriteFault, TooLarge, NoMemory, BadOrder, Stuck, TooManyFindings, NotYet}
+use Rattle.report_text.specs.declared.status.Status.{Status}
+use Rattle.report_text.specs.declared.status.Status.TheVariants.{Done, Usage, Absent, BadCell, BadScript, ReadFault, WriteFault, TooLarge, NoMemory, BadOrder, Stuck, TooManyFindings, NotYet}
 
 -- how many bytes input files may have
 abbrev pub cell_limit : ℕ
@@ -81,10 +82,6 @@ pub record IsFirstBad (names : List (List ℕ)) (files : Files) (status : Status
 abbrev pub ScriptsAre : List (List ℕ) → Files → Result (List (List Command)) Status → Type 0
 ScriptsAre names files (Ok scripts) = (length scripts ≡ length names) × AreScripts names files scripts
 ScriptsAre names files (Err status) = IsFirstBad names files status
-
--- how many views and commits each session has
-abbrev pub quotas_of : List (List Command) → List ℕ
-quotas_of = map (count_by is_shared)
 
 -- an order of the sessions
 abbrev pub order_in : Result (List ℕ) ℕ → Result (List ℕ) Status

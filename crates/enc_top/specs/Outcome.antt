@@ -6,12 +6,13 @@ use Rattle.file_spec.specs.DecodedCell.{decoded_cell}
 use Rattle.history_spec.specs.ReportText.{final_cell}
 use Rattle.s57_types.specs.declared.cell.Cell.{Cell}
 use Rattle.text_spec.specs.declared.command.Command.{Command}
-use Rattle.enc_top.specs.Inputs.{CellIs, IsInputOf, IsReached, IsRunOf, OrderIs, OutputIs, ScriptsAre, quotas_of}
+use Rattle.room_laws.specs.Orders.{quotas_of}
+use Rattle.enc_top.specs.Inputs.{CellIs, IsInputOf, IsReached, IsRunOf, OrderIs, OutputIs, ScriptsAre}
 use Rattle.enc_top.specs.Output.{Adds, AddsFront, IsBegun}
 use Rattle.enc_top.specs.Task.{Task, check_task, task_of}
 use Rattle.enc_top.specs.Words.{Form, check_form, replay_form, later_form, no_form, form_of}
-use Rattle.enc_top.specs.declared.status.Status.{Status}
-use Rattle.enc_top.specs.declared.status.Status.TheVariants.{Done, Usage, Absent, BadCell, BadScript, ReadFault, WriteFault, TooLarge, NoMemory, BadOrder, Stuck, TooManyFindings, NotYet}
+use Rattle.report_text.specs.declared.status.Status.{Status}
+use Rattle.report_text.specs.declared.status.Status.TheVariants.{Done, Usage, Absent, BadCell, BadScript, ReadFault, WriteFault, TooLarge, NoMemory, BadOrder, Stuck, TooManyFindings, NotYet}
 use Rattle.enc_top.specs.declared.work.Work.{Work}
 
 -- what the outside shows, at one moment: the files, how often reads and writes of files failed, what was put, and how often puts failed

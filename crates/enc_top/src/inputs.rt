@@ -1,25 +1,29 @@
 //! The input files of a call, each read and judged before the next.
 
-ghost use Rattle.std.specs.Prelude.{◌≡◌, ◌≤◌, ◌<◌, ◌^◌, ◌++◌, ◌∷◌, [], All, IfErr, IfOk, OnOk, length, map, string_bytes};
+ghost use Rattle.std.specs.Prelude.{◌≡◌, ◌⊎◌, ◌≤◌, ◌<◌, ◌^◌, ◌++◌, ◌∷◌, [], All, Err, IfErr, IfOk, Ok, OnOk, length, map, string_bytes};
 ghost use Rattle.cell_findings.specs.AllFindings.{IsAllOf};
 ghost use Rattle.export_laws.specs.ExportedCells.{IsScriptOfText};
 ghost use Rattle.cell_spec.specs.Writable.{IsWritable};
+ghost use Rattle.file_spec.specs.DecodedCell.{decoded_cell};
 ghost use Rattle.history_spec.specs.Steps.{finding_limit};
-ghost use Rattle.plain_replay.specs.Requests.{IsRunnable};
-ghost use Rattle.text_spec.specs.OrderLine.{order_of};
-ghost use Rattle.enc_top.specs.Inputs.{CellIs, FileIs, IsAmong, IsCellOfFile, IsFile, IsInputStatus, IsJudged, IsJudgedScript, IsReachedScript, OrderIs, ScriptIs, ScriptsAre, Tells, cell_in, order_in, quotas_of as quotas_of_lem};
+ghost use Rattle.sessions.specs.Replays.{IsShortScript};
+ghost use Rattle.text_spec.specs.OrderLine.{IsOrder, order_of};
+ghost use Rattle.room_laws.specs.Orders.{quotas_of as quotas_of_lem};
+ghost use Rattle.enc_top.specs.Inputs.{CellIs, FileIs, IsAmong, IsCellOfFile, IsFile, IsInputStatus, IsJudged, IsJudgedScript, IsReachedScript, OrderIs, ScriptIs, ScriptsAre, Tells, cell_in, order_in};
 ghost use Rattle.enc_top.specs.Refused.{IsRefusal};
 
 use crate::input::{InputRefusal, read_file};
-use crate::status::Status;
-use cell_bench::FINDING_LIMIT;
+use cell_bench::{FINDING_LIMIT, LoadRefusal};
 use cell_decode::ReadRefusal;
 use cell_findings::{FindingRefusal, Findings, find_all};
+use commit_book::Book;
 use decode_laws::decoded_cell_is_writable;
 use enc_outside::Shelf;
-use order_text::{Order, OrderRefusal, read_order};
+use order_text::{Order, OrderRefusal, order_lines_are_read, read_order};
+use report_text::Status;
 use s57_types::{Cell, Text};
 use script_text::{Script, ScriptRefusal, read_script};
+use sessions::open_book;
 use std::alloc::{AllocError, Global};
 
 /// How many bytes a cell file may have.
@@ -75,20 +79,33 @@ fn read_input<H: Shelf>(
     }
 }
 
+/// The cell of a file, before its findings are counted.
+fn decode(alloc: Global, bytes: &[u8]) -> Result<Cell, Status>
+    requires small { length bytes.now ≤ 16777216 }
+    ensures decoded { IfOk result (λ cell. decoded_cell bytes.now ≡ Ok cell) }
+    ensures refused { IfErr result (λ status. (cell_in bytes.now ≡ Err status) ⊎ (status ≡ Status.NoMemory)) }
+    ensures writable { IfOk result IsWritable }
+    ensures of_file { IfOk result IsCellOfFile }
+    ensures status { IfErr result (IsInputStatus (λ n. ⊥)) }
+{
+    decoded_cell_is_writable();
+    match cell_decode::read_cell(alloc, bytes) {
+        Ok(cell) => Ok(cell),
+        Err(ReadRefusal::Fault(fault)) => Err(Status::BadCell(fault)),
+        Err(ReadRefusal::NoMemory) => Err(Status::NoMemory),
+    }
+}
+
 /// The cell of a file, with its findings.
 fn judge_cell(alloc: Global, bytes: &[u8]) -> Result<Checked, Status>
     requires small { length bytes.now ≤ 16777216 }
     ensures judged { IsJudged (λ checked. checked.cell) (cell_in bytes.now) result }
-    ensures writable { IfOk result (λ checked. IsWritable checked.cell) }
-    ensures of_file { IfOk result (λ checked. IsCellOfFile checked.cell) }
     ensures findings { IfOk result (λ checked. IsAllOf checked.cell finding_limit checked.findings) }
     ensures status { IfErr result (IsInputStatus (λ n. ⊥)) }
 {
-    decoded_cell_is_writable();
-    let cell = match cell_decode::read_cell(alloc, bytes) {
+    let cell = match decode(alloc, bytes) {
         Ok(cell) => cell,
-        Err(ReadRefusal::Fault(fault)) => return Err(Status::BadCell(fault)),
-        Err(ReadRefusal::NoMemory) => return Err(Status::NoMemory),
+        Err(status) => return Err(status),
     };
     match find_all(alloc, &cell, FINDING_LIMIT) {
         Ok(findings) => Ok(Checked { cell, findings }),
@@ -97,11 +114,28 @@ fn judge_cell(alloc: Global, bytes: &[u8]) -> Result<Checked, Status>
     }
 }
 
+/// The log of a file's cell, before its first entry.
+fn open_log(alloc: Global, bytes: &[u8]) -> Result<Book, Status>
+    requires small { length bytes.now ≤ 16777216 }
+    ensures judged { IsJudged (λ book. book.opening) (cell_in bytes.now) result }
+    ensures opened { IfOk result (λ book. book.entries ≡ []) }
+    ensures of_file { IfOk result (λ book. IsCellOfFile book.opening) }
+    ensures status { IfErr result (IsInputStatus (λ n. ⊥)) }
+{
+    let cell = match decode(alloc, bytes) {
+        Ok(cell) => cell,
+        Err(status) => return Err(status),
+    };
+    match open_book(alloc, cell) {
+        Ok(book) => Ok(book),
+        Err(LoadRefusal::FindingsFull) => Err(Status::TooManyFindings),
+        Err(LoadRefusal::NoMemory) => Err(Status::NoMemory),
+    }
+}
+
 /// The cell of an input file, with its findings.
 pub fn read_cell<H: Shelf>(alloc: Global, shelf: &mut H, name: &str) -> Result<Checked, Status>
     ensures tells { Tells (λ checked. checked.cell) (CellIs name.now) (IsFile name.now) (H.files shelf.old) (H.read_faults shelf.old) (H.read_faults shelf.new) result }
-    ensures writable { IfOk result (λ checked. IsWritable checked.cell) }
-    ensures of_file { IfOk result (λ checked. IsCellOfFile checked.cell) }
     ensures findings { IfOk result (λ checked. IsAllOf checked.cell finding_limit checked.findings) }
     ensures status { IfErr result (IsInputStatus (λ n. n ≡ name.now)) }
     ensures files { H.files shelf.new ≡ H.files shelf.old }
@@ -112,11 +146,25 @@ pub fn read_cell<H: Shelf>(alloc: Global, shelf: &mut H, name: &str) -> Result<C
     judge_cell(alloc, &bytes)
 }
 
+/// The log of an input file's cell, before its first entry.
+pub fn read_log<H: Shelf>(alloc: Global, shelf: &mut H, name: &str) -> Result<Book, Status>
+    ensures tells { Tells (λ book. book.opening) (CellIs name.now) (IsFile name.now) (H.files shelf.old) (H.read_faults shelf.old) (H.read_faults shelf.new) result }
+    ensures opened { IfOk result (λ book. book.entries ≡ []) }
+    ensures of_file { IfOk result (λ book. IsCellOfFile book.opening) }
+    ensures status { IfErr result (IsInputStatus (λ n. n ≡ name.now)) }
+    ensures files { H.files shelf.new ≡ H.files shelf.old }
+    ensures read_faults { H.read_faults shelf.old ≤ H.read_faults shelf.new }
+    ensures write_faults { H.write_faults shelf.new ≡ H.write_faults shelf.old }
+{
+    let bytes = read_input(alloc, shelf, name, CELL_LIMIT)?;
+    open_log(alloc, &bytes)
+}
+
 /// The script of a session that bytes are.
 fn judge_script(alloc: Global, bytes: &[u8], session: u32) -> Result<Script, Status>
     requires short { length bytes.now < 2 ^ 32 }
     ensures judged { IsJudgedScript session bytes.now result }
-    ensures runnable { IfOk result IsRunnable }
+    ensures short { IfOk result IsShortScript }
     ensures of_text { IfOk result IsScriptOfText }
     ensures status { IfErr result (IsInputStatus (λ n. ⊥)) }
 {
@@ -135,7 +183,7 @@ fn read_session<H: Shelf>(
     session: u32,
 ) -> Result<Script, Status>
     ensures tells { Tells (λ script. script) (ScriptIs session name.now) (IsFile name.now) (H.files shelf.old) (H.read_faults shelf.old) (H.read_faults shelf.new) result }
-    ensures runnable { IfOk result IsRunnable }
+    ensures short { IfOk result IsShortScript }
     ensures of_text { IfOk result IsScriptOfText }
     ensures status { IfErr result (IsInputStatus (λ n. n ≡ name.now)) }
     ensures files { H.files shelf.new ≡ H.files shelf.old }
@@ -163,7 +211,7 @@ pub fn read_scripts<H: Shelf>(
     requires few { length names.now ≤ 16 }
     ensures tells { Tells (λ scripts. scripts.items) (ScriptsAre (map string_bytes names.now)) (λ fs n. IsReachedScript (map string_bytes names.now) fs n) (H.files shelf.old) (H.read_faults shelf.old) (H.read_faults shelf.new) result }
     ensures many { IfOk result (λ scripts. length scripts.items ≡ length names.now) }
-    ensures runnable { IfOk result (λ scripts. All IsRunnable scripts.items) }
+    ensures short { IfOk result (λ scripts. All IsShortScript scripts.items) }
     ensures of_texts { IfOk result (λ scripts. All IsScriptOfText scripts.items) }
     ensures status { IfErr result (IsInputStatus (IsAmong (map string_bytes names.now))) }
     ensures files { H.files shelf.new ≡ H.files shelf.old }
@@ -198,9 +246,10 @@ fn judge_order(alloc: Global, bytes: &[u8], quotas: &[u32]) -> Result<Order, Sta
     requires short { length bytes.now < 2 ^ 32 }
     requires few { length quotas.now < 2 ^ 32 }
     ensures judged { IsJudged (λ order. order) (order_in (order_of quotas.now bytes.now)) result }
-    ensures sessions { IfOk result (All (λ session. (1 ≤ session) × (session ≤ length quotas.now))) }
+    ensures order { IfOk result (IsOrder quotas.now) }
     ensures status { IfErr result (IsInputStatus (λ n. ⊥)) }
 {
+    order_lines_are_read();
     match read_order(alloc, bytes, quotas) {
         Ok(order) => Ok(order),
         Err(OrderRefusal::BadPlace(place)) => Err(Status::BadOrder(place)),
@@ -217,7 +266,7 @@ pub fn read_sessions<H: Shelf>(
 ) -> Result<Order, Status>
     requires few { length quotas.now < 2 ^ 32 }
     ensures tells { Tells (λ order. order) (OrderIs quotas.now name.now) (IsFile name.now) (H.files shelf.old) (H.read_faults shelf.old) (H.read_faults shelf.new) result }
-    ensures sessions { IfOk result (All (λ session. (1 ≤ session) × (session ≤ length quotas.now))) }
+    ensures order { IfOk result (IsOrder quotas.now) }
     ensures status { IfErr result (IsInputStatus (λ n. n ≡ name.now)) }
     ensures files { H.files shelf.new ≡ H.files shelf.old }
     ensures read_faults { H.read_faults shelf.old ≤ H.read_faults shelf.new }

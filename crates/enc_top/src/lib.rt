@@ -5,11 +5,10 @@ mod input;
 mod inputs;
 mod law;
 mod output;
-mod status;
 mod top;
 mod words;
 mod work;
 
 pub use law::one_answer_is_asked;
-pub use status::{Status, print_status};
+pub use report_text::{Status, print_status};
 pub use top::{run, run_plain};

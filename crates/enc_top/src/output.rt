@@ -7,9 +7,9 @@ ghost use Rattle.enc_top.specs.Output.{Adds, AddsFront, HasFront, IsBegun};
 ghost use Rattle.enc_top.specs.Outcome.{IsDoneWork, outside};
 ghost use Rattle.enc_top.specs.Task.{task_of};
 
-use crate::status::Status;
 use crate::work::{Export, Work};
 use enc_outside::{Failed, Shelf, Sink};
+use report_text::Status;
 
 /// Puts all of a text, in as many writes as it takes.
 pub fn put_all<O: Sink>(out: &mut O, text: &[u8]) -> Result<(), Failed>

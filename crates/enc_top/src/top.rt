@@ -1,28 +1,27 @@
 //! The program as one call.
 
-ghost use Rattle.std.specs.Prelude.{◌≡◌, ◌⊎◌, ◌↔◌, ◌≤◌, All, IfErr, IfOk, length, map, string_bytes};
-ghost use Rattle.cell_findings.specs.AllFindings.{IsAllOf};
-ghost use Rattle.cell_spec.specs.Writable.{IsWritable};
-ghost use Rattle.export_laws.specs.ExportedCells.{IsReadBack, IsScriptOfText};
-ghost use Rattle.history_spec.specs.Steps.{finding_limit};
-ghost use Rattle.plain_replay.specs.Requests.{IsRunnable};
+ghost use Rattle.std.specs.Prelude.{◌≡◌, ◌⊎◌, ◌↔◌, ◌≤◌, [], All, IfErr, IfOk, length, map, string_bytes};
+ghost use Rattle.export_laws.specs.ExportedCells.{IsScriptOfText};
+ghost use Rattle.room_laws.specs.Orders.{quotas_of as quotas_of_scripts};
+ghost use Rattle.sessions.specs.Replays.{IsShortScript, session_limit};
+ghost use Rattle.text_spec.specs.OrderLine.{IsOrder};
 ghost use Rattle.enc_top.specs.Complete.{IsComplete};
 ghost use Rattle.enc_top.specs.Inputs.{IsAmong, IsCellOfFile, IsFile, IsInputStatus, IsOrderedRun, IsReachedInRun, IsRunOf, OrderedRunIs, RunIs, Tells};
 ghost use Rattle.enc_top.specs.Outcome.{IsAskedBy, IsCause, IsExact, IsReadBackFrom, outside};
 ghost use Rattle.enc_top.specs.Task.{run_task, task_of};
 ghost use Rattle.enc_top.specs.Words.{check_among, form_of, later_form, no_form, replay_among};
 
-use crate::inputs::{Checked, quotas_of, read_cell, read_scripts, read_sessions};
+use crate::inputs::{quotas_of, read_cell, read_log, read_scripts, read_sessions};
 use crate::output::finish;
-use crate::status::Status;
-use crate::words::{SESSION_LIMIT, is_later_form};
-use crate::work::{Export, Work};
+use crate::words::is_later_form;
+use crate::work::{Work, work_of};
 use cell_findings::push_cell;
-use cell_write::write_cell;
+use commit_book::Book;
 use enc_outside::{Meet, Shelf, Sink};
 use export_laws::exports_are_read_back;
-use plain_replay::replay;
+use report_text::Status;
 use script_text::Script;
+use sessions::{SESSION_LIMIT, replay};
 use std::alloc::Global;
 use std::thread::Threads;
 
@@ -140,29 +139,28 @@ fn run_scripts<H: Shelf>(alloc: Global, others: &[String], shelf: &mut H) -> Res
     if names.is_empty() || names.len() > SESSION_LIMIT {
         return Err(Status::Usage);
     }
-    let checked = match read_cell(alloc, shelf, cell.as_str()) {
-        Ok(checked) => checked,
+    let book = match read_log(alloc, shelf, cell.as_str()) {
+        Ok(book) => book,
         Err(status) => return Err(status),
     };
-    run_on(alloc, shelf, checked, out.as_str(), order.as_str(), names)
+    run_on(alloc, shelf, book, out.as_str(), order.as_str(), names)
 }
 
-/// The report of running the scripts of input files on a cell in the order of another, and the file of the cell that is
-/// left.
+/// The report of running the scripts of input files on the cell of an opened log in the order of another, and the file of the cell that
+/// is left.
 fn run_on<H: Shelf>(
     alloc: Global,
     shelf: &mut H,
-    checked: Checked,
+    book: Book,
     out: &str,
     order: &str,
     names: &[String],
 ) -> Result<Work, Status>
-    requires writable { IsWritable checked.cell }
-    requires of_file { IsCellOfFile checked.cell }
-    requires findings { IsAllOf checked.cell finding_limit checked.findings }
-    requires few { length names.now ≤ 16 }
-    ensures tells { Tells task_of (RunIs checked.cell out.now order.now (map string_bytes names.now)) (λ fs n. IsReachedInRun order.now (map string_bytes names.now) fs n) (H.files shelf.old) (H.read_faults shelf.old) (H.read_faults shelf.new) result }
-    ensures run { IfOk result (λ work. IsRunOf checked.cell out.now order.now (map string_bytes names.now) (H.files shelf.old) (task_of work)) }
+    requires opened { book.entries ≡ [] }
+    requires of_file { IsCellOfFile book.opening }
+    requires few { length names.now ≤ session_limit }
+    ensures tells { Tells task_of (RunIs book.opening out.now order.now (map string_bytes names.now)) (λ fs n. IsReachedInRun order.now (map string_bytes names.now) fs n) (H.files shelf.old) (H.read_faults shelf.old) (H.read_faults shelf.new) result }
+    ensures run { IfOk result (λ work. IsRunOf book.opening out.now order.now (map string_bytes names.now) (H.files shelf.old) (task_of work)) }
     ensures status { IfErr result (IsInputStatus (λ n. (n ≡ order.now) ⊎ IsAmong (map string_bytes names.now) n)) }
     ensures files { H.files shelf.new ≡ H.files shelf.old }
     ensures read_faults { H.read_faults shelf.old ≤ H.read_faults shelf.new }
@@ -172,64 +170,54 @@ fn run_on<H: Shelf>(
         Ok(scripts) => scripts,
         Err(status) => return Err(status),
     };
-    run_in_order_of(alloc, shelf, checked, out, order, &scripts)
+    run_in_order_of(alloc, shelf, book, out, order, scripts)
 }
 
-/// The report of running scripts on a cell in the order of an input file, and the file of the cell that is left.
+/// The report of running scripts on the cell of an opened log in the order of an input file, and the file of the cell that is left.
 fn run_in_order_of<H: Shelf>(
     alloc: Global,
     shelf: &mut H,
-    checked: Checked,
+    book: Book,
     out: &str,
     order: &str,
-    scripts: &[Script],
+    scripts: Vec<Script>,
 ) -> Result<Work, Status>
-    requires writable { IsWritable checked.cell }
-    requires of_file { IsCellOfFile checked.cell }
-    requires findings { IsAllOf checked.cell finding_limit checked.findings }
-    requires few { length scripts.now ≤ 16 }
-    requires runnable { All IsRunnable scripts.now }
-    requires of_texts { All IsScriptOfText scripts.now }
-    ensures tells { Tells task_of (OrderedRunIs checked.cell out.now order.now scripts.now) (IsFile order.now) (H.files shelf.old) (H.read_faults shelf.old) (H.read_faults shelf.new) result }
-    ensures run { IfOk result (λ work. IsOrderedRun checked.cell out.now order.now scripts.now (H.files shelf.old) (task_of work)) }
+    requires opened { book.entries ≡ [] }
+    requires of_file { IsCellOfFile book.opening }
+    requires few { length scripts.items ≤ session_limit }
+    requires short { All IsShortScript scripts.items }
+    requires of_texts { All IsScriptOfText scripts.items }
+    ensures tells { Tells task_of (OrderedRunIs book.opening out.now order.now scripts.items) (IsFile order.now) (H.files shelf.old) (H.read_faults shelf.old) (H.read_faults shelf.new) result }
+    ensures run { IfOk result (λ work. IsOrderedRun book.opening out.now order.now scripts.items (H.files shelf.old) (task_of work)) }
     ensures status { IfErr result (IsInputStatus (λ n. n ≡ order.now)) }
     ensures files { H.files shelf.new ≡ H.files shelf.old }
     ensures read_faults { H.read_faults shelf.old ≤ H.read_faults shelf.new }
     ensures write_faults { H.write_faults shelf.new ≡ H.write_faults shelf.old }
 {
-    let quotas = quotas_of(alloc, scripts)?;
+    exports_are_read_back();
+    let quotas = quotas_of(alloc, &scripts)?;
     let sessions = match read_sessions(alloc, shelf, order, &quotas) {
         Ok(sessions) => sessions,
         Err(status) => return Err(status),
     };
-    run_of(alloc, checked, out, scripts, sessions.as_slice())
+    run_of(alloc, book, out, scripts, sessions.as_slice())
 }
 
-/// The report of running scripts on a cell in an order, and the file of the cell that is left.
+/// The report of running scripts on the cell of an opened log in an order, and the file of the cell that is left.
 fn run_of(
     alloc: Global,
-    checked: Checked,
+    book: Book,
     out: &str,
-    scripts: &[Script],
+    scripts: Vec<Script>,
     order: &[u32],
 ) -> Result<Work, Status>
-    requires writable { IsWritable checked.cell }
-    requires of_file { IsCellOfFile checked.cell }
-    requires findings { IsAllOf checked.cell finding_limit checked.findings }
-    requires few { length scripts.now ≤ 16 }
-    requires runnable { All IsRunnable scripts.now }
-    requires of_texts { All IsScriptOfText scripts.now }
-    requires sessions { All (λ session. (1 ≤ session) × (session ≤ length scripts.now)) order.now }
-    ensures run { IfOk result (λ work. task_of work ≡ run_task checked.cell out.now scripts.now order.now) }
-    ensures read_back { IsReadBack checked.cell scripts.now order.now }
+    requires opened { book.entries ≡ [] }
+    requires few { length scripts.items ≤ session_limit }
+    requires short { All IsShortScript scripts.items }
+    requires order { IsOrder (quotas_of_scripts scripts.items) order.now }
+    ensures run { IfOk result (λ work. task_of work ≡ run_task book.opening out.now scripts.items order.now) }
     ensures status { IfErr result (λ status. status ≡ Status.NoMemory) }
 {
-    exports_are_read_back();
-    let replayed = replay(alloc, checked.cell, checked.findings, scripts, order)?;
-    let name = String::from_str(alloc, out)?;
-    let bytes = write_cell(alloc, &replayed.cell)?;
-    Ok(Work {
-        text: replayed.report,
-        export: Some(Export { name, bytes }),
-    })
+    let replayed = replay(alloc, book, scripts, order)?;
+    Ok(work_of(alloc, out, &replayed.book, &replayed.transcripts)?)
 }

@@ -5,12 +5,10 @@ ghost use Rattle.std.specs.Cmp.Lexicographic.{pointwise};
 ghost use Rattle.enc_top.specs.Words.{is_number_up_to as is_number_up_to_lem, is_make as is_make_lem, is_drill as is_drill_lem, is_later_form as is_later_form_lem};
 
 use itoa::Buffer;
+use sessions::SESSION_LIMIT;
 
 /// The greatest size of a generated cell.
 const GRID_LIMIT: usize = 100;
-
-/// The most sessions of a call.
-pub(crate) const SESSION_LIMIT: usize = 16;
 
 /// Whether a word is a number, decimal without leading zeros.
 fn is_number(word: &str, number: usize) -> bool

@@ -1,5 +1,17 @@
 //! What a call does once its input is read.
 
+ghost use Rattle.std.specs.Prelude.{◌≡◌, IfOk, List, ℕ};
+ghost use Rattle.enc_top.specs.Task.{run_task, task_of};
+ghost use Rattle.history_spec.specs.Entries.{AreInterleaved, order_of_entries};
+ghost use Rattle.history_spec.specs.EntriesReport.{AreTranscripts};
+ghost use Rattle.text_spec.specs.declared.command.Command.{Command};
+
+use cell_write::write_cell;
+use commit_book::Book;
+use report_text::{Transcript, print_report};
+use room_laws::a_history_has_the_report_of_its_order;
+use std::alloc::{AllocError, Global};
+
 /// A file that is to be made: its name and its bytes.
 #[derive(Debug, Drop)]
 pub struct Export {
@@ -12,4 +24,28 @@ pub struct Export {
 pub struct Work {
     pub text: Vec<u8>,
     pub export: Option<Export>,
+}
+
+/// The report of a log and of the lines of its sessions, and the file of the cell that is left: those of one thread that runs the sessions'
+/// scripts in the order of the log's entries.
+pub(crate) fn work_of(
+    alloc: Global,
+    out: &str,
+    book: &Book,
+    transcripts: &[Transcript],
+) -> Result<Work, AllocError>
+    ensures { (scripts : List (List Command)) → AreInterleaved book.now.opening scripts book.now.entries → AreTranscripts book.now.opening book.now.entries 1 scripts transcripts.now
+        → IfOk result (λ work. task_of work ≡ run_task book.now.opening out.now scripts (order_of_entries book.now.entries)) }
+{
+    a_history_has_the_report_of_its_order();
+    book.known();
+    let mut text = Vec::new(alloc);
+    print_report(alloc, book, transcripts, &mut text)?;
+    let cell = book.bench().to_cell(alloc)?;
+    let name = String::from_str(alloc, out)?;
+    let bytes = write_cell(alloc, &cell)?;
+    Ok(Work {
+        text,
+        export: Some(Export { name, bytes }),
+    })
 }

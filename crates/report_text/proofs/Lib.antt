@@ -1,5 +1,4 @@
+mod Entries
 mod FirstFindings
 mod Lines
 mod ShownFindings
-mod Steps
-mod Transcripts

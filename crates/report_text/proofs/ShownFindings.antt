@@ -1,5 +1,6 @@
 -- The lines of the findings that a command shows.
-use Rattle.std.proofs.Common.{◌≡◌, ℕ, zero, suc, ◌≤◌, List, [], ◌∷◌, ◌++◌, take, map, refl, sym, ap, ◌∙◌, append_assoc, arith}
+use Rattle.std.proofs.Common.{◌≡◌, ℕ, List, [], ◌∷◌, ◌++◌, take, map, refl, sym, ap, ◌∙◌}
+use Rattle.std.proofs.Math.Seq.{take-length}
 use Rattle.std.specs.List.{flat_map}
 use Rattle.std.specs.Prelude.{codes}
 use Rattle.std.specs.Fmt.{decimal}
@@ -15,14 +16,6 @@ use Rattle.cell_findings.specs.Rows.{findings_of_row, findings_of_rows, line_of,
 use Rattle.cell_findings.specs.declared.list.SubjectFinding.{SubjectFinding}
 use Rattle.cell_findings.proofs.RowTexts.{row_counts}
 use Rattle.history_spec.specs.ReportText.{list_lines}
-use Rattle.report_text.specs.SeenFindings.{seen_of}
-use Rattle.report_text.specs.declared.seen.Seen.{Seen}
-
-taken_twice : {X : Type 0} (n limit : ℕ) (xs : List X) → n ≤ limit → take n (take limit xs) ≡ take n xs
-taken_twice zero limit xs within = refl
-taken_twice (suc n) zero xs within = absurd (omega (arith, within))
-taken_twice (suc n) (suc limit) [] within = refl
-taken_twice (suc n) (suc limit) (x ∷ xs) within = ap (λ rest. x ∷ rest) (taken_twice n limit xs (omega (arith, within)))
 
 row_lines_of : (s : Subject) (fs : List Finding) → map (finding_line s) fs ≡ map line_of (map (with_subject s) fs)
 row_lines_of s [] = refl
@@ -38,25 +31,14 @@ lines_of_rows [] = refl
 lines_of_rows (row ∷ rows) =
     (λ i. row_lines_of row.0 row.1 i ++ lines_of_rows rows i) ∙ sym (mapped line_of (findings_of_row row) (findings_of_rows rows))
 
-shown_text : (limit shown : ℕ) (rows : List (Subject × List Finding)) → shown ≤ limit
-    → flat_map line_of (take shown (take limit (findings_of_rows rows))) ≡ flat_map (λ l. l) (take shown (flat_map (λ (row : Subject × List Finding). map (finding_line row.0) row.1) rows))
-shown_text limit shown rows within =
-    ap (flat_map line_of) (taken_twice shown limit (findings_of_rows rows) within)
-    ∙ sym (flat_map-map (λ l. l) line_of (take shown (findings_of_rows rows)))
+shown_text : (shown : ℕ) (rows : List (Subject × List Finding))
+    → flat_map line_of (take shown (findings_of_rows rows)) ≡ flat_map (λ l. l) (take shown (flat_map (λ (row : Subject × List Finding). map (finding_line row.0) row.1) rows))
+shown_text shown rows =
+    sym (flat_map-map (λ l. l) line_of (take shown (findings_of_rows rows)))
     ∙ ap (flat_map (λ l. l)) (sym (take-map line_of shown (findings_of_rows rows)) ∙ ap (take shown) (sym (lines_of_rows rows)))
 
 abbrev headed : ℕ → ℕ → List ℕ
 headed base total = line (codes "list") (codes "seen" ∷ decimal base ∷ codes "findings" ∷ decimal total ∷ [])
-
-pub lines_shown : (limit base shown : ℕ) (c : Cell) (seen : Seen) (start first whole : List ℕ) → seen ≡ seen_of limit c → shown ≤ limit
-    → first ≡ start ++ headed base seen.total → whole ≡ first ++ flat_map line_of (take shown seen.first) → whole ≡ start ++ list_lines base shown c
-lines_shown limit base shown c seen start first whole is within is_first is_whole =
-    let rows = all_findings c in
-    is_whole
-    ∙ (λ i. is_first i ++ flat_map line_of (take shown (Seen.first (is i))))
-    ∙ (λ i. (start ++ headed base (Seen.total (is i))) ++ shown_text limit shown rows within i)
-    ∙ ap (λ total. (start ++ headed base total) ++ flat_map (λ l. l) (take shown (flat_map (λ (row : Subject × List Finding). map (finding_line row.0) row.1) rows))) (row_counts rows)
-    ∙ append_assoc start (headed base (finding_total c)) (flat_map (λ l. l) (take shown (flat_map (λ (row : Subject × List Finding). map (finding_line row.0) row.1) rows)))
 
 -- the lines of the first findings of all
 pub list_shown : (base shown total : ℕ) (c : Cell) (rows : List (Subject × List Finding)) (found : List SubjectFinding) (start first whole : List ℕ) → total ≡ finding_total c → rows ≡ all_findings c
@@ -66,4 +48,13 @@ list_shown base shown total c rows found start first whole is_total is_rows is_f
     ∙ (λ i. (is_first ∙ ap (λ text. text ++ headed base total) none) i ++ flat_map line_of (is_found i))
     ∙ (λ i. headed base (is_total i) ++ flat_map line_of (take shown (findings_of_rows (is_rows i))))
     ∙ ap (λ text. headed base (finding_total c) ++ text)
-    (sym (ap (flat_map line_of) (taken_twice shown shown (findings_of_rows (all_findings c)) (omega arith))) ∙ shown_text shown shown (all_findings c) (omega arith))
+    (shown_text shown (all_findings c))
+
+-- all findings are as many as there are
+pub all_shown : (c : Cell) (total : ℕ) (rows : List (Subject × List Finding)) (found : List SubjectFinding) → total ≡ finding_total c → rows ≡ all_findings c → found ≡ take total (findings_of_rows rows)
+    → found ≡ findings_of_rows (all_findings c)
+all_shown c total rows found is_total is_rows is_found =
+    is_found
+    ∙ (λ i. take (is_total i) (findings_of_rows (is_rows i)))
+    ∙ ap (λ n. take n (findings_of_rows (all_findings c))) (sym (row_counts (all_findings c)))
+    ∙ take-length (findings_of_rows (all_findings c))

@@ -1,3 +1,2 @@
 pub mod Newer
-pub mod SeenFindings
-pub mod Transcript
+pub mod StatusText

@@ -1,14 +1,17 @@
-//! The part of an accepted commit.
+//! The history's part of a report.
 
-ghost use Rattle.std.specs.Prelude.{◌≡◌, ◌++◌, ◌∷◌, [], All, OnErr, OnOk, codes, decimal, true};
+ghost use Rattle.std.specs.Prelude.{◌≡◌, ◌++◌, ◌∷◌, [], All, IfSome, OnOk, codes, decimal, true};
 ghost use Rattle.std.specs.List.{flat_map};
 ghost use Rattle.cell_spec.specs.declared.edit.Edit.{Edit as SpecEdit};
+ghost use Rattle.commit_book.specs.Books.{HaveLines, accepted_in, accepted_sets};
+ghost use Rattle.history_spec.specs.EntriesReport.{entry_part};
 ghost use Rattle.text_spec.specs.EditLine.{edit_line, has_line};
 ghost use Rattle.text_spec.specs.Lines.{line};
 
 use cell_spec::Edit;
+use history_spec::{Asked, Brief, Entry};
 use std::alloc::{AllocError, Global};
-use text_lines::{push_bytes, push_number, push_numbered, push_text, write_edit};
+use text_lines::{push_number, push_numbered, push_text, write_edit};
 
 /// Appends the first line of an accepted commit's part.
 fn push_head(out: &mut Vec<u8>, number: u32, desk: u32, findings: u32) -> Result<(), AllocError>
@@ -33,26 +36,33 @@ fn push_edits(alloc: Global, out: &mut Vec<u8>, edits: &[Edit]) -> Result<(), Al
     Ok(())
 }
 
-/// Appends an accepted commit's part of the history: its number, its desk, how many findings the cell has after it, and
-/// its edits.
-///
-/// An `Err` is want of memory, and leaves the text as it was.
-pub fn push_commit(
+/// Appends an entry's part of the history: of an accepted commit its number, its desk, how many findings the cell has after it, and its
+/// edits; of another entry nothing.
+fn push_entry(alloc: Global, out: &mut Vec<u8>, entry: &Entry) -> Result<(), AllocError>
+    requires { IfSome (accepted_in entry.now) HaveLines }
+    ensures { OnOk result (out.new.items ≡ out.old.items ++ entry_part entry.now) }
+{
+    let Asked::Commit { edits, .. } = &entry.asked else {
+        return Ok(());
+    };
+    let Brief::Accepted { number, findings } = entry.brief else {
+        return Ok(());
+    };
+    push_head(out, number, entry.desk, findings)?;
+    push_edits(alloc, out, edits.edits())
+}
+
+/// Appends the parts of entries.
+pub(crate) fn push_entries(
     alloc: Global,
     out: &mut Vec<u8>,
-    number: u32,
-    desk: u32,
-    findings: u32,
-    edits: &[Edit],
+    entries: &[Entry],
 ) -> Result<(), AllocError>
-    requires { All (λ (edit : SpecEdit). has_line edit ≡ true) edits.now }
-    ensures ok { OnOk result (out.new.items ≡ out.old.items
-        ++ (line (codes "commit") (decimal number ∷ codes "desk" ∷ decimal desk ∷ codes "findings" ∷ decimal findings ∷ [])
-        ++ flat_map edit_line edits.now)) }
-    ensures err { OnErr result (out.new.items ≡ out.old.items) }
+    requires { All HaveLines (accepted_sets entries.now) }
+    ensures { OnOk result (out.new.items ≡ out.old.items ++ flat_map entry_part entries.now) }
 {
-    let mut part = Vec::new(alloc);
-    push_head(&mut part, number, desk, findings)?;
-    push_edits(alloc, &mut part, edits)?;
-    push_bytes(out, &part)
+    for entry in entries {
+        push_entry(alloc, out, entry)?;
+    }
+    Ok(())
 }

@@ -1,19 +1,16 @@
-//! Writing the parts of a run's report.
+//! Writing reports: the lines of a session, the findings of a cell, the whole report of a log, and the line of a status.
 #![tactic(auto)]
 
 mod commit;
-mod draft;
+mod findings;
 mod first;
 mod order;
 mod reply;
-mod seen;
-mod session;
+mod report;
+mod status;
 mod transcript;
 
-pub use commit::push_commit;
-pub use draft::push_draft;
-pub use order::push_order;
-pub use reply::push_reply;
-pub use seen::Seen;
-pub use session::push_session;
+pub use findings::print_findings;
+pub use report::print_report;
+pub use status::{Status, print_status};
 pub use transcript::Transcript;

@@ -1,32 +1,29 @@
 //! The order line.
 
-ghost use Rattle.std.specs.Prelude.{◌≡◌, ◌++◌, OnErr, OnOk, decimal, map};
+ghost use Rattle.std.specs.Prelude.{◌≡◌, ◌++◌, OnOk, decimal, map};
+ghost use Rattle.history_spec.specs.Entries.{order_of_entries};
 ghost use Rattle.text_spec.specs.Lines.{spaced_words};
 ghost use Rattle.text_spec.specs.OrderLine.{order_line};
 
+use history_spec::Entry;
 use std::alloc::AllocError;
-use text_lines::{push_bytes, push_number, push_text};
+use text_lines::{push_number, push_text};
 
-/// Appends numbers, each behind a space.
-fn push_numbers(out: &mut Vec<u8>, numbers: &[u32]) -> Result<(), AllocError>
-    ensures { OnOk result (out.new.items ≡ out.old.items ++ spaced_words (map decimal numbers.now)) }
+/// Appends the number of each entry's desk, behind a space.
+fn push_desks(out: &mut Vec<u8>, entries: &[Entry]) -> Result<(), AllocError>
+    ensures { OnOk result (out.new.items ≡ out.old.items ++ spaced_words (map decimal (order_of_entries entries.now))) }
 {
-    for number in numbers {
-        push_number(out, *number)?;
+    for entry in entries {
+        push_number(out, entry.desk)?;
     }
     Ok(())
 }
 
-/// Appends the line that tells of which session each shared command was.
-///
-/// An `Err` is want of memory, and leaves the text as it was.
-pub fn push_order(out: &mut Vec<u8>, order: &[u32]) -> Result<(), AllocError>
-    ensures ok { OnOk result (out.new.items ≡ out.old.items ++ order_line order.now) }
-    ensures err { OnErr result (out.new.items ≡ out.old.items) }
+/// Appends the line that tells of which desk each entry is.
+pub(crate) fn push_order(out: &mut Vec<u8>, entries: &[Entry]) -> Result<(), AllocError>
+    ensures { OnOk result (out.new.items ≡ out.old.items ++ order_line (order_of_entries entries.now)) }
 {
-    let mut line = Vec::new(*out.allocator());
-    push_text(&mut line, "order")?;
-    push_numbers(&mut line, order)?;
-    push_text(&mut line, "\n")?;
-    push_bytes(out, &line)
+    push_text(out, "order")?;
+    push_desks(out, entries)?;
+    push_text(out, "\n")
 }

@@ -134,7 +134,7 @@ pub(crate) fn push_state(
 /// Appends the line of an answer.
 ///
 /// An `Err` is want of memory, and leaves the text as it was.
-pub fn push_reply(out: &mut Vec<u8>, reply: &Reply) -> Result<(), AllocError>
+pub(crate) fn push_reply(out: &mut Vec<u8>, reply: &Reply) -> Result<(), AllocError>
     ensures ok { OnOk result (out.new.items ≡ out.old.items ++ reply_line reply.now) }
     ensures err { OnErr result (out.new.items ≡ out.old.items) }
 {
@@ -144,7 +144,7 @@ pub fn push_reply(out: &mut Vec<u8>, reply: &Reply) -> Result<(), AllocError>
 }
 
 /// Appends the same, and after an `Err` perhaps a part of the line.
-pub(crate) fn push_reply_line(out: &mut Vec<u8>, reply: &Reply) -> Result<(), AllocError>
+fn push_reply_line(out: &mut Vec<u8>, reply: &Reply) -> Result<(), AllocError>
     ensures { OnOk result (out.new.items ≡ out.old.items ++ reply_line reply.now) }
 {
     match reply {

@@ -3,7 +3,6 @@
 ghost use Rattle.std.specs.Prelude.{◌≡◌, ◌++◌, [], IfOk, OnErr, OnOk};
 ghost use Rattle.history_spec.specs.ReportText.{draft_line, list_lines, reply_line};
 
-use crate::draft::push_draft;
 use crate::first::first_findings;
 use crate::reply::{push_reply, push_state};
 use cell_bench::Bench;
@@ -11,7 +10,7 @@ use cell_findings::push_findings;
 use history_spec::Reply;
 use std::alloc::{AllocError, Global};
 use std::marker::Model;
-use text_lines::push_bytes;
+use text_lines::{push_bytes, push_number, push_text};
 
 /// The lines of a session, one command's after the other's. It is seen as its bytes. An `Err` of a call is want of memory, and leaves the
 /// lines as they were.
@@ -26,6 +25,15 @@ impl Model for Transcript {
     ghost Value = { List ℕ };
 
     ghost view = { λ t. t.lines.items };
+}
+
+/// Appends the line of how many edits are in the draft, and after an `Err` perhaps a part of it.
+fn push_draft(out: &mut Vec<u8>, count: u32) -> Result<(), AllocError>
+    ensures { OnOk result (out.new.items ≡ out.old.items ++ draft_line count) }
+{
+    push_text(out, "draft")?;
+    push_number(out, count)?;
+    push_text(out, "\n")
 }
 
 /// The lines of a command that shows at most so many findings of a bench's cell.
@@ -69,7 +77,9 @@ impl Transcript {
         ensures ok { OnOk result (self.new ≡ self.old ++ draft_line count) }
         ensures err { OnErr result (self.new ≡ self.old) }
     {
-        push_draft(&mut self.lines, count)
+        let mut line = Vec::new(*self.lines.allocator());
+        push_draft(&mut line, count)?;
+        push_bytes(&mut self.lines, &line)
     }
 
     /// Appends the lines of a command that shows at most so many findings of a desk's copy of the cell: the number of the commit after

@@ -36,7 +36,7 @@ asked_at nall base [] (x ∷ xs) e ys all = absurd all
 asked_at nall base (r ∷ rs) [] e ys all = record { request = r; there = refl; event = all.0 }
 asked_at nall base (r ∷ rs) (x ∷ xs) e ys all = let i = asked_at nall (base_told x.brief base) rs xs e ys all.1 in record { request = i.request; there = i.there; event = i.event }
 
-same_number : (n : ℕ) → (n == n) ≡ true
+pub same_number : (n : ℕ) → (n == n) ≡ true
 same_number n = grind (arith, nat_tests)
 
 turned : (i n : ℕ) → (i == n) ≡ (n == i)

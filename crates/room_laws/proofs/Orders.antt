@@ -22,7 +22,7 @@ use Rattle.room_laws.proofs.Interleaved.{desk_count}
 use Rattle.room_laws.proofs.Served.{asked_length}
 
 -- as many requests as shared commands
-requests_count : (edits : List Edit) (guards : List RecName) (cs : List Command) → length (requests_from edits guards cs) ≡ count_by is_shared cs
+pub requests_count : (edits : List Edit) (guards : List RecName) (cs : List Command) → length (requests_from edits guards cs) ≡ count_by is_shared cs
 requests_count edits guards [] = refl
 requests_count edits guards (View ∷ cs) = ap suc (requests_count edits guards cs) ∙ sym (sum_by-cons (λ c. cond (is_shared c) 1 0) View cs ∙ omega arith)
 requests_count edits guards (Commit ∷ cs) = ap suc (requests_count [] [] cs) ∙ sym (sum_by-cons (λ c. cond (is_shared c) 1 0) Commit cs ∙ omega arith)
@@ -31,7 +31,7 @@ requests_count edits guards (Findings shown ∷ cs) = requests_count edits guard
 requests_count edits guards (Push edit ∷ cs) = requests_count _ guards cs ∙ sym (sum_by-cons (λ c. cond (is_shared c) 1 0) (Push edit) cs ∙ omega arith)
 requests_count edits guards (Guard name ∷ cs) = requests_count edits _ cs ∙ sym (sum_by-cons (λ c. cond (is_shared c) 1 0) (Guard name) cs ∙ omega arith)
 
-quota_there : (scripts : List (List Command)) (k : ℕ) → slice_index_or (quotas_of scripts) k 0 ≡ count_by is_shared (slice_index_or scripts k [])
+pub quota_there : (scripts : List (List Command)) (k : ℕ) → slice_index_or (quotas_of scripts) k 0 ≡ count_by is_shared (slice_index_or scripts k [])
 quota_there [] k = refl
 quota_there (s ∷ scripts) zero = refl
 quota_there (s ∷ scripts) (suc k) = quota_there scripts k

@@ -101,7 +101,7 @@ IsJudged h event (Newer number name other edit) = Unit {0}
 IsJudged h event (Refused refusal) = Unit {0}
 IsJudged h event (Accepted number findings) = IsCommit event × (findings ≡ finding_total (apply_edits (edits_asked event) h.cell))
 
-abbrev IsNewer : Option Reply → Type 0
+abbrev pub IsNewer : Option Reply → Type 0
 IsNewer None = Unit {0}
 IsNewer (Some (Viewed number findings)) = ⊥
 IsNewer (Some (Formed fault)) = ⊥
@@ -121,7 +121,7 @@ newer_first : (one : Option Reply) (rest : List Reply) → IsNewer one → IsNew
 newer_first None rest p q = q
 newer_first (Some r) rest p q = p
 
-newer_all : (edits : List Edit) (guards : List RecName) (told : List (ℕ × AcceptedCommit)) → IsNewer (first_of (filter_map (clash_with edits guards) told))
+pub newer_all : (edits : List Edit) (guards : List RecName) (told : List (ℕ × AcceptedCommit)) → IsNewer (first_of (filter_map (clash_with edits guards) told))
 newer_all edits guards [] = tt
 newer_all edits guards (t ∷ ts) = newer_first (clash_with edits guards t) (filter_map (clash_with edits guards) ts) (newer_clash t.0 t.1 (first_of (ascending name_order (contested_names edits guards t.1.edits)))) (newer_all edits guards ts)
 

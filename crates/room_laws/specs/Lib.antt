@@ -1,3 +1,4 @@
+pub mod Desks
 pub mod Interleaved
 pub mod Orders
 pub mod Served

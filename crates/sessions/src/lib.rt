@@ -2,7 +2,10 @@
 #![tactic(auto)]
 
 mod draft;
+mod editor;
 mod local;
+mod run;
 mod session;
 
+pub use run::{Replayed, SESSION_LIMIT, open_book, replay};
 pub use session::{Session, Shared};

@@ -1,6 +1,6 @@
 //! One session.
 
-ghost use Rattle.std.specs.Prelude.{◌≡◌, ◌++◌, ◌∷◌, [], false, IfOk, MatchOption, MatchResult, OnErr, OnOk, Some};
+ghost use Rattle.std.specs.Prelude.{◌≡◌, ◌++◌, ◌∷◌, [], false, count_by, IfOk, MatchOption, MatchResult, OnErr, OnOk, Some};
 ghost use Rattle.edit_sets.specs.FormFault.{IsFormRefusal, IsSetOf};
 ghost use Rattle.history_spec.specs.ReportText.{reply_line};
 ghost use Rattle.history_spec.specs.Served.{draft_after, no_draft};
@@ -82,6 +82,13 @@ impl Session {
             draft: Draft::make(alloc),
             transcript: Transcript::make(alloc),
         }
+    }
+
+    /// How many views and commits the script has.
+    pub fn shared(&self) -> u32
+        ensures { result ≡ count_by is_shared self.now.script }
+    {
+        self.script.shared()
     }
 
     /// Does the next command where no other session sees it.

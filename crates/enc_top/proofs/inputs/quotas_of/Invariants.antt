@@ -1,5 +1,6 @@
 use Rattle.std.proofs.Common.{◌≡◌, take}
-use Rattle.enc_top.specs.Inputs.{quotas_of}
+use Rattle.room_laws.specs.Orders.{quotas_of}
+
 use Rattle.enc_top.proofs.inputs.quotas_of.Given as goal
 
 abbrev pub invariant-loop-script : goal.invariant-loop-script

@@ -5,7 +5,7 @@ use Rattle.script_text.specs.declared.script.Script.{Script}
 use Rattle.std.proofs.lemmas.List.{length-map}
 use Rattle.std.proofs.lemmas.List.Elements.{All-push}
 use Rattle.export_laws.specs.ExportedCells.{IsScriptOfText}
-use Rattle.plain_replay.specs.Requests.{IsRunnable}
+use Rattle.sessions.specs.Replays.{IsShortScript}
 use Rattle.enc_top.specs.Inputs.{AreScripts, IsAmong, IsFile, IsReachedScript, ScriptIs, ScriptsAre, Tells}
 use Rattle.enc_top.proofs.Answered.{both_told, first_bad, name_there, reached_script, scripts_more, status_of_more, tells_later}
 use Rattle.enc_top.proofs.inputs.read_scripts.Goals as goal
@@ -44,7 +44,7 @@ loop-k-preserved g c =
       many = (let one = ap length pushed in let more = length-append scripts (c.in-Ok.script ∷ []) in let many = before.many in omega (arith, one, more, many));
       good = subst (λ all. IfSome (g.H.Shelf.files c.args.shelf.now) (λ fs. AreScripts names fs all)) (sym pushed)
           (both_told (g.H.Shelf.files c.args.shelf.now) before.good tells (λ fs good next. scripts_more names fs scripts c.as_str.result.now c.in-Ok.script there good (subst (λ n. ScriptIs (n + 1) c.as_str.result.now fs (Ok c.in-Ok.script)) (sym before.many) next)));
-      runnable = subst (All IsRunnable) (sym pushed) (All-push IsRunnable scripts c.in-Ok.script before.runnable c.in-Ok.ensures.runnable);
+      short = subst (All IsShortScript) (sym pushed) (All-push IsShortScript scripts c.in-Ok.script before.short c.in-Ok.ensures.short);
       of_texts = subst (All IsScriptOfText) (sym pushed) (All-push IsScriptOfText scripts c.in-Ok.script before.of_texts c.in-Ok.ensures.of_text);
       files = c.in-Ok.ensures.files ∙ before.files;
       read_faults = (let now = c.in-Ok.ensures.read_faults in let so_far = before.read_faults in omega (arith, now, so_far));

@@ -1,6 +1,6 @@
 use Rattle.std.proofs.Common.{◌≡◌, ◌≤◌, All, length, map, string_bytes, IfSome}
 use Rattle.export_laws.specs.ExportedCells.{IsScriptOfText}
-use Rattle.plain_replay.specs.Requests.{IsRunnable}
+use Rattle.sessions.specs.Replays.{IsShortScript}
 use Rattle.enc_top.specs.Inputs.{AreScripts}
 use Rattle.enc_top.proofs.inputs.read_scripts.Given as goal
 
@@ -8,7 +8,7 @@ abbrev pub invariant-loop-k : goal.invariant-loop-k
 invariant-loop-k g l = record {
   many : length l.scripts.items ≡ l.k;
   good : IfSome (g.H.Shelf.files l.initial.shelf) (λ fs. AreScripts (map string_bytes l.names) fs l.scripts.items);
-  runnable : All IsRunnable l.scripts.items;
+  short : All IsShortScript l.scripts.items;
   of_texts : All IsScriptOfText l.scripts.items;
   files : g.H.Shelf.files l.shelf ≡ g.H.Shelf.files l.initial.shelf;
   read_faults : g.H.Shelf.read_faults l.initial.shelf ≤ g.H.Shelf.read_faults l.shelf;

@@ -25,6 +25,7 @@ invariant_of-self-2 c =
     (subst (λ b. length b.entries < 1000000) known c.requires.room)
     ((λ i. Accepted (numbered i + 1) (found i)) ∙ sym answered)
     (subst (λ b. set.nall ≡ b.opening.head.nall) known c.requires.level)
+    c.requires.lines
     (c.install.ensures ∙ subst (λ b. c.args.plan ≡ apply_edits set.edits (history_of b).cell) known c.requires.planned)
     (c.push_reserved.ensures.items ∙ (λ i. c.reserve-2.ensures.items i ++ record { desk = c.args.desk; set = c.in_ok-copy-2.ensures i } ∷ []))
     (c.push_reserved-2.ensures.items ∙ (λ i. c.reserve.ensures.items i ++ entry_of c.args.desk (Commit c.args.base (c.in_ok-copy.ensures i)) (brief.Accepted number findings) ∷ []))

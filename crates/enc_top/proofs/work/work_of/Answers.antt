@@ -1,0 +1,16 @@
+use Rattle.std.proofs.Common.{◌≡◌, ◌++◌, List, ℕ, Some, Ok, string_bytes, sym, ap, ◌∙◌, subst}
+use Rattle.file_spec.specs.EncodedCell.{encoded_cell}
+use Rattle.history_spec.specs.Entries.{order_of_entries, replayed}
+use Rattle.history_spec.specs.EntriesReport.{entries_report}
+use Rattle.history_spec.specs.ReportText.{final_cell, report}
+use Rattle.enc_top.specs.Task.{Task}
+use Rattle.enc_top.proofs.work.work_of.Goals as goal
+
+pub returns : goal.returns
+returns c = λ scripts entries lines.
+    let book = c.args.book.now in
+    let order = order_of_entries book.entries in
+    let text = c.in_ok-print_report.ensures.ok ∙ ap (λ before. before ++ entries_report book.opening book.entries c.args.transcripts.now) c.new-text.ensures.items
+    ∙ sym (c.a_history_has_the_report_of_its_order.ensures.report book.opening scripts book.entries c.args.transcripts.now entries lines) in
+    let cell = c.in_ok-cell.ensures ∙ c.bench-2.ensures ∙ sym (c.a_history_has_the_report_of_its_order.ensures.cell book.opening scripts book.entries entries) in
+    (λ i. record { text = text i; file = Some ((c.in_ok-name.ensures i), (c.in_ok-bytes.ensures ∙ ap encoded_cell cell) i) })

@@ -1,4 +1,0 @@
-mod Bases
-mod Contested
-mod Firsts
-mod StepStates

@@ -1,2 +1,0 @@
-mod sessions;
-mod words;
