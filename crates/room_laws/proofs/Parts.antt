@@ -27,32 +27,32 @@ abbrev one_accepted : ℕ → List Edit → AcceptedCommit
 one_accepted desk edits = record { desk = desk; edits = edits }
 
 -- the commits that a step adds
-abbrev added_by : ℕ → Event → Reply → List AcceptedCommit
+abbrev pub added_by : ℕ → Event → Reply → List AcceptedCommit
 added_by desk event (reply.Viewed number findings) = []
 added_by desk event (reply.Formed fault) = []
 added_by desk event (reply.Newer number name other edit) = []
 added_by desk event (reply.Refused refusal) = []
 added_by desk event (reply.Accepted number findings) = one_accepted desk (edits_asked event) ∷ []
 
-commits_left : (desk : ℕ) (event : Event) (r : Reply) (h : History) → (left_after desk event r h).commits ≡ h.commits ++ added_by desk event r
+pub commits_left : (desk : ℕ) (event : Event) (r : Reply) (h : History) → (left_after desk event r h).commits ≡ h.commits ++ added_by desk event r
 commits_left desk event (reply.Viewed number findings) h = sym (append-nil h.commits)
 commits_left desk event (reply.Formed fault) h = sym (append-nil h.commits)
 commits_left desk event (reply.Newer number name other edit) h = sym (append-nil h.commits)
 commits_left desk event (reply.Refused refusal) h = sym (append-nil h.commits)
 commits_left desk event (reply.Accepted number findings) h = refl
 
-cell_left : (desk : ℕ) (event : Event) (r : Reply) (h : History) → (left_after desk event r h).cell ≡ fold (λ d (a : AcceptedCommit). apply_edits a.edits d) h.cell (added_by desk event r)
+pub cell_left : (desk : ℕ) (event : Event) (r : Reply) (h : History) → (left_after desk event r h).cell ≡ fold (λ d (a : AcceptedCommit). apply_edits a.edits d) h.cell (added_by desk event r)
 cell_left desk event (reply.Viewed number findings) h = refl
 cell_left desk event (reply.Formed fault) h = refl
 cell_left desk event (reply.Newer number name other edit) h = refl
 cell_left desk event (reply.Refused refusal) h = refl
 cell_left desk event (reply.Accepted number findings) h = refl
 
-abbrev added : History → List Entry → List AcceptedCommit
+abbrev pub added : History → List Entry → List AcceptedCommit
 added h [] = []
 added h (e ∷ es) = added_by e.desk (event_asked e.asked) (entry_step h e).0 ++ added (stepped h e) es
 
-all_added : (h : History) (es : List Entry) → (fold (stepped) h es).commits ≡ h.commits ++ added h es
+pub all_added : (h : History) (es : List Entry) → (fold (stepped) h es).commits ≡ h.commits ++ added h es
 all_added h [] = sym (append-nil h.commits)
 all_added h (e ∷ es) = all_added (stepped h e) es
     ∙ (ap (λ (l : List AcceptedCommit). l ++ added (stepped h e) es) (commits_left e.desk (event_asked e.asked) (entry_step h e).0 h)

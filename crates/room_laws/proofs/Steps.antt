@@ -34,9 +34,9 @@ level_left desk event (Newer number name other edit) h = refl
 level_left desk event (Refused refusal) h = refl
 level_left desk event (Accepted number findings) h = level_by h.cell.head (edit_of head_name (edits_asked event))
 
--- an accepted commit has the next number
+-- a view tells how many commits were accepted, and an accepted commit has the next number
 abbrev pub IsNumbered : List AcceptedCommit → Reply → Type 0
-IsNumbered commits (Viewed number findings) = Unit {0}
+IsNumbered commits (Viewed number findings) = number ≡ length commits
 IsNumbered commits (Formed fault) = Unit {0}
 IsNumbered commits (Newer number name other edit) = Unit {0}
 IsNumbered commits (Refused refusal) = Unit {0}
@@ -73,7 +73,7 @@ by_newer commits None other p q = q
 by_newer commits (Some reply) other p q = p
 
 pub answer_numbered : (h : History) (event : Event) → IsNumbered h.commits (answer h event)
-answer_numbered h view = tt
+answer_numbered h view = refl
 answer_numbered h (faulty fault) = tt
 answer_numbered h (commit base edits guards) = by_newer h.commits (newer_answer h.commits base edits guards) _ (firsts h.commits edits guards (drop base (enumerate_from 1 h.commits))) (by_refusal h edits (state_refusal h.cell edits))
 
