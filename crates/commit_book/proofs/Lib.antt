@@ -3,3 +3,4 @@ pub mod Contested
 pub mod Kept
 pub mod Numbered
 pub mod News
+pub mod Sent

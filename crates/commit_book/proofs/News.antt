@@ -1,5 +1,5 @@
 -- The answers of a commit, and the news that they tell.
-use Rattle.std.proofs.Common.{◌≡◌, ℕ, ◌+◌, ◌≤◌, List, [], ◌∷◌, ◌++◌, Option, Some, None, length, map, drop, refl, sym, ap, ◌∙◌}
+use Rattle.std.proofs.Common.{◌≡◌, ℕ, ◌+◌, ◌≤◌, List, [], ◌∷◌, ◌++◌, Option, Some, None, length, map, drop, refl, sym, ap, subst, ◌∙◌}
 use Rattle.std.specs.Option.{option_map_or}
 use Rattle.std.proofs.lemmas.List.{drop-append-le}
 use Rattle.s57_types.specs.declared.cell.Cell.{Cell}
@@ -13,7 +13,7 @@ use Rattle.history_spec.specs.declared.reply.Reply.TheVariants.{Viewed, Formed, 
 use Rattle.history_spec.specs.Steps.{History, commit_answer, newer_answer, state_refusal}
 use Rattle.cell_bench.specs.Benches.{IsPlanned}
 use Rattle.commit_book.specs.declared.accepted.Accepted.{Accepted as Taken}
-use Rattle.commit_book.specs.Books.{BookState, IsEntered, IsKept, IsVerdict, accepted_sets, commit_of, history_of, news_of, sets_told}
+use Rattle.commit_book.specs.Books.{BookState, IsEntered, IsKept, IsVerdict, LeavesCommits, accepted_sets, commit_of, history_of, news_of, sets_told}
 use Rattle.commit_book.proofs.Kept.{sets_left, sets_pushed}
 
 answer_by : (h : History) (base : ℕ) (set : GuardedEdits) (refusal : Option StateRefusal) → newer_answer h.commits base set.edits set.guards ≡ None → state_refusal h.cell set.edits ≡ refusal
@@ -53,6 +53,8 @@ commit_news old new desk base set (Accepted number findings) told verdict within
     ∙ ap (drop base) (sets_pushed old.entries desk base set number findings)
     ∙ drop-append-le base (accepted_sets old.entries) (set ∷ []) within)
 
--- a view leaves the edit sets that are accepted
-pub view_sets : (old new : BookState) (desk number findings : ℕ) → IsEntered old desk View new (Viewed number findings) → accepted_sets old.entries ≡ accepted_sets new.entries
-view_sets old new desk number findings told = sym (ap accepted_sets told.entries ∙ sets_left old.entries desk View (Viewed number findings) tt)
+-- the news of a view: the edit sets behind its base, which it leaves as they are
+pub view_news : (old new : BookState) (desk base : ℕ) (reply : Reply) → IsEntered old desk View new reply → drop base (accepted_sets old.entries) ≡ news_of reply base (accepted_sets new.entries)
+view_news old new desk base reply told =
+    let left = ap accepted_sets told.entries ∙ sets_left old.entries desk View reply (subst LeavesCommits (sym told.reply_is) tt) in
+    ap (drop base) (sym left) ∙ ap (λ r. news_of r base (accepted_sets new.entries)) (sym told.reply_is)

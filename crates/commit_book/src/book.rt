@@ -12,18 +12,19 @@ use crate::told::{EditSets, Told, sets_after, sets_told, with_set};
 use cell_bench::{Bench, LoadRefusal, Prepared};
 use chain_topo::Steps;
 use edit_sets::{EditSet, FormFault};
-use history_spec::{Asked, Entry, Reply};
+use history_spec::{Asked, Entry};
 use s57_types::Cell;
 use std::alloc::{AllocError, Global};
 use std::marker::Model;
 use std::snapshot::Snapshot;
 use std::sync::ledger::Ledger;
+use turn_gate::Chronicle;
 
 /// A cell in the course of its editing: its bench, the commits that it took, and an entry for each answer. It is seen as the cell
 /// with which it was opened and its entries, which tell all else.
 #[derive(Drop)]
 pub struct Book {
-    opening: Snapshot<Cell>,
+    opening: Snapshot<Bench>,
     pub(crate) bench: Bench,
     pub(crate) accepted: Vec<Accepted>,
     pub(crate) entries: Vec<Entry>,
@@ -39,6 +40,18 @@ impl Model for Book {
     ghost invariant = { λ b. IsKept b.opening.value b.entries.items b.bench b.accepted.items };
 }
 
+impl Chronicle for Book {
+    type Entry = Entry;
+
+    type Origin = Cell;
+
+    ghost origin = { λ book. book.opening };
+
+    ghost entries = { λ book. book.entries };
+
+    ghost number = { λ entry. entry.desk };
+}
+
 impl Book {
     /// The book of a writable cell before its first entry, with the look-ups that finding its findings takes.
     ///
@@ -51,14 +64,21 @@ impl Book {
         requires { IsWritable cell }
         ensures { MatchResult result (IsOpened cell) (IsLoadRefusal cell) }
     {
-        let opening = Snapshot::of(&cell);
         let bench = Bench::load(alloc, cell, steps)?;
-        Ok(Book {
-            opening,
+        Ok(Book::of_bench(alloc, bench))
+    }
+
+    /// The book of a bench before its first entry, without taking memory.
+    pub fn of_bench(alloc: Global, bench: Bench) -> Book
+        ensures { IsOpened bench result }
+    {
+        bench.known();
+        Book {
+            opening: Snapshot::of(&bench),
             bench,
             accepted: Vec::new(alloc),
             entries: Vec::new(alloc),
-        })
+        }
     }
 
     /// What every book keeps: each entry has the answer at its point, the level of national texts is that of the opening, the edit
@@ -124,13 +144,9 @@ impl Book {
     {
         self.need_room()?;
         let sets = self.sets_after(alloc, base)?;
-        let reply = Reply::Viewed {
-            number: self.commits(),
-            findings: self.bench.finding_count(),
-        };
-        self.enter(desk, Asked::View, &reply)?;
+        let answered = self.answer_view(desk)?;
         Ok(Told {
-            reply,
+            reply: answered.reply,
             news: EditSets::of_vec(sets),
         })
     }
@@ -149,11 +165,9 @@ impl Book {
         ensures err { IfErr result (λ why. IsBookRefusal self.old.entries why × (self.new ≡ self.old)) }
         ensures full { length self.old.entries ≡ entry_limit → result ≡ Err BookRefusal.LogFull }
     {
-        self.need_room()?;
-        let reply = Reply::Formed(fault);
-        self.enter(desk, Asked::Faulty(fault), &reply)?;
+        let answered = self.answer_faulty(desk, fault)?;
         Ok(Told {
-            reply,
+            reply: answered.reply,
             news: EditSets::make(alloc),
         })
     }
@@ -180,8 +194,11 @@ impl Book {
         self.need_room()?;
         let newer = self.sets_after(alloc, prepared.base())?;
         let sets = with_set(alloc, newer, prepared.edits())?;
-        let reply = self.enter_commit(alloc, desk, prepared, steps)?;
-        let news = sets_told(alloc, &reply, sets);
-        Ok(Told { reply, news })
+        let answered = self.answer_commit(alloc, desk, prepared, steps)?;
+        let news = sets_told(alloc, &answered.reply, sets);
+        Ok(Told {
+            reply: answered.reply,
+            news,
+        })
     }
 }

@@ -14,4 +14,4 @@ pub use book::Book;
 pub use cell_bench::{Bench, LoadRefusal, Prepared};
 pub use history_spec::{Asked, Brief, Entry, Reply, StateRefusal};
 pub use refusal::BookRefusal;
-pub use told::{EditSets, Told};
+pub use told::{Answered, EditSets, Told};

@@ -5,6 +5,7 @@ ghost use Rattle.history_spec.specs.Entries.{brief_of as spec_brief_of};
 ghost use Rattle.commit_book.specs.Books.{set_in, sets_told as spec_sets_told};
 
 use crate::accepted::Accepted;
+use cell_bench::Bench;
 use edit_sets::EditSet;
 use history_spec::{Brief, Reply};
 use s57_types::{Duplicate, Items};
@@ -18,6 +19,26 @@ pub type EditSets = Items<EditSet>;
 pub struct Told {
     pub reply: Reply,
     pub news: EditSets,
+}
+
+/// The answer alone, and the bench that an accepted commit replaced. That others have a copy of it or not, it is dropped best when
+/// nobody waits for the book.
+#[derive(Drop)]
+pub struct Answered {
+    pub reply: Reply,
+    pub replaced: Option<Bench>,
+}
+
+impl Answered {
+    /// An answer that replaces no bench.
+    pub(crate) fn alone(reply: Reply) -> Answered
+        ensures { result.reply ≡ reply }
+    {
+        Answered {
+            reply,
+            replaced: None,
+        }
+    }
 }
 
 /// An answer without the edit that it may show.

@@ -34,9 +34,9 @@ level_left desk event (Newer number name other edit) h = refl
 level_left desk event (Refused refusal) h = refl
 level_left desk event (Accepted number findings) h = level_by h.cell.head (edit_of head_name (edits_asked event))
 
--- an accepted commit has the next number
+-- a view tells how many commits were accepted, and an accepted commit has the next number
 abbrev pub IsNumbered : List AcceptedCommit → Reply → Type 0
-IsNumbered commits (Viewed number findings) = Unit {0}
+IsNumbered commits (Viewed number findings) = number ≡ length commits
 IsNumbered commits (Formed fault) = Unit {0}
 IsNumbered commits (Newer number name other edit) = Unit {0}
 IsNumbered commits (Refused refusal) = Unit {0}
@@ -73,7 +73,7 @@ by_newer commits None other p q = q
 by_newer commits (Some reply) other p q = p
 
 pub answer_numbered : (h : History) (event : Event) → IsNumbered h.commits (answer h event)
-answer_numbered h view = tt
+answer_numbered h view = refl
 answer_numbered h (faulty fault) = tt
 answer_numbered h (commit base edits guards) = by_newer h.commits (newer_answer h.commits base edits guards) _ (firsts h.commits edits guards (drop base (enumerate_from 1 h.commits))) (by_refusal h edits (state_refusal h.cell edits))
 
@@ -101,7 +101,7 @@ IsJudged h event (Newer number name other edit) = Unit {0}
 IsJudged h event (Refused refusal) = Unit {0}
 IsJudged h event (Accepted number findings) = IsCommit event × (findings ≡ finding_total (apply_edits (edits_asked event) h.cell))
 
-abbrev pub IsNewer : Option Reply → Type 0
+abbrev IsNewer : Option Reply → Type 0
 IsNewer None = Unit {0}
 IsNewer (Some (Viewed number findings)) = ⊥
 IsNewer (Some (Formed fault)) = ⊥
@@ -121,7 +121,7 @@ newer_first : (one : Option Reply) (rest : List Reply) → IsNewer one → IsNew
 newer_first None rest p q = q
 newer_first (Some r) rest p q = p
 
-pub newer_all : (edits : List Edit) (guards : List RecName) (told : List (ℕ × AcceptedCommit)) → IsNewer (first_of (filter_map (clash_with edits guards) told))
+newer_all : (edits : List Edit) (guards : List RecName) (told : List (ℕ × AcceptedCommit)) → IsNewer (first_of (filter_map (clash_with edits guards) told))
 newer_all edits guards [] = tt
 newer_all edits guards (t ∷ ts) = newer_first (clash_with edits guards t) (filter_map (clash_with edits guards) ts) (newer_clash t.0 t.1 (first_of (ascending name_order (contested_names edits guards t.1.edits)))) (newer_all edits guards ts)
 

@@ -16,7 +16,8 @@ use Rattle.history_spec.specs.ReportText.{base_after, reply_line, transcript_fro
 use Rattle.history_spec.specs.Served.{Draft, IsServed, asked_by, draft_after}
 use Rattle.history_spec.specs.Sessions.{requests_of}
 use Rattle.room_laws.specs.Desks.{copy_after}
-use Rattle.room_laws.proofs.Desks.{base_stays, cell_stays, desk_moves}
+use Rattle.room_laws.proofs.Bases.{base_stays, cell_stays}
+use Rattle.room_laws.proofs.Desks.{desk_moves}
 use Rattle.room_laws.proofs.Interleaved.{same_number}
 use Rattle.room_laws.proofs.Orders.{requests_count}
 use Rattle.room_laws.proofs.Reports.{base_of_brief}

@@ -5,7 +5,7 @@ use Rattle.text_spec.specs.declared.command.Command.{Command}
 use Rattle.text_spec.specs.ScriptLines.{command_limit, is_shared}
 use Rattle.commit_book.specs.Books.{BookState, IsEntered}
 use Rattle.commit_book.specs.declared.refusal.BookRefusal.{BookRefusal}
-use Rattle.commit_book.specs.declared.told.Told.{Told}
+use Rattle.commit_book.specs.declared.told.Answered.{Answered}
 use Rattle.history_spec.specs.declared.entry.Asked.{Asked}
 use Rattle.history_spec.specs.declared.entry.Entry.{Entry}
 use Rattle.history_spec.specs.declared.reply.Reply.{Reply}
@@ -38,9 +38,9 @@ pub record IsAskedOf (old : BookState) (number base : ℕ) (draft : Draft) (what
   pub event : event_asked asked ≡ event_of old.opening.head.nall base (request_of what draft)
   pub entered : IsEntered old number asked new reply
 
--- the answer that a log told
-abbrev pub IsReplyOf : Result Told BookRefusal → Reply → Type 0
-IsReplyOf (Ok told) reply = reply ≡ told.reply
+-- the answer of a log
+abbrev pub IsReplyOf : Result Answered BookRefusal → Reply → Type 0
+IsReplyOf (Ok answered) reply = reply ≡ answered.reply
 IsReplyOf (Err why) reply = ⊥
 
 -- an editor beside the entries of the log: what its session did is served, and its copy of the cell is that after its base

@@ -14,7 +14,7 @@ use crate::session::{Session, Shared};
 use cell_bench::{Bench, Prepared};
 use cell_spec::Rows;
 use chain_topo::Steps;
-use commit_book::{Book, BookRefusal, Told};
+use commit_book::{Answered, Book, BookRefusal};
 use edit_sets::FormRefusal;
 use history_spec::Reply;
 use report_text::Transcript;
@@ -31,13 +31,13 @@ pub(crate) struct Editor {
     bench: Bench,
 }
 
-/// The answer that a log told. A log that isn't full refuses for want of memory alone.
-fn reply_of(told: Result<Told, BookRefusal>) -> Result<Reply, AllocError>
-    requires { IfErr told (λ why. why ≡ BookRefusal.NoMemory) }
-    ensures { IfOk result (IsReplyOf told) }
+/// The answer of a log. A log that isn't full refuses for want of memory alone.
+fn reply_of(answered: Result<Answered, BookRefusal>) -> Result<Reply, AllocError>
+    requires { IfErr answered (λ why. why ≡ BookRefusal.NoMemory) }
+    ensures { IfOk result (IsReplyOf answered) }
 {
-    match told {
-        Ok(told) => Ok(told.reply),
+    match answered {
+        Ok(answered) => Ok(answered.reply),
         Err(BookRefusal::NoMemory) => Err(AllocError),
         Err(BookRefusal::LogFull) => unreachable!(),
     }
@@ -73,9 +73,9 @@ impl Editor {
         match self.session.offer(alloc, nall) {
             Ok(set) => {
                 let prepared = Prepared::make(self.base, set, Rows::make(alloc));
-                reply_of(book.commit(alloc, number, &prepared, steps))
+                reply_of(book.answer_commit(alloc, number, &prepared, steps))
             }
-            Err(FormRefusal::Fault(fault)) => reply_of(book.faulty(alloc, number, fault)),
+            Err(FormRefusal::Fault(fault)) => reply_of(book.answer_faulty(number, fault)),
             Err(FormRefusal::NoMemory) => Err(AllocError),
         }
     }
@@ -94,7 +94,7 @@ impl Editor {
         ensures { IfOk result (IsAskedOf book.old number self.now.base self.now.session.draft shared book.new) }
     {
         match shared {
-            Shared::View => reply_of(book.view(alloc, number, self.base)),
+            Shared::View => reply_of(book.answer_view(number)),
             Shared::Commit => self.commit(alloc, book, number, steps),
         }
     }

@@ -7,10 +7,10 @@ pub returns-clause-news : goal.returns-clause-news
 returns-clause-news g c =
     let old = c.args.self.now in
     let base = c.args.prepared.now.base in
-    let reply = c.in_ok-reply.reply in
-    let told = c.in_ok-reply.ensures in
+    let reply = c.in_ok-answered.answered.reply in
+    let told = c.in_ok-answered.ensures in
     let newer = c.in_ok-newer.ensures.sets ∙ ap (λ n. drop n (accepted_sets old.entries)) c.base.ensures in
     let all = c.sets_told-news.ensures ∙ ap (sets_told reply) (c.in_ok-sets.ensures ∙ (λ i. newer i ++ c.edits.ensures i ∷ [])) in
     all
-    ∙ commit_news old c.enter_commit.new.self c.args.desk base c.args.prepared.now.edits reply told.ok told.verdict
+    ∙ commit_news old c.answer_commit.new.self c.args.desk base c.args.prepared.now.edits reply told.ok told.verdict
     (subst (λ n. n ≤ length (accepted_sets old.entries)) c.base.ensures c.sets_after.ensures.within)
