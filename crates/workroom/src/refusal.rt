@@ -30,7 +30,5 @@ pub enum RoomRefusal {
     LogFull,
     /// Want of memory. Where `entered` is true the answer stands in the log, and the desk's copy of the cell didn't come up to it; the
     /// desk's next view goes on from there. Where it is false nothing was entered.
-    NoMemory {
-        entered: bool,
-    },
+    NoMemory { entered: bool },
 }

@@ -76,12 +76,7 @@ impl Deed<Book> for Turn {
 }
 
 /// Has a book answer what a desk asks.
-fn answer(
-    alloc: Global,
-    book: &mut Book,
-    desk: u32,
-    ask: &Ask,
-) -> Result<Answered, BookRefusal>
+fn answer(alloc: Global, book: &mut Book, desk: u32, ask: &Ask) -> Result<Answered, BookRefusal>
     requires { CanAsk book.old.opening book.old.entries ask.now }
     ensures ok { IfOk result (λ answered. IsEntered book.old desk (asked_of ask.now) book.new answered.reply) }
     ensures err { IfErr result (λ why. IsBookRefusal book.old.entries why × (book.new ≡ book.old)) }
