@@ -72,8 +72,8 @@ base_moved h desk base asked reply is = moved h desk base (event_asked asked) re
 pub base_grows : (h : History) (base : ℕ) (asked : Asked) (reply : Reply) → reply ≡ answer h (event_asked asked) → base ≤ length h.commits → base ≤ base_told (brief_of reply) base
 base_grows h base asked reply is b = ⊎_elim (λ (same : base_told (brief_of reply) base ≡ base). omega (arith, same))
     (λ (last : base_told (brief_of reply) base ≡ length (left_after 0 (event_asked asked) reply h).commits).
-        let many = ap length (commits_left 0 (event_asked asked) reply h) ∙ length-append h.commits (added_by 0 (event_asked asked) reply) in
-        omega (arith, last, many, b))
+    let many = ap length (commits_left 0 (event_asked asked) reply h) ∙ length-append h.commits (added_by 0 (event_asked asked) reply) in
+    omega (arith, last, many, b))
     (base_moved h 0 base asked reply is)
 
 level_edited : (d : Cell) (commits : List AcceptedCommit) → (edited d commits).head.nall ≡ d.head.nall

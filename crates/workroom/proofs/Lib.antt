@@ -1,0 +1,4 @@
+pub mod Moves
+pub mod Turns
+pub mod Rooms
+pub mod Shared

@@ -1,0 +1,34 @@
+//! Why a workroom answers nothing.
+
+ghost use Rattle.std.specs.Prelude.{◌≡◌};
+
+use std::alloc::AllocError;
+
+/// Why there is no new desk.
+#[derive(Clone, Copy, Debug, PartialEq, Eq)]
+pub enum DeskRefusal {
+    /// There are as many desks as there may be.
+    NoDesk,
+    /// Want of memory.
+    NoMemory,
+}
+
+impl From<AllocError> for DeskRefusal {
+    ghost use Rattle.workroom.specs.declared.refusal.DeskRefusal.TheVariants.{NoMemory};
+
+    ghost from_gives = { λ _ refusal. refusal ≡ NoMemory };
+
+    fn from(_error: AllocError) -> DeskRefusal {
+        DeskRefusal::NoMemory
+    }
+}
+
+/// Why a desk gets no answer.
+#[derive(Clone, Copy, Debug, PartialEq, Eq)]
+pub enum RoomRefusal {
+    /// The log has as many entries as it may have; nothing was entered.
+    LogFull,
+    /// Want of memory. Where `entered` is true the answer stands in the log, and the desk's copy of the cell didn't come up to it; the
+    /// desk's next view goes on from there. Where it is false nothing was entered.
+    NoMemory { entered: bool },
+}
