@@ -1,5 +1,5 @@
 -- Good input files leave no refusal, and what is left in OUT is read back.
-use Rattle.std.proofs.Common.{◌≡◌, ◌⊎◌, inl, inr, ℕ, ◌+◌, ◌<◌, ◌≤◌, ◌^◌, Bool, true, false, List, [], ◌∷◌, length, map, Option, Some, None, Result, Ok, Err, codes, cond, refl, sym, ap, ◌∙◌, subst, arith}
+use Rattle.std.proofs.Common.{◌≡◌, ◌⊎◌, inl, inr, ℕ, ◌+◌, ◌<◌, ◌≤◌, ◌^◌, Bool, true, false, List, [], ◌∷◌, length, map, Option, Some, None, Ok, Err, codes, cond, refl, ap, ◌∙◌, subst, arith}
 use Rattle.std.specs.Prelude.{count_by, nat_lt, slice_index_or}
 use Rattle.std.proofs.lemmas.Bool.Decides.{nat_tests}
 use Rattle.std.proofs.lemmas.List.{length-map}
@@ -8,14 +8,13 @@ use Rattle.file_spec.specs.EncodedCell.{encoded_cell}
 use Rattle.history_spec.specs.ReportText.{final_cell}
 use Rattle.history_spec.specs.Steps.{finding_limit}
 use Rattle.rule_spec.specs.Findings.{finding_total}
-use Rattle.s57_types.specs.declared.cell.Cell.{Cell}
 use Rattle.text_spec.specs.OrderLine.{order_line, order_of}
 use Rattle.text_spec.specs.ScriptLines.{is_shared}
 use Rattle.text_spec.specs.declared.command.Command.{Command}
 use Rattle.order_text.proofs.OrderLines.{order_of-line}
 use Rattle.enc_top.specs.Complete.{AreGood, AreGoodScripts, IsComplete, IsGoodCell, IsGoodOrder, IsGoodScript, IsThere}
 use Rattle.room_laws.specs.Orders.{quotas_of}
-use Rattle.enc_top.specs.Inputs.{AreScripts, CellIs, FileIs, OrderIs, OutputIs, ScriptIs, ScriptsAre, cell_limit, order_in, order_limit, script_limit}
+use Rattle.enc_top.specs.Inputs.{CellIs, FileIs, OrderIs, OutputIs, ScriptIs, ScriptsAre, cell_limit, order_in, order_limit, script_limit}
 use Rattle.enc_top.specs.Outcome.{AreWritten, IsCause, IsCauseOf, IsExact, IsExpected, IsFormReadBack, IsOutReadBack, IsReadBackFrom, IsReplayOf, Outside}
 use Rattle.enc_top.specs.Task.{Task, check_task, run_task}
 use Rattle.enc_top.specs.Words.{Form, check_among, check_form, form_of, is_between, is_later_form, is_word, later_form, no_form, replay_among, replay_form}

@@ -1,6 +1,6 @@
 //! Writing a text and a file whole.
 
-ghost use Rattle.std.specs.Prelude.{[], ◌≡◌, ◌≤◌, IsSome, IfSome, OnOk, OnErr, string_bytes, Some};
+ghost use Rattle.std.specs.Prelude.{[], ◌≡◌, ◌≤◌, IfSome, OnOk, OnErr, string_bytes, Some};
 ghost use Rattle.enc_outside.specs.Count.{Rose};
 ghost use Rattle.enc_outside.specs.Files.{Told, StaysUntold, Writes};
 ghost use Rattle.enc_top.specs.Output.{Adds, AddsFront, HasFront, IsBegun};

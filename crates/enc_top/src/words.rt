@@ -1,6 +1,6 @@
 //! The words of a call.
 
-ghost use Rattle.std.specs.Prelude.{◌≡◌, ◌+◌, ◌<◌, ◌≤◌, [], ◌∷◌, length, map, string_bytes, codes, nat_eq, decimal};
+ghost use Rattle.std.specs.Prelude.{◌≡◌, ◌+◌, ◌<◌, ◌≤◌, ◌∷◌, map, string_bytes, nat_eq, decimal};
 ghost use Rattle.std.specs.Cmp.Lexicographic.{pointwise};
 ghost use Rattle.enc_top.specs.Words.{is_number_up_to as is_number_up_to_lem, is_make as is_make_lem, is_drill as is_drill_lem, is_later_form as is_later_form_lem};
 

@@ -1,6 +1,6 @@
 //! What a call does once its input is read.
 
-ghost use Rattle.std.specs.Prelude.{◌≡◌, IfOk, List, ℕ};
+ghost use Rattle.std.specs.Prelude.{◌≡◌, IfOk, List};
 ghost use Rattle.enc_top.specs.Task.{run_task, task_of};
 ghost use Rattle.history_spec.specs.Entries.{AreInterleaved, order_of_entries};
 ghost use Rattle.history_spec.specs.EntriesReport.{AreTranscripts};

@@ -10,7 +10,7 @@ use Rattle.history_spec.specs.declared.entry.Asked.{Asked}
 use Rattle.history_spec.specs.declared.entry.Entry.{Entry}
 use Rattle.history_spec.specs.declared.reply.Reply.{Reply}
 use Rattle.history_spec.specs.declared.reply.Reply.TheVariants.{Viewed, Formed, Newer, Refused, Accepted}
-use Rattle.history_spec.specs.Entries.{base_told, brief_of, entry_step, event_asked, replayed, stepped}
+use Rattle.history_spec.specs.Entries.{base_told, brief_of, event_asked, replayed, stepped}
 use Rattle.history_spec.specs.EntriesReport.{cell_told}
 use Rattle.history_spec.specs.Steps.{AcceptedCommit, Event, History, answer, commit, left_after, opening}
 use Rattle.room_laws.proofs.Steps.{IsNumbered, answer_numbered, level_left}

@@ -1,5 +1,5 @@
 -- What a session's commit asks of the history.
-use Rattle.std.proofs.Common.{◌≡◌, ℕ, List, None, Some, sym, ap, ◌∙◌}
+use Rattle.std.proofs.Common.{◌≡◌, ℕ, List, Some, sym, ap, ◌∙◌}
 use Rattle.std.specs.Option.{option_map_or}
 use Rattle.s57_types.specs.declared.name.RecName.{RecName}
 use Rattle.cell_spec.specs.declared.edit.Edit.{Edit}

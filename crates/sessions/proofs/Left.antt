@@ -3,8 +3,6 @@ use Rattle.std.proofs.Common.{◌≡◌, ℕ, suc, ◌-◌, ◌<◌, ◌≤◌, 
 use Rattle.sessions.specs.SessionStates.{SessionState, Stops}
 use Rattle.sessions.specs.declared.session.Stop.{Stop}
 use Rattle.sessions.specs.declared.session.Stop.TheVariants.{Local, Shared, End}
-use Rattle.text_spec.specs.declared.command.Command.{Command}
-use Rattle.std.proofs.Common.{List}
 
 abbrev pub left : SessionState → Stop → ℕ
 left s Local = suc (length s.script - length s.done)

@@ -1,5 +1,5 @@
 -- A script whose first commands are done.
-use Rattle.std.proofs.Common.{◌≡◌, ℕ, zero, suc, ◌+◌, ◌<◌, ◌≤◌, List, [], ◌∷◌, ◌++◌, get_or, length, take, drop, refl, sym, ap, ◌∙◌, subst, min, length-take, arith}
+use Rattle.std.proofs.Common.{◌≡◌, ℕ, zero, suc, ◌+◌, ◌<◌, ◌≤◌, List, [], ◌∷◌, ◌++◌, get_or, length, take, drop, refl, sym, ap, ◌∙◌, min, length-take, arith}
 use Rattle.text_spec.specs.declared.command.Command.{Command}
 use Rattle.sessions.specs.SessionStates.{SessionState, StandsNext}
 

@@ -13,7 +13,6 @@ use Rattle.history_spec.specs.Entries.{AreAsked, AreInterleaved, entries_of, eve
 use Rattle.history_spec.specs.EntriesReport.{AreTranscripts, IsTranscript, cell_told}
 use Rattle.history_spec.specs.Served.{Draft, IsServed}
 use Rattle.history_spec.specs.Sessions.{Request, event_of, requests_of, see, offer}
-use Rattle.sessions.specs.SessionStates.{SessionState}
 use Rattle.sessions.specs.declared.editor.Editor.{Editor}
 use Rattle.sessions.specs.declared.run.Replayed.{Replayed}
 use Rattle.sessions.specs.declared.session.Shared.{Shared}

@@ -145,9 +145,7 @@ impl Editor {
             → length (entries_of number entries) ≡ count_by is_shared self.session.script → IfOk result (IsEndedAs c entries number self.session.script) }
     {
         let mut editor = self;
-        editor
-            .session
-            .advance(alloc, &editor.bench, editor.base)?;
+        editor.session.advance(alloc, &editor.bench, editor.base)?;
         Ok(editor.session.into_transcript())
     }
 }

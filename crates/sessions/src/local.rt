@@ -1,7 +1,6 @@
 //! Commands that no other session sees.
 
 ghost use Rattle.std.specs.Prelude.{◌≡◌, ◌++◌, ◌+◌, ◌<◌, ◌^◌, ◌∷◌, [], false, length, OnErr, OnOk};
-ghost use Rattle.cell_spec.specs.declared.edit.Edit.{Edit as SpecEdit};
 ghost use Rattle.history_spec.specs.ReportText.{draft_line};
 ghost use Rattle.history_spec.specs.Served.{draft_after, local_lines};
 ghost use Rattle.text_spec.specs.ScriptLines.{is_shared};

@@ -1,6 +1,6 @@
 //! Sessions run by one thread, in an order.
 
-ghost use Rattle.std.specs.Prelude.{◌≡◌, ◌≤◌, ◌<◌, [], All, IfOk, List, MatchResult, OnOk, ℕ, length};
+ghost use Rattle.std.specs.Prelude.{◌≡◌, ◌≤◌, ◌<◌, [], All, IfOk, List, MatchResult, OnOk, length};
 ghost use Rattle.cell_bench.specs.Benches.{IsLoadRefusal};
 ghost use Rattle.cell_spec.specs.Writable.{IsWritable};
 ghost use Rattle.commit_book.specs.Books.{IsOpened};
@@ -54,11 +54,7 @@ pub struct Replayed {
 }
 
 /// An editor for each script, on the cell of a log.
-fn open_editors(
-    alloc: Global,
-    book: &Book,
-    scripts: Vec<Script>,
-) -> Result<Vec<Editor>, AllocError>
+fn open_editors(alloc: Global, book: &Book, scripts: Vec<Script>) -> Result<Vec<Editor>, AllocError>
     requires { book.now.entries ≡ [] }
     ensures scripts { IfOk result (λ editors. scripts_of editors.items ≡ scripts.items) }
     ensures opened { IfOk result (λ editors. AreEditors book.now.opening [] editors.items) }

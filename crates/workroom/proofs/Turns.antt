@@ -1,11 +1,9 @@
 -- What a turn tells a desk.
 use mathlib.Core.List.{IsPrefix}
-use Rattle.std.proofs.Common.{◌≡◌, ℕ, List, [], ◌∷◌, ◌++◌, map, length, refl, sym, ap, subst, ◌∙◌, Option, Some, Result, Ok, Err, arith}
-use Rattle.std.specs.Prelude.{IfErr, IfOk, IfSome}
+use Rattle.std.proofs.Common.{◌≡◌, ℕ, List, [], ◌∷◌, ◌++◌, map, refl, sym, ap, subst, ◌∙◌, Option, Some, Result, Ok, Err, arith}
+use Rattle.std.specs.Prelude.{IfSome}
 use Rattle.s57_types.specs.declared.cell.Cell.{Cell}
-use Rattle.history_spec.specs.declared.entry.Asked.{Asked}
 use Rattle.history_spec.specs.declared.entry.Entry.{Entry}
-use Rattle.history_spec.specs.declared.reply.Reply.{Reply}
 use Rattle.history_spec.specs.Entries.{AreTold, base_told, brief_of, event_asked, replayed}
 use Rattle.history_spec.specs.Steps.{answer}
 use Rattle.turn_gate.specs.Handles.{HandleState, TakesTurn}
@@ -13,11 +11,10 @@ use Rattle.turn_gate.specs.Histories.{extended}
 use Rattle.turn_gate.proofs.Additions.{added_none, added_one}
 use Rattle.turn_gate.proofs.Prefixes.{prefix_trans}
 use Rattle.commit_book.specs.declared.refusal.BookRefusal.{BookRefusal}
-use Rattle.commit_book.specs.declared.told.Answered.{Answered}
 use Rattle.commit_book.specs.Books.{BookState, IsBookRefusal, IsEntered, entry_of, history_of}
 use Rattle.workroom.specs.declared.turn.Ask.{Ask}
 use Rattle.workroom.specs.declared.turn.Turned.{Turned}
-use Rattle.workroom.specs.Desks.{DeskState, IsDesk, IsLeftBehind, IsTurned, IsUnasked, desk_of_handle}
+use Rattle.workroom.specs.Desks.{IsDesk, IsLeftBehind, IsTurned, IsUnasked, desk_of_handle}
 use Rattle.workroom.specs.Turns.{IsActed, IsRefused, IsTurn, asked_of, desk_of}
 use Rattle.room_laws.proofs.Bases.{base_stays}
 use Rattle.workroom.proofs.Moves.{copy_moves, copy_stays, newest_base, number_above}

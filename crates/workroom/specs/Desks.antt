@@ -1,6 +1,6 @@
 -- What contracts see of a desk, and what the calls of a workroom do to it. This project's own rules.
 use mathlib.Core.List.{IsPrefix}
-use Rattle.std.specs.Prelude.{◌≡◌, ℕ, ◌≤◌, ◌<◌, Bool, true, false, List, [], ◌∷◌, ◌++◌, length, map}
+use Rattle.std.specs.Prelude.{◌≡◌, ℕ, ◌≤◌, ◌<◌, true, false, List, [], ◌∷◌, ◌++◌, length, map}
 use Rattle.s57_types.specs.declared.cell.Cell.{Cell}
 use Rattle.history_spec.specs.declared.entry.Asked.{Asked}
 use Rattle.history_spec.specs.declared.entry.Entry.{Entry}

@@ -6,7 +6,7 @@ ghost use Rattle.history_spec.specs.declared.entry.Entry.{Entry as SpecEntry};
 ghost use Rattle.history_spec.specs.Entries.{AreTold, base_told, brief_of, replayed};
 ghost use Rattle.history_spec.specs.EntriesReport.{cell_told};
 ghost use Rattle.rule_spec.specs.Findings.{all_findings};
-ghost use Rattle.turn_gate.specs.Histories.{IsExact, longer, numbers_of};
+ghost use Rattle.turn_gate.specs.Histories.{IsExact, numbers_of};
 ghost use Rattle.workroom.specs.Desks.{IsRoomRefusal, IsSameDesk, IsTurned, desk_of_handle, merged_desk};
 ghost use Rattle.workroom.specs.Turns.{CanAsk, asked_of, desk_of};
 

@@ -1,9 +1,9 @@
 //! What a desk asks, and its turn at the log.
 
-ghost use Rattle.std.specs.Prelude.{◌≡◌, ◌≤◌, ◌<◌, [], IfOk, IfErr, IfSome, length};
+ghost use Rattle.std.specs.Prelude.{◌≡◌, ◌≤◌, ◌<◌, IfOk, IfErr, IfSome};
 ghost use Rattle.history_spec.specs.Entries.{AreTold, base_told, brief_of};
 ghost use Rattle.turn_gate.specs.Handles.{TakesTurn};
-ghost use Rattle.commit_book.specs.Books.{IsBookRefusal, IsEntered, IsVerdict, history_of};
+ghost use Rattle.commit_book.specs.Books.{IsBookRefusal, IsEntered, history_of};
 ghost use Rattle.workroom.specs.Turns.{CanAsk, IsReady, IsTurn, asked_of, desk_of};
 
 use commit_book::{Answered, Asked, Bench, Book, BookRefusal, Prepared, Reply};

@@ -1,10 +1,8 @@
-use Rattle.std.proofs.Common.{ℕ, List, None, ◌≡◌, ◌++◌, Ok, IfSome, inl, length, sym, ap, ◌∙◌, subst, arith}
+use Rattle.std.proofs.Common.{ℕ, List, None, ◌≡◌, ◌++◌, Ok, inl, length, sym, ap, ◌∙◌, subst, arith}
 use Rattle.rule_spec.specs.Findings.{all_findings}
 use Rattle.text_spec.specs.CellText.{cell_text, text_with}
-use Rattle.enc_top.specs.Inputs.{OutputIs}
 use Rattle.enc_top.specs.Outcome.{IsAskedBy}
-use Rattle.enc_top.specs.Task.{Task, check_task, task_of}
-use Rattle.enc_top.specs.declared.work.Work.{Work}
+use Rattle.enc_top.specs.Task.{check_task, task_of}
 use Rattle.enc_top.specs.Words.{check_form}
 use Rattle.enc_top.proofs.Answered.{both_told}
 use Rattle.enc_top.proofs.FormWords.{one_word}

@@ -1,4 +1,4 @@
-use Rattle.std.proofs.Common.{◌≡◌, ◌≤◌, ℕ, All, IfSome, Ok, Err, count_by, Global, inr, refl, sym, ap, ◌∙◌, subst, length}
+use Rattle.std.proofs.Common.{◌≡◌, ◌≤◌, IfSome, Ok, Err, inr, refl, sym, ap, ◌∙◌, subst}
 use Rattle.enc_top.specs.Task.{run_task, task_of}
 use Rattle.enc_top.specs.declared.work.Work.{Work}
 use Rattle.text_spec.specs.OrderLine.{IsOrder}

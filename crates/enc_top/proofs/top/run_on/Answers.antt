@@ -1,4 +1,4 @@
-use Rattle.std.proofs.Common.{◌≡◌, ◌⊎◌, inl, inr, ℕ, Ok, Global, map, string_bytes, refl, subst}
+use Rattle.std.proofs.Common.{◌≡◌, ◌⊎◌, inl, inr, Ok, Global, map, string_bytes, refl, subst}
 use Rattle.std.specs.Prelude.{Vec}
 use Rattle.enc_top.specs.Task.{task_of}
 use Rattle.script_text.specs.declared.script.Script.{Script}

@@ -1,4 +1,4 @@
-use Rattle.std.proofs.Common.{◌≡◌, ◌⊎◌, ◌-◌, ◌≤◌, ℕ, take, Ok, Err, Global, inl, inr, length, map, drop, string_bytes, refl, sym, ap, ◌∙◌, subst, arith}
+use Rattle.std.proofs.Common.{◌≡◌, ◌⊎◌, ◌-◌, ◌≤◌, take, Ok, Err, inl, inr, length, map, drop, string_bytes, refl, sym, ap, ◌∙◌, subst, arith}
 use Rattle.enc_top.specs.Task.{task_of}
 use Rattle.enc_top.specs.declared.work.Work.{Work}
 use Rattle.std.proofs.lemmas.Bool.Decides.{nat_tests}

@@ -1,9 +1,8 @@
-use Rattle.std.proofs.Common.{◌≡◌, ◌++◌, List, ℕ, Some, Ok, string_bytes, sym, ap, ◌∙◌, subst}
+use Rattle.std.proofs.Common.{◌≡◌, ◌++◌, Some, sym, ap, ◌∙◌}
 use Rattle.file_spec.specs.EncodedCell.{encoded_cell}
-use Rattle.history_spec.specs.Entries.{order_of_entries, replayed}
+use Rattle.history_spec.specs.Entries.{order_of_entries}
 use Rattle.history_spec.specs.EntriesReport.{entries_report}
-use Rattle.history_spec.specs.ReportText.{final_cell, report}
-use Rattle.enc_top.specs.Task.{Task}
+use Rattle.history_spec.specs.ReportText.{report}
 use Rattle.enc_top.proofs.work.work_of.Goals as goal
 
 pub returns : goal.returns

@@ -1,4 +1,4 @@
-use Rattle.std.proofs.Common.{ℕ, List}
+use Rattle.std.proofs.Common.{List}
 use Rattle.s57_types.specs.declared.cell.Cell.{Cell}
 use Rattle.history_spec.specs.declared.entry.Entry.{Entry}
 use Rattle.sessions.specs.Replays.{AreEnded, AreEndedAs, scripts_of}

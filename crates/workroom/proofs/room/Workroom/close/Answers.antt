@@ -1,9 +1,7 @@
 use denote.Param.Send.{sendable}
 use Rattle.commit_book.proofs.Sent.{book_send}
 use Rattle.std.proofs.Common.{◌≤◌, All, ap, subst, ◌∙◌}
-use Rattle.std.specs.Prelude.{List}
 use Rattle.history_spec.specs.declared.entry.Entry.{Entry}
-use Rattle.workroom.specs.Desks.{DeskState}
 use Rattle.workroom.specs.Rooms.{RoomState}
 use Rattle.workroom.proofs.Rooms.{closed_own, none_by_zero}
 use Rattle.workroom.proofs.room.Workroom.close.Goals as goal
