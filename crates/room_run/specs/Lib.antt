@@ -1,0 +1,2 @@
+pub mod Compilers
+pub mod Rooms

@@ -1,0 +1,8 @@
+//! Sessions that share a cell, each in a thread of its own.
+#![tactic(auto)]
+
+mod compiler;
+mod gather;
+mod run;
+
+pub use run::{Held, RunEnd, open_room, run_sessions};
