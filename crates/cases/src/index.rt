@@ -7,6 +7,7 @@ use crate::stop::Stop;
 use std::alloc::{AllocError, Global};
 use std::rt::Files;
 use std::str::Lines;
+use std::sync::Wait;
 use std::thread::Threads;
 use std::{fs, io};
 
@@ -86,7 +87,7 @@ fn read_content(
 }
 
 /// Runs the cases of the files that the index names by lines of this word: `cases FILE` or `wrong FILE`.
-pub fn run_files<R: Files + AllocGlobal + Threads + Sync>(
+pub fn run_files<R: Files + AllocGlobal + Threads + Wait + Sync>(
     rt: &R,
     index: &Index,
     word: &str,
@@ -105,7 +106,7 @@ pub fn run_files<R: Files + AllocGlobal + Threads + Sync>(
 }
 
 /// Runs the cases of a file.
-fn run_cases<R: Threads + Sync>(
+fn run_cases<R: Threads + Wait + Sync>(
     rt: &R,
     alloc: Global,
     bases: &Bases,

@@ -16,6 +16,7 @@ use report::Report;
 use std::io::Write;
 use std::process::ExitCode;
 use std::rt::{Env, Files};
+use std::sync::Wait;
 use std::thread::Threads;
 use std::{env, io};
 
@@ -30,7 +31,7 @@ fn read_word(rt: &(impl Env + AllocGlobal)) -> io::Result<Option<String>> {
 }
 
 /// Runs the cases of an index. Those that are known to differ come last, behind the counts, and don't count.
-fn run_index<R: Files + AllocGlobal + Threads + Sync>(
+fn run_index<R: Files + AllocGlobal + Threads + Wait + Sync>(
     rt: &R,
     index: &Index,
     report: &mut Report,

@@ -6,6 +6,7 @@ use crate::marks::with_columns;
 use crate::stage::Stage;
 use crate::stop::Stop;
 use std::alloc::{AllocError, Global};
+use std::sync::Wait;
 use std::thread::Threads;
 
 /// The lines and the counts.
@@ -53,7 +54,7 @@ impl Report {
     }
 
     /// Runs a case of a file for each of its rows, up to the first at which it differs.
-    pub fn run_case<R: Threads + Sync>(
+    pub fn run_case<R: Threads + Wait + Sync>(
         &mut self,
         rt: &R,
         alloc: Global,
@@ -75,7 +76,7 @@ impl Report {
     }
 
     /// Runs a case for one row, and appends what differs. The answer says whether nothing did.
-    fn run_row<R: Threads + Sync>(
+    fn run_row<R: Threads + Wait + Sync>(
         &mut self,
         rt: &R,
         alloc: Global,
@@ -102,7 +103,7 @@ impl Report {
 }
 
 /// Takes the lines of a case, with the columns of a row in their place.
-fn run_lines<R: Threads + Sync>(
+fn run_lines<R: Threads + Wait + Sync>(
     rt: &R,
     alloc: Global,
     stage: &mut Stage,

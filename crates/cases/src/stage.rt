@@ -9,6 +9,7 @@ use enc_top::{Status, print_status, run};
 use std::alloc::{AllocError, Global};
 use std::collections::BTreeMap;
 use std::mem;
+use std::sync::Wait;
 use std::thread::Threads;
 
 /// What the lines of a content are for.
@@ -89,7 +90,7 @@ impl<'a> Stage<'a> {
     }
 
     /// Takes a line of the case.
-    pub fn take<R: Threads + Sync>(
+    pub fn take<R: Threads + Wait + Sync>(
         &mut self,
         rt: &R,
         number: usize,
@@ -119,7 +120,12 @@ impl<'a> Stage<'a> {
     }
 
     /// Takes a line that comes before a call, or the call.
-    fn prepare<R: Threads + Sync>(&mut self, rt: &R, word: &str, rest: &str) -> Result<(), Stop> {
+    fn prepare<R: Threads + Wait + Sync>(
+        &mut self,
+        rt: &R,
+        word: &str,
+        rest: &str,
+    ) -> Result<(), Stop> {
         match word {
             "file" => self.open_file(rest),
             "call" => self.call(rt, rest),
@@ -150,7 +156,7 @@ impl<'a> Stage<'a> {
     }
 
     /// Calls the program with the words of a text, on the files as they are to be.
-    fn call<R: Threads + Sync>(&mut self, rt: &R, text: &str) -> Result<(), Stop> {
+    fn call<R: Threads + Wait + Sync>(&mut self, rt: &R, text: &str) -> Result<(), Stop> {
         let words = words_of(self.alloc, text)?;
         let mut store = Store::of(self.alloc, &self.files, self.manner)?;
         let mut paper = Paper::make(self.alloc, self.manner);

@@ -14,6 +14,7 @@ use std::fs::File;
 use std::io::Write;
 use std::process::ExitCode;
 use std::rt::{Env, Files};
+use std::sync::Wait;
 use std::thread::Threads;
 
 /// The words after the program's name. A word that isn't UTF-8 is in no form.
@@ -31,7 +32,7 @@ fn read_words(rt: &(impl Env + AllocGlobal)) -> Result<Vec<String>, Status> {
 }
 
 /// Does what the words say on the real file store and standard output.
-fn run_words<R: Threads + Sync + Files<File = File> + Print + AllocGlobal>(
+fn run_words<R: Threads + Wait + Sync + Files<File = File> + Print + AllocGlobal>(
     rt: &R,
     words: &[String],
 ) -> Status {

@@ -55,21 +55,21 @@ status_of_more P Q TooManyFindings more is = is
 status_of_more P Q NotYet more is = is
 
 -- the status at which the input files of a built form end a call
-pub asked_status : (form : Form) (files : Option Files) (before after : ℕ) (status : Status) → IsBuilt form → IsInputStatus (IsInputOf form) status
-    → Tells task_of (OutputIs form) (IsReached form) files before after (Err status) → IsAskedBy form files before after (Err status)
-asked_status form files before after Done built is tells = absurd is
-asked_status form files before after Usage built is tells = absurd is
-asked_status form files before after (Absent name) built is tells = (is, built, tells)
-asked_status form files before after (BadCell fault) built is tells = (built, tells)
-asked_status form files before after (BadScript session line code) built is tells = (built, tells)
-asked_status form files before after (ReadFault name) built is tells = (is, tells.0, tells.1)
-asked_status form files before after WriteFault built is tells = absurd is
-asked_status form files before after (TooLarge name) built is tells = (is, built, tells)
-asked_status form files before after NoMemory built is tells = built
-asked_status form files before after (BadOrder place) built is tells = (built, tells)
-asked_status form files before after (Stuck desk serial) built is tells = absurd is
-asked_status form files before after TooManyFindings built is tells = (built, tells)
-asked_status form files before after NotYet built is tells = absurd is
+pub asked_status : (sticks : Type 0) (form : Form) (files : Option Files) (before after : ℕ) (status : Status) → IsBuilt form → IsInputStatus (IsInputOf form) status
+    → Tells task_of (OutputIs form) (IsReached form) files before after (Err status) → IsAskedBy sticks form files before after (Err status)
+asked_status sticks form files before after Done built is tells = absurd is
+asked_status sticks form files before after Usage built is tells = absurd is
+asked_status sticks form files before after (Absent name) built is tells = (is, built, tells)
+asked_status sticks form files before after (BadCell fault) built is tells = (built, tells)
+asked_status sticks form files before after (BadScript session line code) built is tells = (built, tells)
+asked_status sticks form files before after (ReadFault name) built is tells = (is, tells.0, tells.1)
+asked_status sticks form files before after WriteFault built is tells = absurd is
+asked_status sticks form files before after (TooLarge name) built is tells = (is, built, tells)
+asked_status sticks form files before after NoMemory built is tells = built
+asked_status sticks form files before after (BadOrder place) built is tells = (built, tells)
+asked_status sticks form files before after (Stuck desk serial) built is tells = absurd is
+asked_status sticks form files before after TooManyFindings built is tells = (built, tells)
+asked_status sticks form files before after NotYet built is tells = absurd is
 
 -- ---- scripts one after the other
 pub name_there : (names : List (String Global)) (k : ℕ) (name : String Global) → k < length names → name ≡ get_or names k name → slice_index_or (map string_bytes names) k [] ≡ string_bytes name
@@ -126,10 +126,10 @@ tells_last seen Step Whole Near Far P files before mid after (Err status) le kno
     tells_later seen seen Step Whole Near Far P files before mid after status le known (λ fs p step. make fs (Err status) p step) reach tells
 
 -- an answer of a built form
-pub asked_answer : (form : Form) (files : Option Files) (before after : ℕ) (result : Result Work Status) → IsBuilt form → IfOk result (λ work. IsOutput form files (task_of work)) → IfErr result (IsInputStatus (IsInputOf form))
-    → Tells task_of (OutputIs form) (IsReached form) files before after result → IsAskedBy form files before after result
-asked_answer form files before after (Ok work) built output is tells = (output, tells)
-asked_answer form files before after (Err status) built output is tells = asked_status form files before after status built is tells
+pub asked_answer : (sticks : Type 0) (form : Form) (files : Option Files) (before after : ℕ) (result : Result Work Status) → IsBuilt form → IfOk result (λ work. IsOutput form files (task_of work)) → IfErr result (IsInputStatus (IsInputOf form))
+    → Tells task_of (OutputIs form) (IsReached form) files before after result → IsAskedBy sticks form files before after result
+asked_answer sticks form files before after (Ok work) built output is tells = (output, tells)
+asked_answer sticks form files before after (Err status) built output is tells = asked_status sticks form files before after status built is tells
 
 pub if_err_more : {A : Type 0} (P Q : List ℕ → Type 0) (result : Result A Status) → ((name : List ℕ) → P name → Q name) → IfErr result (IsInputStatus P) → IfErr result (IsInputStatus Q)
 if_err_more P Q (Ok a) more is = is

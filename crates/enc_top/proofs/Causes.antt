@@ -3,44 +3,44 @@ use Rattle.std.proofs.Common.{◌≡◌, ◌⊎◌, inl, inr, ℕ, List, Option,
 use Rattle.std.specs.Prelude.{IfSome}
 use Rattle.enc_outside.specs.Files.{Files}
 use Rattle.enc_top.specs.Inputs.{IsInputOf, OutputIs}
-use Rattle.enc_top.specs.Outcome.{IsAsked, IsAskedBy, IsBuilt, IsCause, IsCauseOf, IsCut, IsDoneWork, IsExact, IsExpected, IsOutput, IsSilent, IsSmooth, Outside}
+use Rattle.enc_top.specs.Outcome.{IsAsked, IsAskedBy, IsBuilt, IsCause, IsCauseOf, IsCut, IsDoneWork, IsExact, IsExpected, IsOutput, IsSilent, IsSmooth, IsStuckAt, Outside}
 use Rattle.enc_top.specs.Task.{Task, task_of}
 use Rattle.enc_top.specs.Words.{Form, later_form, no_form, form_of}
 use Rattle.report_text.specs.declared.status.Status.{Status}
 use Rattle.report_text.specs.declared.status.Status.TheVariants.{Done, Usage, Absent, BadCell, BadScript, ReadFault, WriteFault, TooLarge, NoMemory, BadOrder, Stuck, TooManyFindings, NotYet}
 use Rattle.enc_top.specs.declared.work.Work.{Work}
 
-pub work_cause : (form : Form) (before after : Outside) (work : Work) (status : Status)
-    → IsOutput form before.files (task_of work) → IsAsked before form (Ok (task_of work)) → IsDoneWork (task_of work) before after status → IsCauseOf form before after status
-work_cause form before after work Done output asked done = (task_of work, output, asked, done)
-work_cause form before after work WriteFault output asked cut = (task_of work, output, asked, cut)
-work_cause form before after work Usage output asked done = absurd done
-work_cause form before after work (Absent name) output asked done = absurd done
-work_cause form before after work (BadCell fault) output asked done = absurd done
-work_cause form before after work (BadScript session line code) output asked done = absurd done
-work_cause form before after work (ReadFault name) output asked done = absurd done
-work_cause form before after work (TooLarge name) output asked done = absurd done
-work_cause form before after work NoMemory output asked done = absurd done
-work_cause form before after work (BadOrder place) output asked done = absurd done
-work_cause form before after work (Stuck desk serial) output asked done = absurd done
-work_cause form before after work TooManyFindings output asked done = absurd done
-work_cause form before after work NotYet output asked done = absurd done
+pub work_cause : (sticks : Type 0) (form : Form) (before after : Outside) (work : Work) (status : Status)
+    → IsOutput form before.files (task_of work) → IsAsked before form (Ok (task_of work)) → IsDoneWork (task_of work) before after status → IsCauseOf sticks form before after status
+work_cause sticks form before after work Done output asked done = (task_of work, output, asked, done)
+work_cause sticks form before after work WriteFault output asked cut = (task_of work, output, asked, cut)
+work_cause sticks form before after work Usage output asked done = absurd done
+work_cause sticks form before after work (Absent name) output asked done = absurd done
+work_cause sticks form before after work (BadCell fault) output asked done = absurd done
+work_cause sticks form before after work (BadScript session line code) output asked done = absurd done
+work_cause sticks form before after work (ReadFault name) output asked done = absurd done
+work_cause sticks form before after work (TooLarge name) output asked done = absurd done
+work_cause sticks form before after work NoMemory output asked done = absurd done
+work_cause sticks form before after work (BadOrder place) output asked done = absurd done
+work_cause sticks form before after work (Stuck desk serial) output asked done = absurd done
+work_cause sticks form before after work TooManyFindings output asked done = absurd done
+work_cause sticks form before after work NotYet output asked done = absurd done
 
-pub refused_cause : (form : Form) (before after : Outside) (status : Status) → IsSilent before after
-    → IsAskedBy form before.files before.read_faults after.read_faults (Err status) → IsCauseOf form before after status
-refused_cause form before after Done silent asked = absurd asked
-refused_cause form before after WriteFault silent asked = absurd asked
-refused_cause form before after Usage silent asked = (asked, silent)
-refused_cause form before after (Absent name) silent asked = (asked.0, (asked.1, silent, asked.2))
-refused_cause form before after (BadCell fault) silent asked = (asked.0, silent, asked.1)
-refused_cause form before after (BadScript session line code) silent asked = (asked.0, silent, asked.1)
-refused_cause form before after (ReadFault name) silent asked = (asked.0, silent, asked.1, asked.2)
-refused_cause form before after (TooLarge name) silent asked = (asked.0, (asked.1, silent, asked.2))
-refused_cause form before after NoMemory silent asked = (asked, silent)
-refused_cause form before after (BadOrder place) silent asked = (asked.0, silent, asked.1)
-refused_cause form before after (Stuck desk serial) silent asked = absurd asked
-refused_cause form before after TooManyFindings silent asked = (asked.0, silent, asked.1)
-refused_cause form before after NotYet silent asked = (asked, silent)
+pub refused_cause : (sticks : Type 0) (form : Form) (before after : Outside) (status : Status) → IsSilent before after
+    → IsAskedBy sticks form before.files before.read_faults after.read_faults (Err status) → IsCauseOf sticks form before after status
+refused_cause sticks form before after Done silent asked = absurd asked
+refused_cause sticks form before after WriteFault silent asked = absurd asked
+refused_cause sticks form before after Usage silent asked = (asked, silent)
+refused_cause sticks form before after (Absent name) silent asked = (asked.0, (asked.1, silent, asked.2))
+refused_cause sticks form before after (BadCell fault) silent asked = (asked.0, silent, asked.1)
+refused_cause sticks form before after (BadScript session line code) silent asked = (asked.0, silent, asked.1)
+refused_cause sticks form before after (ReadFault name) silent asked = (asked.0, silent, asked.1, asked.2)
+refused_cause sticks form before after (TooLarge name) silent asked = (asked.0, (asked.1, silent, asked.2))
+refused_cause sticks form before after NoMemory silent asked = (asked, silent)
+refused_cause sticks form before after (BadOrder place) silent asked = (asked.0, silent, asked.1)
+refused_cause sticks form before after (Stuck desk serial) silent asked = (asked.0, silent, asked.1)
+refused_cause sticks form before after TooManyFindings silent asked = (asked.0, silent, asked.1)
+refused_cause sticks form before after NotYet silent asked = (asked, silent)
 
 -- ---- where no device failed
 of_told : (told : Option Files) (files : Files) (P : Files → Type 0) → told ≡ Some files → IfSome told P → P files
@@ -59,23 +59,23 @@ no_cut : (task : Task) (before after : Outside) (files : Files) → IsSmooth bef
 no_cut task before after files smooth (inl text) = smooth.puts text.rose
 no_cut task before after files smooth (inr file) = smooth.writes file.rose
 
-exact_of : (form : Form) (before after : Outside) (status : Status) → IsCauseOf form before after status → (files : Files) → IsSmooth before after files → IsExpected form files status ⊎ (status ≡ NoMemory)
-exact_of form before after Done cause files smooth = inl (cause.0, asked_of form before after files (Ok cause.0) smooth cause.2)
-exact_of form before after WriteFault cause files smooth = absurd (no_cut cause.0 before after files smooth cause.3)
-exact_of form before after Usage cause files smooth = inl (none_asked form files cause.0)
-exact_of form before after (Absent name) cause files smooth = inl (asked_of form before after files (Err (Absent name)) smooth cause.1.2)
-exact_of form before after (BadCell fault) cause files smooth = inl (asked_of form before after files (Err (BadCell fault)) smooth cause.2)
-exact_of form before after (BadScript session line code) cause files smooth = inl (asked_of form before after files (Err (BadScript session line code)) smooth cause.2)
-exact_of form before after (ReadFault name) cause files smooth = absurd (smooth.reads cause.2)
-exact_of form before after (TooLarge name) cause files smooth = inl (asked_of form before after files (Err (TooLarge name)) smooth cause.1.2)
-exact_of form before after NoMemory cause files smooth = inr refl
-exact_of form before after (BadOrder place) cause files smooth = inl (asked_of form before after files (Err (BadOrder place)) smooth cause.2)
-exact_of form before after (Stuck desk serial) cause files smooth = absurd cause
-exact_of form before after TooManyFindings cause files smooth = inl (asked_of form before after files (Err TooManyFindings) smooth cause.2)
-exact_of form before after NotYet later files smooth = inl (later_asked form files later.0)
+exact_of : (sticks : Type 0) (form : Form) (before after : Outside) (status : Status) → IsCauseOf sticks form before after status → (files : Files) → IsSmooth before after files → ¬ sticks → IsExpected form files status ⊎ (status ≡ NoMemory)
+exact_of sticks form before after Done cause files smooth calm = inl (cause.0, asked_of form before after files (Ok cause.0) smooth cause.2)
+exact_of sticks form before after WriteFault cause files smooth calm = absurd (no_cut cause.0 before after files smooth cause.3)
+exact_of sticks form before after Usage cause files smooth calm = inl (none_asked form files cause.0)
+exact_of sticks form before after (Absent name) cause files smooth calm = inl (asked_of form before after files (Err (Absent name)) smooth cause.1.2)
+exact_of sticks form before after (BadCell fault) cause files smooth calm = inl (asked_of form before after files (Err (BadCell fault)) smooth cause.2)
+exact_of sticks form before after (BadScript session line code) cause files smooth calm = inl (asked_of form before after files (Err (BadScript session line code)) smooth cause.2)
+exact_of sticks form before after (ReadFault name) cause files smooth calm = absurd (smooth.reads cause.2)
+exact_of sticks form before after (TooLarge name) cause files smooth calm = inl (asked_of form before after files (Err (TooLarge name)) smooth cause.1.2)
+exact_of sticks form before after NoMemory cause files smooth calm = inr refl
+exact_of sticks form before after (BadOrder place) cause files smooth calm = inl (asked_of form before after files (Err (BadOrder place)) smooth cause.2)
+exact_of sticks form before after (Stuck desk serial) cause files smooth calm = absurd (calm cause.0)
+exact_of sticks form before after TooManyFindings cause files smooth calm = inl (asked_of form before after files (Err TooManyFindings) smooth cause.2)
+exact_of sticks form before after NotYet later files smooth calm = inl (later_asked form files later.0)
 
-pub exact_from_cause : (words : List (List ℕ)) (before after : Outside) (status : Status) → IsCause words before after status → IsExact words before after status
-exact_from_cause words before after status cause = exact_of (form_of words) before after status cause
+pub exact_from_cause : (sticks : Type 0) (words : List (List ℕ)) (before after : Outside) (status : Status) → IsCause sticks words before after status → IsExact sticks words before after status
+exact_from_cause sticks words before after status cause = exact_of sticks (form_of words) before after status cause
 
 -- ---- words of no form, and of a later form
 no_input : (form : Form) (name : List ℕ) → IsInputOf form name → form ≡ no_form → ⊥
@@ -90,23 +90,23 @@ no_output form files task output none = subst (λ (f : Form). IsOutput f files t
 apart : later_form ≡ no_form → ⊥
 apart is = cc (is)
 
-pub usage_of_none : (form : Form) (before after : Outside) (status : Status) → IsCauseOf form before after status → form ≡ no_form → status ≡ Usage
-usage_of_none form before after Done cause none = absurd (no_output form before.files cause.0 cause.1 none)
-usage_of_none form before after WriteFault cause none = absurd (no_output form before.files cause.0 cause.1 none)
-usage_of_none form before after Usage cause none = refl
-usage_of_none form before after (Absent name) cause none = absurd (no_input form name cause.0 none)
-usage_of_none form before after (BadCell fault) cause none = absurd (not_built form cause.0 none)
-usage_of_none form before after (BadScript session line code) cause none = absurd (not_built form cause.0 none)
-usage_of_none form before after (ReadFault name) cause none = absurd (no_input form name cause.0 none)
-usage_of_none form before after (TooLarge name) cause none = absurd (no_input form name cause.0 none)
-usage_of_none form before after NoMemory cause none = absurd (not_built form cause.0 none)
-usage_of_none form before after (BadOrder place) cause none = absurd (not_built form cause.0 none)
-usage_of_none form before after (Stuck desk serial) cause none = absurd cause
-usage_of_none form before after TooManyFindings cause none = absurd (not_built form cause.0 none)
-usage_of_none form before after NotYet later none = absurd (apart (subst (λ (f : Form). f ≡ no_form) later.0 none))
+pub usage_of_none : (sticks : Type 0) (form : Form) (before after : Outside) (status : Status) → IsCauseOf sticks form before after status → form ≡ no_form → status ≡ Usage
+usage_of_none sticks form before after Done cause none = absurd (no_output form before.files cause.0 cause.1 none)
+usage_of_none sticks form before after WriteFault cause none = absurd (no_output form before.files cause.0 cause.1 none)
+usage_of_none sticks form before after Usage cause none = refl
+usage_of_none sticks form before after (Absent name) cause none = absurd (no_input form name cause.0 none)
+usage_of_none sticks form before after (BadCell fault) cause none = absurd (not_built form cause.0 none)
+usage_of_none sticks form before after (BadScript session line code) cause none = absurd (not_built form cause.0 none)
+usage_of_none sticks form before after (ReadFault name) cause none = absurd (no_input form name cause.0 none)
+usage_of_none sticks form before after (TooLarge name) cause none = absurd (no_input form name cause.0 none)
+usage_of_none sticks form before after NoMemory cause none = absurd (not_built form cause.0 none)
+usage_of_none sticks form before after (BadOrder place) cause none = absurd (not_built form cause.0 none)
+usage_of_none sticks form before after (Stuck desk serial) cause none = absurd (subst (λ (f : Form). IsStuckAt f before.files desk serial) none cause.2)
+usage_of_none sticks form before after TooManyFindings cause none = absurd (not_built form cause.0 none)
+usage_of_none sticks form before after NotYet later none = absurd (apart (subst (λ (f : Form). f ≡ no_form) later.0 none))
 
-pub none_of_usage : (form : Form) (before after : Outside) (status : Status) → IsCauseOf form before after status → status ≡ Usage → form ≡ no_form
-none_of_usage form before after status cause is = (subst (IsCauseOf form before after) is cause).0
+pub none_of_usage : (sticks : Type 0) (form : Form) (before after : Outside) (status : Status) → IsCauseOf sticks form before after status → status ≡ Usage → form ≡ no_form
+none_of_usage sticks form before after status cause is = (subst (IsCauseOf sticks form before after) is cause).0
 
 later_input : (form : Form) (name : List ℕ) → IsInputOf form name → form ≡ later_form → ⊥
 later_input form name is later = subst (λ (f : Form). IsInputOf f name) later is
@@ -117,17 +117,33 @@ later_built form built later = subst IsBuilt later built
 pub later_output : (form : Form) (files : Option Files) (task : Task) → IsOutput form files task → form ≡ later_form → ⊥
 later_output form files task output later = subst (λ (f : Form). IsOutput f files task) later output
 
-pub status_of_later : (form : Form) (files : Option Files) (reads after : ℕ) (status : Status) → IsAskedBy form files reads after (Err status) → form ≡ later_form → status ≡ NotYet
-status_of_later form files reads after Done asked later = absurd asked
-status_of_later form files reads after WriteFault asked later = absurd asked
-status_of_later form files reads after Usage asked later = absurd (apart (sym later ∙ asked))
-status_of_later form files reads after (Absent name) asked later = absurd (later_input form name asked.0 later)
-status_of_later form files reads after (BadCell fault) asked later = absurd (later_built form asked.0 later)
-status_of_later form files reads after (BadScript session line code) asked later = absurd (later_built form asked.0 later)
-status_of_later form files reads after (ReadFault name) asked later = absurd (later_input form name asked.0 later)
-status_of_later form files reads after (TooLarge name) asked later = absurd (later_input form name asked.0 later)
-status_of_later form files reads after NoMemory asked later = absurd (later_built form asked later)
-status_of_later form files reads after (BadOrder place) asked later = absurd (later_built form asked.0 later)
-status_of_later form files reads after (Stuck desk serial) asked later = absurd asked
-status_of_later form files reads after TooManyFindings asked later = absurd (later_built form asked.0 later)
-status_of_later form files reads after NotYet asked later = refl
+pub status_of_later : (sticks : Type 0) (form : Form) (files : Option Files) (reads after : ℕ) (status : Status) → IsAskedBy sticks form files reads after (Err status) → form ≡ later_form → status ≡ NotYet
+status_of_later sticks form files reads after Done asked later = absurd asked
+status_of_later sticks form files reads after WriteFault asked later = absurd asked
+status_of_later sticks form files reads after Usage asked later = absurd (apart (sym later ∙ asked))
+status_of_later sticks form files reads after (Absent name) asked later = absurd (later_input form name asked.0 later)
+status_of_later sticks form files reads after (BadCell fault) asked later = absurd (later_built form asked.0 later)
+status_of_later sticks form files reads after (BadScript session line code) asked later = absurd (later_built form asked.0 later)
+status_of_later sticks form files reads after (ReadFault name) asked later = absurd (later_input form name asked.0 later)
+status_of_later sticks form files reads after (TooLarge name) asked later = absurd (later_input form name asked.0 later)
+status_of_later sticks form files reads after NoMemory asked later = absurd (later_built form asked later)
+status_of_later sticks form files reads after (BadOrder place) asked later = absurd (later_built form asked.0 later)
+status_of_later sticks form files reads after (Stuck desk serial) asked later = absurd (subst (λ (f : Form). IsStuckAt f files desk serial) later asked.1)
+status_of_later sticks form files reads after TooManyFindings asked later = absurd (later_built form asked.0 later)
+status_of_later sticks form files reads after NotYet asked later = refl
+
+-- ---- where no rendezvous may give up, as where one may
+pub with_sticks : (sticks : Type 0) (form : Form) (before after : Outside) (status : Status) → IsCauseOf ⊥ form before after status → IsCauseOf sticks form before after status
+with_sticks sticks form before after Done cause = cause
+with_sticks sticks form before after WriteFault cause = cause
+with_sticks sticks form before after Usage cause = cause
+with_sticks sticks form before after (Absent name) cause = cause
+with_sticks sticks form before after (BadCell fault) cause = cause
+with_sticks sticks form before after (BadScript session line code) cause = cause
+with_sticks sticks form before after (ReadFault name) cause = cause
+with_sticks sticks form before after (TooLarge name) cause = cause
+with_sticks sticks form before after NoMemory cause = cause
+with_sticks sticks form before after (BadOrder place) cause = cause
+with_sticks sticks form before after TooManyFindings cause = cause
+with_sticks sticks form before after NotYet cause = cause
+with_sticks sticks form before after (Stuck desk serial) cause = absurd cause.0

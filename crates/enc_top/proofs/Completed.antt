@@ -1,5 +1,5 @@
 -- Good input files leave no refusal, and what is left in OUT is read back.
-use Rattle.std.proofs.Common.{◌≡◌, ◌⊎◌, inl, inr, ℕ, ◌+◌, ◌<◌, ◌≤◌, ◌^◌, Bool, true, false, List, [], ◌∷◌, length, map, Option, Some, None, Ok, Err, codes, cond, refl, ap, ◌∙◌, subst, arith}
+use Rattle.std.proofs.Common.{◌≡◌, ◌⊎◌, inl, inr, ℕ, ◌+◌, ◌<◌, ◌≤◌, ◌^◌, Bool, true, false, List, [], ◌∷◌, length, Option, Some, None, Ok, Err, codes, cond, refl, sym, ap, subst, arith}
 use Rattle.std.specs.Prelude.{count_by, nat_lt, slice_index_or}
 use Rattle.std.proofs.lemmas.Bool.Decides.{nat_tests}
 use Rattle.std.proofs.lemmas.List.{length-map}
@@ -8,19 +8,19 @@ use Rattle.file_spec.specs.EncodedCell.{encoded_cell}
 use Rattle.history_spec.specs.ReportText.{final_cell}
 use Rattle.history_spec.specs.Steps.{finding_limit}
 use Rattle.rule_spec.specs.Findings.{finding_total}
-use Rattle.text_spec.specs.OrderLine.{order_line, order_of}
+use Rattle.text_spec.specs.OrderLine.{order_line}
 use Rattle.text_spec.specs.ScriptLines.{is_shared}
 use Rattle.text_spec.specs.declared.command.Command.{Command}
 use Rattle.order_text.proofs.OrderLines.{order_of-line}
 use Rattle.enc_top.specs.Complete.{AreGood, AreGoodScripts, IsComplete, IsGoodCell, IsGoodOrder, IsGoodScript, IsThere}
 use Rattle.room_laws.specs.Orders.{quotas_of}
-use Rattle.enc_top.specs.Inputs.{CellIs, FileIs, OrderIs, OutputIs, ScriptIs, ScriptsAre, cell_limit, order_in, order_limit, script_limit}
-use Rattle.enc_top.specs.Outcome.{AreWritten, IsCause, IsCauseOf, IsExact, IsExpected, IsFormReadBack, IsOutReadBack, IsReadBackFrom, IsReplayOf, Outside}
+use Rattle.enc_top.specs.Inputs.{CellIs, FileIs, OrderIs, OutputIs, RoomIs, ScriptIs, ScriptsAre, cell_limit, order_in, order_limit, script_limit}
+use Rattle.enc_top.specs.Outcome.{AreWritten, IsCause, IsCauseOf, IsExact, IsExpected, IsFormReadBack, IsOutReadBack, IsReadBackFrom, IsReplayOf, IsRoomOf, IsRoomReadBack, Outside}
 use Rattle.enc_top.specs.Task.{Task, check_task, run_task}
-use Rattle.enc_top.specs.Words.{Form, check_among, check_form, form_of, is_between, is_later_form, is_word, later_form, no_form, replay_among, replay_form}
+use Rattle.enc_top.specs.Words.{Form, check_among, check_form, form_of, is_between, is_later_form, is_word, later_form, no_form, replay_among, replay_form, room_among, room_form}
 use Rattle.report_text.specs.declared.status.Status.{Status}
 use Rattle.report_text.specs.declared.status.Status.TheVariants.{Done, Usage, Absent, BadCell, BadScript, ReadFault, WriteFault, TooLarge, NoMemory, BadOrder, Stuck, TooManyFindings, NotYet}
-use Rattle.enc_top.proofs.OneAnswer.{ok_not_err, one_output}
+use Rattle.enc_top.proofs.OneAnswer.{apart, ok_not_err, one_cell, one_output, one_scripts}
 
 not_above : (limit n : ℕ) → n ≤ limit → nat_lt limit n ≡ false
 not_above limit n within = grind (arith, nat_tests)
@@ -46,6 +46,7 @@ order_is quotas name files good few =
 abbrev FewScripts : Form → Type 0
 FewScripts (check_form cell) = Unit {0}
 FewScripts (replay_form cell out order scripts) = length scripts ≤ 16
+FewScripts (room_form cell out scripts) = Unit {0}
 FewScripts later_form = Unit {0}
 FewScripts no_form = Unit {0}
 
@@ -68,20 +69,39 @@ few_replayed (a ∷ []) = tt
 few_replayed (a ∷ b ∷ []) = tt
 few_replayed (a ∷ b ∷ d ∷ rest) = few_between (is_between 1 16 (length rest)) a b d rest refl
 
+few_by_count : (b : Bool) (cell out : List ℕ) (scripts : List (List ℕ)) → FewScripts (cond b (room_form cell out scripts) no_form)
+few_by_count true cell out scripts = tt
+few_by_count false cell out scripts = tt
+
+few_roomed : (others : List (List ℕ)) → FewScripts (room_among others)
+few_roomed [] = tt
+few_roomed (a ∷ []) = tt
+few_roomed (a ∷ b ∷ rest) = few_by_count (is_between 1 16 (length rest)) a b rest
+
 few_scripts : (words : List (List ℕ)) → FewScripts (form_of words)
 unfolding form_of
 few_scripts [] = tt
 few_scripts (first ∷ others) =
     let later = cond (is_later_form (first ∷ others)) later_form no_form in
     let replayed = cond (is_word (codes "replay") first) (replay_among others) later in
-    few_by (is_word (codes "check") first) (check_among others) replayed (few_checked others)
-    (few_by (is_word (codes "replay") first) (replay_among others) later (few_replayed others) (few_by (is_later_form (first ∷ others)) later_form no_form tt tt))
+    let checked = cond (is_word (codes "check") first) (check_among others) replayed in
+    few_by (is_word (codes "room") first) (room_among others) checked (few_roomed others)
+    (few_by (is_word (codes "check") first) (check_among others) replayed (few_checked others)
+    (few_by (is_word (codes "replay") first) (replay_among others) later (few_replayed others) (few_by (is_later_form (first ∷ others)) later_form no_form tt tt)))
 
 -- ---- good files ask for a task
 few_quotas : (names : List (List ℕ)) (commands : List (List Command)) → length names ≤ 16 → length commands ≡ length names → length (quotas_of commands) < 2 ^ 32
 few_quotas names commands few many = let same : length (quotas_of commands) ≡ length commands = length-map commands (count_by is_shared) in omega (arith, few, many, same)
 
-good_output : (form : Form) (files : Files) → FewScripts form → AreGood form files → (task : Task) × OutputIs form files (Ok task)
+-- good files of a form that asks for one task
+abbrev IsSteady : Form → Files → Type 0
+IsSteady (check_form cell) files = AreGood (check_form cell) files
+IsSteady (replay_form cell out order scripts) files = AreGood (replay_form cell out order scripts) files
+IsSteady (room_form cell out scripts) files = ⊥
+IsSteady later_form files = ⊥
+IsSteady no_form files = ⊥
+
+good_output : (form : Form) (files : Files) → FewScripts form → IsSteady form files → (task : Task) × OutputIs form files (Ok task)
 good_output (check_form cell) files few good = (check_task good.start, inl (good.start, cell_is cell files good, refl))
 good_output (replay_form cell out order scripts) files few good =
     let commands = good.1.0 in
@@ -98,31 +118,63 @@ good_output (replay_form cell out order scripts) files few good =
         ),
       ),
     )
+good_output (room_form cell out scripts) files few good = absurd good
 good_output later_form files few good = absurd good
 good_output no_form files few good = absurd good
 
 -- a status that is asked for beside a task is Done
 done_of : (form : Form) (files : Files) (task : Task) (status : Status) → OutputIs form files (Ok task) → IsExpected form files status → status ≡ Done
 done_of form files task Done good is = refl
-done_of form files task Usage good is = absurd (ok_not_err task Usage (one_output form files (Ok task) (Err Usage) good is))
-done_of form files task (Absent name) good is = absurd (ok_not_err task (Absent name) (one_output form files (Ok task) (Err (Absent name)) good is))
-done_of form files task (BadCell fault) good is = absurd (ok_not_err task (BadCell fault) (one_output form files (Ok task) (Err (BadCell fault)) good is))
-done_of form files task (BadScript session line code) good is = absurd (ok_not_err task (BadScript session line code) (one_output form files (Ok task) (Err (BadScript session line code)) good is))
-done_of form files task (ReadFault name) good is = absurd (ok_not_err task (ReadFault name) (one_output form files (Ok task) (Err (ReadFault name)) good is))
-done_of form files task WriteFault good is = absurd (ok_not_err task WriteFault (one_output form files (Ok task) (Err WriteFault) good is))
-done_of form files task (TooLarge name) good is = absurd (ok_not_err task (TooLarge name) (one_output form files (Ok task) (Err (TooLarge name)) good is))
-done_of form files task NoMemory good is = absurd (ok_not_err task NoMemory (one_output form files (Ok task) (Err NoMemory) good is))
-done_of form files task (BadOrder place) good is = absurd (ok_not_err task (BadOrder place) (one_output form files (Ok task) (Err (BadOrder place)) good is))
-done_of form files task (Stuck desk serial) good is = absurd (ok_not_err task (Stuck desk serial) (one_output form files (Ok task) (Err (Stuck desk serial)) good is))
-done_of form files task TooManyFindings good is = absurd (ok_not_err task TooManyFindings (one_output form files (Ok task) (Err TooManyFindings) good is))
-done_of form files task NotYet good is = absurd (ok_not_err task NotYet (one_output form files (Ok task) (Err NotYet) good is))
+done_of form files task Usage good is = absurd (apart form task Usage (one_output form files (Ok task) (Err Usage) good is))
+done_of form files task (Absent name) good is = absurd (apart form task (Absent name) (one_output form files (Ok task) (Err (Absent name)) good is))
+done_of form files task (BadCell fault) good is = absurd (apart form task (BadCell fault) (one_output form files (Ok task) (Err (BadCell fault)) good is))
+done_of form files task (BadScript session line code) good is = absurd (apart form task (BadScript session line code) (one_output form files (Ok task) (Err (BadScript session line code)) good is))
+done_of form files task (ReadFault name) good is = absurd (apart form task (ReadFault name) (one_output form files (Ok task) (Err (ReadFault name)) good is))
+done_of form files task WriteFault good is = absurd (apart form task WriteFault (one_output form files (Ok task) (Err WriteFault) good is))
+done_of form files task (TooLarge name) good is = absurd (apart form task (TooLarge name) (one_output form files (Ok task) (Err (TooLarge name)) good is))
+done_of form files task NoMemory good is = absurd (apart form task NoMemory (one_output form files (Ok task) (Err NoMemory) good is))
+done_of form files task (BadOrder place) good is = absurd (apart form task (BadOrder place) (one_output form files (Ok task) (Err (BadOrder place)) good is))
+done_of form files task (Stuck desk serial) good is = absurd (apart form task (Stuck desk serial) (one_output form files (Ok task) (Err (Stuck desk serial)) good is))
+done_of form files task TooManyFindings good is = absurd (apart form task TooManyFindings (one_output form files (Ok task) (Err TooManyFindings) good is))
+done_of form files task NotYet good is = absurd (apart form task NotYet (one_output form files (Ok task) (Err NotYet) good is))
+
+-- good files of sessions in threads leave no refusal
+no_bad_room : (cell out : List ℕ) (scripts : List (List ℕ)) (files : Files) (status : Status) → AreGood (room_form cell out scripts) files → OutputIs (room_form cell out scripts) files (Err status) → ⊥
+no_bad_room cell out scripts files status good (inr p) = ok_not_err good.0.start p.0 (one_cell cell files (Ok good.0.start) (Err p.0) (cell_is cell files good.0) p.1)
+no_bad_room cell out scripts files status good (inl p) = by p.2
+  where
+    by : RoomIs p.0 out scripts files (Err status) → ⊥
+    by (inr q) = ok_not_err good.1.0 q.0 (one_scripts scripts files (Ok good.1.0) (Err q.0) (scripts_are scripts files good.1.0 good.1.1) q.1)
+    by (inl q) = ok_not_err _ status (sym q.2.2)
+
+room_done : (cell out : List ℕ) (scripts : List (List ℕ)) (files : Files) (status : Status) → AreGood (room_form cell out scripts) files → IsExpected (room_form cell out scripts) files status → status ≡ Done
+room_done cell out scripts files Done good is = refl
+room_done cell out scripts files Usage good is = absurd (no_bad_room cell out scripts files Usage good is)
+room_done cell out scripts files (Absent name) good is = absurd (no_bad_room cell out scripts files (Absent name) good is)
+room_done cell out scripts files (BadCell fault) good is = absurd (no_bad_room cell out scripts files (BadCell fault) good is)
+room_done cell out scripts files (BadScript session line code) good is = absurd (no_bad_room cell out scripts files (BadScript session line code) good is)
+room_done cell out scripts files (ReadFault name) good is = absurd (no_bad_room cell out scripts files (ReadFault name) good is)
+room_done cell out scripts files WriteFault good is = absurd (no_bad_room cell out scripts files WriteFault good is)
+room_done cell out scripts files (TooLarge name) good is = absurd (no_bad_room cell out scripts files (TooLarge name) good is)
+room_done cell out scripts files NoMemory good is = absurd (no_bad_room cell out scripts files NoMemory good is)
+room_done cell out scripts files (BadOrder place) good is = absurd (no_bad_room cell out scripts files (BadOrder place) good is)
+room_done cell out scripts files (Stuck desk serial) good is = absurd (no_bad_room cell out scripts files (Stuck desk serial) good is)
+room_done cell out scripts files TooManyFindings good is = absurd (no_bad_room cell out scripts files TooManyFindings good is)
+room_done cell out scripts files NotYet good is = absurd (no_bad_room cell out scripts files NotYet good is)
+
+good_done : (form : Form) (files : Files) (status : Status) → FewScripts form → IsSteady form files → IsExpected form files status → status ≡ Done
+good_done form files status few good is = let output = good_output form files few good in done_of form files output.0 status output.1 is
 
 expected_done : (form : Form) (files : Files) (status : Status) → FewScripts form → AreGood form files → IsExpected form files status ⊎ (status ≡ NoMemory) → (status ≡ Done) ⊎ (status ≡ NoMemory)
-expected_done form files status few good (inl is) = let output = good_output form files few good in inl (done_of form files output.0 status output.1 is)
 expected_done form files status few good (inr none) = inr none
+expected_done (check_form cell) files status few good (inl is) = inl (good_done (check_form cell) files status few good is)
+expected_done (replay_form cell out order scripts) files status few good (inl is) = inl (good_done (replay_form cell out order scripts) files status few good is)
+expected_done (room_form cell out scripts) files status few good (inl is) = inl (room_done cell out scripts files status good is)
+expected_done later_form files status few good (inl is) = absurd good
+expected_done no_form files status few good (inl is) = absurd good
 
-pub complete_from_exact : (words : List (List ℕ)) (before after : Outside) (status : Status) → IsExact words before after status → IsComplete words before after status
-complete_from_exact words before after status exact = λ files smooth good. expected_done (form_of words) files status (few_scripts words) good (exact files smooth)
+pub complete_from_exact : (sticks : Type 0) (words : List (List ℕ)) (before after : Outside) (status : Status) → IsExact sticks words before after status → IsComplete sticks words before after status
+complete_from_exact sticks words before after status exact = λ files smooth calm good. expected_done (form_of words) files status (few_scripts words) good (exact files smooth calm)
 
 -- ---- what is left in OUT
 out_read_back : (cell out order : List ℕ) (scripts : List (List ℕ)) (task : Task) (a b : Option Files) → IsReplayOf cell out order scripts a task → AreWritten task.file a b → Told (IsOutReadBack cell out order scripts) a b
@@ -145,16 +197,37 @@ out_read_back cell out order scripts task (Some fs) (Some gs) run written =
       decoded = run.run.run.read_back;
     }
 
+room_read_back : (cell out : List ℕ) (scripts : List (List ℕ)) (task : Task) (a b : Option Files) → IsRoomOf cell out scripts a task → AreWritten task.file a b → Told (IsRoomReadBack cell out scripts) a b
+room_read_back cell out scripts task None b run written = tt
+room_read_back cell out scripts task (Some fs) None run written = tt
+room_read_back cell out scripts task (Some fs) (Some gs) run written =
+    let c = run.start in
+    let commands = run.run.commands in
+    let sessions = run.run.run.sessions in
+    let wrote = subst (λ (t : Task). AreWritten t.file (Some fs) (Some gs)) run.run.run.is written in
+    record {
+      start = c;
+      cell_is = run.told;
+      commands = commands;
+      scripts_are = run.run.told;
+      sessions = sessions;
+      order = run.run.run.order;
+      bytes = encoded_cell (final_cell c commands sessions);
+      there = wrote.written;
+      decoded = run.run.run.read_back;
+    }
+
 nothing_left : (a b : Option Files) → Told (λ old new. Unit {0}) a b
 nothing_left None b = tt
 nothing_left (Some fs) None = tt
 nothing_left (Some fs) (Some gs) = tt
 
-form_read_back : (form : Form) (before after : Outside) → IsCauseOf form before after Done → Told (IsFormReadBack form) before.files after.files
-form_read_back (check_form cell) before after cause = nothing_left before.files after.files
-form_read_back (replay_form cell out order scripts) before after cause = out_read_back cell out order scripts cause.0 before.files after.files cause.1 cause.3.files
-form_read_back later_form before after cause = nothing_left before.files after.files
-form_read_back no_form before after cause = nothing_left before.files after.files
+form_read_back : (sticks : Type 0) (form : Form) (before after : Outside) → IsCauseOf sticks form before after Done → Told (IsFormReadBack form) before.files after.files
+form_read_back sticks (check_form cell) before after cause = nothing_left before.files after.files
+form_read_back sticks (replay_form cell out order scripts) before after cause = out_read_back cell out order scripts cause.0 before.files after.files cause.1 cause.3.files
+form_read_back sticks (room_form cell out scripts) before after cause = room_read_back cell out scripts cause.0 before.files after.files cause.1 cause.3.files
+form_read_back sticks later_form before after cause = nothing_left before.files after.files
+form_read_back sticks no_form before after cause = nothing_left before.files after.files
 
-pub read_back_from_cause : (words : List (List ℕ)) (before after : Outside) (status : Status) → IsCause words before after status → IsReadBackFrom words before after status
-read_back_from_cause words before after status cause = λ done. form_read_back (form_of words) before after (subst (IsCauseOf (form_of words) before after) done cause)
+pub read_back_from_cause : (sticks : Type 0) (words : List (List ℕ)) (before after : Outside) (status : Status) → IsCause sticks words before after status → IsReadBackFrom words before after status
+read_back_from_cause sticks words before after status cause = λ done. form_read_back sticks (form_of words) before after (subst (IsCauseOf sticks (form_of words) before after) done cause)

@@ -3,7 +3,7 @@ use Rattle.std.proofs.Common.{◌≡◌, ℕ, ◌-◌, ◌<◌, ◌≤◌, take,
 use Rattle.std.specs.Prelude.{codes, nat_le}
 use Rattle.std.proofs.lemmas.Bool.Decides.{nat_tests}
 use Rattle.std.proofs.lemmas.List.{length-drop, length-map}
-use Rattle.enc_top.specs.Words.{check_among, check_form, form_of, is_between, is_later_form, is_word, later_form, no_form, replay_among, replay_form}
+use Rattle.enc_top.specs.Words.{begins_with_room, check_among, check_form, form_of, is_between, is_later_form, is_word, later_form, no_form, replay_among, replay_form, room_among, room_form}
 
 -- the words behind the first ones
 pub behind : (n : ℕ) (words : List (String Global)) → take (length words - n) (drop n words) ≡ drop n words
@@ -63,28 +63,69 @@ split [] first others some is are = absurd (omega (arith, some))
 split (a ∷ rest) first others some is are = λ i. string_bytes (sym is i) ∷ map string_bytes (sym are i)
 
 module _ (words : List (String Global)) (first : String Global) (others : List (String Global)) (some : 1 ≤ length words) (is : first ≡ get_or words 0 first) (are : others ≡ drop 1 words) where
-  pub check_words : is_word (codes "check") (string_bytes first) ≡ true → form_of (map string_bytes words) ≡ check_among (map string_bytes others)
-  unfolding form_of
-  check_words check = ap form_of (split words first others some is are) ∙ (rw check refl)
+  pub first_word : begins_with_room (map string_bytes words) ≡ is_word (codes "room") (string_bytes first)
+  first_word = ap begins_with_room (split words first others some is are)
 
-  pub run_words : is_word (codes "check") (string_bytes first) ≡ false → is_word (codes "replay") (string_bytes first) ≡ true → form_of (map string_bytes words) ≡ replay_among (map string_bytes others)
-  unfolding form_of
-  run_words check replay = ap form_of (split words first others some is are) ∙ (rw (check, replay) refl)
+  module _ (begins : begins_with_room (map string_bytes words) ≡ false) where
+    room : is_word (codes "room") (string_bytes first) ≡ false
+    room = sym first_word ∙ begins
 
-  pub later_words : is_word (codes "check") (string_bytes first) ≡ false → is_word (codes "replay") (string_bytes first) ≡ false → is_later_form (map string_bytes words) ≡ true → form_of (map string_bytes words) ≡ later_form
-  unfolding form_of
-  later_words check replay later =
-      ap form_of (split words first others some is are) ∙ (let test : is_later_form (string_bytes first ∷ map string_bytes others) ≡ true = ap is_later_form (sym (split words first others some is are)) ∙ later in rw (check, replay, test) refl)
+    pub check_words : is_word (codes "check") (string_bytes first) ≡ true → form_of (map string_bytes words) ≡ check_among (map string_bytes others)
+    unfolding form_of
+    check_words check = ap form_of (split words first others some is are) ∙ (rw (room, check) refl)
 
-  pub other_words : is_word (codes "check") (string_bytes first) ≡ false → is_word (codes "replay") (string_bytes first) ≡ false → is_later_form (map string_bytes words) ≡ false → form_of (map string_bytes words) ≡ no_form
-  unfolding form_of
-  other_words check replay later =
-      ap form_of (split words first others some is are) ∙ (let test : is_later_form (string_bytes first ∷ map string_bytes others) ≡ false = ap is_later_form (sym (split words first others some is are)) ∙ later in rw (check, replay, test) refl)
+    pub run_words : is_word (codes "check") (string_bytes first) ≡ false → is_word (codes "replay") (string_bytes first) ≡ true → form_of (map string_bytes words) ≡ replay_among (map string_bytes others)
+    unfolding form_of
+    run_words check replay = ap form_of (split words first others some is are) ∙ (rw (room, check, replay) refl)
+
+    pub later_words : is_word (codes "check") (string_bytes first) ≡ false → is_word (codes "replay") (string_bytes first) ≡ false → is_later_form (map string_bytes words) ≡ true → form_of (map string_bytes words) ≡ later_form
+    unfolding form_of
+    later_words check replay later =
+        ap form_of (split words first others some is are)
+        ∙ (let test : is_later_form (string_bytes first ∷ map string_bytes others) ≡ true = ap is_later_form (sym (split words first others some is are)) ∙ later in rw (room, check, replay, test) refl)
+
+    pub other_words : is_word (codes "check") (string_bytes first) ≡ false → is_word (codes "replay") (string_bytes first) ≡ false → is_later_form (map string_bytes words) ≡ false → form_of (map string_bytes words) ≡ no_form
+    unfolding form_of
+    other_words check replay later =
+        ap form_of (split words first others some is are)
+        ∙ (let test : is_later_form (string_bytes first ∷ map string_bytes others) ≡ false = ap is_later_form (sym (split words first others some is are)) ∙ later in rw (room, check, replay, test) refl)
 
 pub no_words : (words : List (String Global)) → length words < 1 → form_of (map string_bytes words) ≡ no_form
 unfolding form_of
 no_words [] none = refl
 no_words (a ∷ rest) none = absurd (omega (arith, none))
+
+-- ---- words that begin with `room`
+pub few_room_words : (words : List (String Global)) → begins_with_room (map string_bytes words) ≡ true → length words < 3 → form_of (map string_bytes words) ≡ no_form
+unfolding form_of
+few_room_words [] begins few = refl
+few_room_words (a ∷ []) begins few = rw begins refl
+few_room_words (a ∷ b ∷ []) begins few = rw begins refl
+few_room_words (a ∷ b ∷ d ∷ rest) begins few = absurd (omega (arith, few))
+
+pub room_words : (words : List (String Global)) (cell out : String Global) (names : List (String Global)) → begins_with_room (map string_bytes words) ≡ true → 3 ≤ length words → cell ≡ get_or words 1 cell → out ≡ get_or words 2 out → names ≡ drop 3 words
+    → 1 ≤ length names → length names ≤ 16 → form_of (map string_bytes words) ≡ room_form (string_bytes cell) (string_bytes out) (map string_bytes names)
+unfolding form_of
+room_words [] cell out names begins many is_cell is_out are low high = absurd (omega (arith, many))
+room_words (a ∷ []) cell out names begins many is_cell is_out are low high = absurd (omega (arith, many))
+room_words (a ∷ b ∷ []) cell out names begins many is_cell is_out are low high = absurd (omega (arith, many))
+room_words (a ∷ b ∷ d ∷ rest) cell out names begins many is_cell is_out are low high =
+    let count : length (map string_bytes rest) ≡ length names = length-map rest string_bytes ∙ ap length (sym are) in
+    let right : is_between 1 16 (length (map string_bytes rest)) ≡ true = between (length (map string_bytes rest)) (omega (arith, low, count)) (omega (arith, high, count)) in
+    (rw begins refl)
+    ∙ ap (λ t. cond t (room_form (string_bytes b) (string_bytes d) (map string_bytes rest)) no_form) right
+    ∙ (λ i. room_form (string_bytes (sym is_cell i)) (string_bytes (sym is_out i)) (map string_bytes (sym are i)))
+
+pub wrong_room_count : (words names : List (String Global)) → begins_with_room (map string_bytes words) ≡ true → 3 ≤ length words → names ≡ drop 3 words → (1 ≤ length names → length names ≤ 16 → ⊥) → form_of (map string_bytes words) ≡ no_form
+unfolding form_of
+wrong_room_count [] names begins many are other = absurd (omega (arith, many))
+wrong_room_count (a ∷ []) names begins many are other = absurd (omega (arith, many))
+wrong_room_count (a ∷ b ∷ []) names begins many are other = absurd (omega (arith, many))
+wrong_room_count (a ∷ b ∷ d ∷ rest) names begins many are other =
+    let count : length (map string_bytes rest) ≡ length names = length-map rest string_bytes ∙ ap length (sym are) in
+    (rw begins refl)
+    ∙ ap (λ t. cond t (room_form (string_bytes b) (string_bytes d) (map string_bytes rest)) no_form)
+    (not_between (length (map string_bytes rest)) (λ low high. other (omega (arith, low, count)) (omega (arith, high, count))))
 
 -- ---- words behind `check` and `replay` are of no later form
 pub check_not_later : (others : List (List ℕ)) → check_among others ≡ later_form → ⊥
@@ -101,3 +142,18 @@ run_not_later [] is = cc (is)
 run_not_later (a ∷ []) is = cc (is)
 run_not_later (a ∷ b ∷ []) is = cc (is)
 run_not_later (a ∷ b ∷ d ∷ rest) is = run_by (is_between 1 16 (length rest)) a b d rest is
+
+room_by : (b : Bool) (cell out : List ℕ) (scripts : List (List ℕ)) → cond b (room_form cell out scripts) no_form ≡ later_form → ⊥
+room_by true cell out scripts is = cc (is)
+room_by false cell out scripts is = cc (is)
+
+room_not_later : (others : List (List ℕ)) → room_among others ≡ later_form → ⊥
+room_not_later [] is = cc (is)
+room_not_later (a ∷ []) is = cc (is)
+room_not_later (a ∷ b ∷ rest) is = room_by (is_between 1 16 (length rest)) a b rest is
+
+-- words that begin with `room` are of no later form
+pub room_is_built : (words : List (List ℕ)) → begins_with_room words ≡ true → form_of words ≡ later_form → ⊥
+unfolding form_of
+room_is_built [] begins is = cc (is)
+room_is_built (first ∷ others) begins is = room_not_later others (sym (rw begins refl) ∙ is)

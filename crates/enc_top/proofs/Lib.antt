@@ -7,3 +7,5 @@ pub mod Causes
 pub mod FormWords
 pub mod OneAnswer
 pub mod Completed
+mod Reports
+mod RoomAnswers

@@ -9,9 +9,9 @@ use Rattle.script_text.specs.Faults.{IsFirstFault}
 use Rattle.script_text.proofs.Readings.{same_readings}
 use Rattle.text_spec.specs.declared.command.Command.{Command}
 use Rattle.room_laws.specs.Orders.{quotas_of}
-use Rattle.enc_top.specs.Inputs.{AndThen, AreScripts, CellIs, FileIs, IsFirstBad, OrderIs, OrderedRunIs, OutputIs, RunIs, ScriptIn, ScriptIs, ScriptsAre, cell_limit, order_limit, script_limit}
+use Rattle.enc_top.specs.Inputs.{AndThen, AreOneAnswer, AreScripts, CellIs, FileIs, IsFirstBad, OrderIs, OrderedRunIs, OutputIs, RoomIs, RunIs, ScriptIn, ScriptIs, ScriptsAre, cell_limit, order_limit, script_limit}
 use Rattle.enc_top.specs.Task.{Task}
-use Rattle.enc_top.specs.Words.{Form, check_form, later_form, no_form, replay_form}
+use Rattle.enc_top.specs.Words.{Form, check_form, later_form, no_form, replay_form, room_form}
 use Rattle.report_text.specs.declared.status.Status.{Status}
 use Rattle.report_text.specs.declared.status.Status.TheVariants.{Done, Usage, Absent, BadCell, BadScript, ReadFault, WriteFault, TooLarge, NoMemory, BadOrder, Stuck, TooManyFindings, NotYet}
 
@@ -37,7 +37,7 @@ one_then {A} {B} First Next one next x y (inr p) (inr q) = p.2 ∙ ap (λ (statu
 one_file : (limit : ℕ) (name : List ℕ) (files : Files) → IsOne (FileIs limit name files)
 one_file limit name files x y p q = sym p ∙ q
 
-one_cell : (name : List ℕ) (files : Files) → IsOne (CellIs name files)
+pub one_cell : (name : List ℕ) (files : Files) → IsOne (CellIs name files)
 one_cell name files = one_then (FileIs cell_limit name files) _ (one_file cell_limit name files) (λ bytes x y p q. sym p ∙ q)
 
 one_order : (quotas name : List ℕ) (files : Files) → IsOne (OrderIs quotas name files)
@@ -108,7 +108,7 @@ module _ (names : List (List ℕ)) (files : Files) where
       same_err {A = List Command} x y (one_script (length q.before + 1) (slice_index_or names (length q.before) []) files (Err x) (Err y)
       (subst (λ k. ScriptIs (k + 1) (slice_index_or names k []) files (Err x)) many p.bad) q.bad)
 
-  one_scripts : IsOne (ScriptsAre names files)
+  pub one_scripts : IsOne (ScriptsAre names files)
   one_scripts (Ok a) (Ok b) p q = ap (λ (scripts : List (List Command)). Ok scripts) (same_scripts a b (p.0 ∙ sym q.0) p.1 q.1)
   one_scripts (Ok a) (Err y) p q = let many = p.0 in let within = q.within in absurd (none_bad a (length q.before) y p.1 (omega (arith, many, within)) q.bad)
   one_scripts (Err x) (Ok b) p q = let many = q.0 in let within = p.within in absurd (none_bad b (length p.before) x q.1 (omega (arith, many, within)) p.bad)
@@ -121,8 +121,43 @@ one_ordered_run c out order commands files = one_then (OrderIs (quotas_of comman
 one_run : (c : Cell) (out order : List ℕ) (scripts : List (List ℕ)) (files : Files) → IsOne (RunIs c out order scripts files)
 one_run c out order scripts files = one_then (ScriptsAre scripts files) _ (one_scripts scripts files) (λ commands. one_ordered_run c out order commands files)
 
-pub one_output : (form : Form) (files : Files) (answer other : Result Task Status) → OutputIs form files answer → OutputIs form files other → answer ≡ other
+-- two reports, or one and the same refusal
+abbrev IsSame : Result Task Status → Result Task Status → Type 0
+IsSame (Ok task) (Ok other) = Unit {0}
+IsSame answer other = answer ≡ other
+
+same_then : {A : Type 0} (First : Result A Status → Type 0) (Next : A → Result Task Status → Type 0) → IsOne First → ((a : A) (x y : Result Task Status) → Next a x → Next a y → IsSame x y)
+    → (x y : Result Task Status) → AndThen First Next x → AndThen First Next y → IsSame x y
+same_then {A} First Next one next x y (inl p) (inl q) = next q.0 x y (subst (λ a. Next a x) (same_ok p.0 q.0 (one (Ok p.0) (Ok q.0) p.1 q.1)) p.2) q.2
+same_then {A} First Next one next x y (inl p) (inr q) = absurd (ok_not_err p.0 q.0 (one (Ok p.0) (Err q.0) p.1 q.1))
+same_then {A} First Next one next x y (inr p) (inl q) = absurd (ok_not_err q.0 p.0 (one (Ok q.0) (Err p.0) q.1 p.1))
+same_then {A} First Next one next x y (inr p) (inr q) =
+    subst (λ (z : Result Task Status). IsSame z y) (sym p.2)
+    (subst (λ (z : Result Task Status). IsSame (Err p.0) z) (sym q.2) (ap (λ (status : Status). Err status) (same_err {A = A} p.0 q.0 (one (Err p.0) (Err q.0) p.1 q.1))))
+
+both_reports : (x y : Result Task Status) (a b : Task) → x ≡ Ok a → y ≡ Ok b → IsSame x y
+both_reports x y a b p q = subst (λ (z : Result Task Status). IsSame z y) (sym p) (subst (λ (z : Result Task Status). IsSame (Ok a) z) (sym q) tt)
+
+as_one : (cell out : List ℕ) (scripts : List (List ℕ)) (x y : Result Task Status) → IsSame x y → AreOneAnswer (room_form cell out scripts) x y
+as_one cell out scripts (Ok a) (Ok b) same = tt
+as_one cell out scripts (Ok a) (Err y) same = same
+as_one cell out scripts (Err x) (Ok b) same = same
+as_one cell out scripts (Err x) (Err y) same = same
+
+pub one_output : (form : Form) (files : Files) (answer other : Result Task Status) → OutputIs form files answer → OutputIs form files other → AreOneAnswer form answer other
 one_output (check_form cell) files = one_then (CellIs cell files) _ (one_cell cell files) (λ c x y p q. p ∙ sym q)
 one_output (replay_form cell out order scripts) files = one_then (CellIs cell files) _ (one_cell cell files) (λ c. one_run c out order scripts files)
+one_output (room_form cell out scripts) files = λ x y p q.
+    as_one cell out scripts x y
+    (same_then (CellIs cell files) (λ c. RoomIs c out scripts files) (one_cell cell files)
+    (λ c. same_then (ScriptsAre scripts files) _ (one_scripts scripts files) (λ commands a b r t. both_reports a b _ _ r.2 t.2)) x y p q)
 one_output later_form files = λ x y p q. p ∙ sym q
 one_output no_form files = λ x y p q. p ∙ sym q
+
+-- a report is no refusal
+pub apart : (form : Form) (task : Task) (status : Status) → AreOneAnswer form (Ok task) (Err status) → ⊥
+apart (check_form cell) task status same = ok_not_err task status same
+apart (replay_form cell out order scripts) task status same = ok_not_err task status same
+apart (room_form cell out scripts) task status same = ok_not_err task status same
+apart later_form task status same = ok_not_err task status same
+apart no_form task status same = ok_not_err task status same

@@ -11,7 +11,7 @@ use Rattle.text_spec.specs.declared.command.Command.{Command}
 use Rattle.room_laws.specs.Orders.{quotas_of}
 use Rattle.enc_top.specs.Inputs.{cell_limit, order_limit, script_limit}
 use Rattle.enc_top.specs.Outcome.{IsSmooth, Outside}
-use Rattle.enc_top.specs.Words.{Form, check_form, form_of, later_form, no_form, replay_form}
+use Rattle.enc_top.specs.Words.{Form, check_form, form_of, later_form, no_form, replay_form, room_form}
 use Rattle.report_text.specs.declared.status.Status.{Status}
 use Rattle.report_text.specs.declared.status.Status.TheVariants.{Done, NoMemory}
 
@@ -48,9 +48,10 @@ pub record IsGoodOrder (quotas name : List ℕ) (files : Files) : Type 0 where
 abbrev pub AreGood : Form → Files → Type 0
 AreGood (check_form cell) files = IsGoodCell cell files
 AreGood (replay_form cell out order scripts) files = IsGoodCell cell files × ((commands : List (List Command)) × AreGoodScripts scripts files commands × IsGoodOrder (quotas_of commands) order files)
+AreGood (room_form cell out scripts) files = IsGoodCell cell files × ((commands : List (List Command)) × AreGoodScripts scripts files commands)
 AreGood later_form files = ⊥
 AreGood no_form files = ⊥
 
--- where the files are told and good and no device failed, all is done, unless memory ran out
-abbrev pub IsComplete : List (List ℕ) → Outside → Outside → Status → Type 0
-IsComplete words before after status = (files : Files) → IsSmooth before after files → AreGood (form_of words) files → (status ≡ Done) ⊎ (status ≡ NoMemory)
+-- where the files are told and good, no device failed and no rendezvous may give up, all is done, unless memory ran out
+abbrev pub IsComplete : Type 0 → List (List ℕ) → Outside → Outside → Status → Type 0
+IsComplete sticks words before after status = (files : Files) → IsSmooth before after files → ¬ sticks → AreGood (form_of words) files → (status ≡ Done) ⊎ (status ≡ NoMemory)

@@ -1,4 +1,5 @@
 -- What input files are, or why a call ends there. A relation tells what a step answers where nothing fails. This project's own.
+use mathlib.Core.List.{IsPrefix}
 use Rattle.std.specs.Prelude.{◌≡◌, ◌⊎◌, ℕ, ◌+◌, ◌<◌, nat_lt, List, [], length, slice_index_or, Option, None, Some, Result, Ok, Err, IfSome, if◌then◌else◌}
 use Rattle.enc_outside.specs.Count.{Rose}
 use Rattle.enc_outside.specs.Files.{Files}
@@ -8,14 +9,14 @@ use Rattle.file_spec.specs.DecodedCell.{decoded_cell}
 use Rattle.rule_spec.specs.Findings.{finding_total}
 use Rattle.s57_types.specs.declared.cell.Cell.{Cell}
 use Rattle.s57_types.specs.declared.fault.CellFault.{CellFault}
-use Rattle.text_spec.specs.OrderLine.{order_of}
+use Rattle.text_spec.specs.OrderLine.{IsOrder, order_line, order_of}
 use Rattle.text_spec.specs.ScriptLines.{IsScript}
 use Rattle.room_laws.specs.Orders.{quotas_of}
 use Rattle.script_text.specs.Faults.{IsFirstFault}
 use Rattle.text_spec.specs.declared.command.Command.{Command}
 use Rattle.history_spec.specs.Steps.{finding_limit}
 use Rattle.enc_top.specs.Task.{Task, check_task, run_task}
-use Rattle.enc_top.specs.Words.{Form, check_form, replay_form, later_form, no_form}
+use Rattle.enc_top.specs.Words.{Form, check_form, replay_form, room_form, later_form, no_form}
 use Rattle.report_text.specs.declared.status.Status.{Status}
 use Rattle.report_text.specs.declared.status.Status.TheVariants.{Done, Usage, Absent, BadCell, BadScript, ReadFault, WriteFault, TooLarge, NoMemory, BadOrder, Stuck, TooManyFindings, NotYet}
 
@@ -98,16 +99,26 @@ OrderedRunIs c out order commands files = AndThen (OrderIs (quotas_of commands) 
 abbrev pub RunIs : Cell → List ℕ → List ℕ → List (List ℕ) → Files → Result Task Status → Type 0
 RunIs c out order scripts files = AndThen (ScriptsAre scripts files) (λ commands. OrderedRunIs c out order commands files)
 
+-- a run of scripts on a cell, each in a thread of its own: in some order of them
+abbrev pub RoomIs : Cell → List ℕ → List (List ℕ) → Files → Result Task Status → Type 0
+RoomIs c out scripts files = AndThen (ScriptsAre scripts files) (λ commands answer. (sessions : List ℕ) × IsOrder (quotas_of commands) sessions × (answer ≡ Ok (run_task c out commands sessions)))
+
 -- what is done: the text of the cell is put, or the report of the run, and then the cell that is left is written
 abbrev pub OutputIs : Form → Files → Result Task Status → Type 0
 OutputIs (check_form cell) files = AndThen (CellIs cell files) (λ c answer. answer ≡ Ok (check_task c))
 OutputIs (replay_form cell out order scripts) files = AndThen (CellIs cell files) (λ c. RunIs c out order scripts files)
+OutputIs (room_form cell out scripts) files = AndThen (CellIs cell files) (λ c. RoomIs c out scripts files)
 OutputIs later_form files = λ answer. answer ≡ Err NotYet
 OutputIs no_form files = λ answer. answer ≡ Err Usage
 
+-- two answers to what words and files ask for are one; of sessions in threads, two reports may be in different orders
+abbrev pub AreOneAnswer : Form → Result Task Status → Result Task Status → Type 0
+AreOneAnswer (room_form cell out scripts) (Ok task) (Ok other) = Unit {0}
+AreOneAnswer form answer other = answer ≡ other
+
 -- what words and files ask for is one answer
 abbrev pub AsksOneAnswer : Type 0
-AsksOneAnswer = (form : Form) (files : Files) (answer other : Result Task Status) → OutputIs form files answer → OutputIs form files other → answer ≡ other
+AsksOneAnswer = (form : Form) (files : Files) (answer other : Result Task Status) → OutputIs form files answer → OutputIs form files other → AreOneAnswer form answer other
 
 -- a run of scripts on a cell in some order, where the files are told that of the file, after which the file of the cell that is left
 -- is read as that cell
@@ -122,6 +133,26 @@ pub record IsRunOf (c : Cell) (out order : List ℕ) (scripts : List (List ℕ))
   pub commands : List (List Command)
   pub told : IfSome files (λ fs. ScriptsAre scripts fs (Ok commands))
   pub run : IsOrderedRun c out order commands files task
+
+-- no other order of these sessions has a line with which a text begins
+abbrev pub IsOnlyOrder : List ℕ → List ℕ → List ℕ → Type 0
+IsOnlyOrder quotas sessions text = (others : List ℕ) → IsOrder quotas others → IsPrefix (order_line others) text → others ≡ sessions
+
+-- a run of sessions in threads on a cell: it is one in some order of the sessions, the only one whose line begins the report, and the file of the
+-- cell that is left is read as that cell
+pub record IsRunInRoom (c : Cell) (out : List ℕ) (commands : List (List Command)) (task : Task) : Type 0 where
+  pub sessions : List ℕ
+  pub order : IsOrder (quotas_of commands) sessions
+  pub is : task ≡ run_task c out commands sessions
+  pub begins : IsPrefix (order_line sessions) task.text
+  pub only : IsOnlyOrder (quotas_of commands) sessions task.text
+  pub read_back : IsReadBack c commands sessions
+
+-- the same of some scripts, where the files are told those of the files
+pub record IsRoomRun (c : Cell) (out : List ℕ) (scripts : List (List ℕ)) (files : Option Files) (task : Task) : Type 0 where
+  pub commands : List (List Command)
+  pub told : IfSome files (λ fs. ScriptsAre scripts fs (Ok commands))
+  pub run : IsRunInRoom c out commands task
 
 -- a script to which a call comes: those before it are good
 pub record IsReachedScript (names : List (List ℕ)) (files : Files) (name : List ℕ) : Type 0 where
@@ -138,6 +169,7 @@ IsReachedInRun order scripts files name = IsReachedScript scripts files name ⊎
 abbrev pub IsReached : Form → Files → List ℕ → Type 0
 IsReached (check_form cell) files name = name ≡ cell
 IsReached (replay_form cell out order scripts) files name = (name ≡ cell) ⊎ ((c : Cell) × CellIs cell files (Ok c) × IsReachedInRun order scripts files name)
+IsReached (room_form cell out scripts) files name = (name ≡ cell) ⊎ ((c : Cell) × CellIs cell files (Ok c) × IsReachedScript scripts files name)
 IsReached later_form files name = ⊥
 IsReached no_form files name = ⊥
 
@@ -177,6 +209,7 @@ IsAmong names name = (k : ℕ) × (k < length names) × (name ≡ slice_index_or
 abbrev pub IsInputOf : Form → List ℕ → Type 0
 IsInputOf (check_form cell) name = name ≡ cell
 IsInputOf (replay_form cell out order scripts) name = (name ≡ cell) ⊎ ((name ≡ order) ⊎ IsAmong scripts name)
+IsInputOf (room_form cell out scripts) name = (name ≡ cell) ⊎ IsAmong scripts name
 IsInputOf later_form name = ⊥
 IsInputOf no_form name = ⊥
 

@@ -1,16 +1,19 @@
 -- What each status of a call tells of the words, and of the outside before and after.
-use Rattle.std.specs.Prelude.{◌≡◌, ◌⊎◌, ℕ, List, Option, None, Some, Result, Ok, Err, IfSome}
+use Rattle.std.specs.Prelude.{◌≡◌, ◌⊎◌, ℕ, ◌≤◌, List, length, count_by, Option, None, Some, Result, Ok, Err, IfSome}
 use Rattle.enc_outside.specs.Count.{Rose}
 use Rattle.enc_outside.specs.Files.{Files, Told, Writes}
 use Rattle.file_spec.specs.DecodedCell.{decoded_cell}
 use Rattle.history_spec.specs.ReportText.{final_cell}
 use Rattle.s57_types.specs.declared.cell.Cell.{Cell}
+use Rattle.history_spec.specs.Sessions.{script_of}
+use Rattle.text_spec.specs.OrderLine.{IsOrder}
+use Rattle.text_spec.specs.ScriptLines.{is_shared}
 use Rattle.text_spec.specs.declared.command.Command.{Command}
 use Rattle.room_laws.specs.Orders.{quotas_of}
-use Rattle.enc_top.specs.Inputs.{CellIs, IsInputOf, IsReached, IsRunOf, OrderIs, OutputIs, ScriptsAre}
+use Rattle.enc_top.specs.Inputs.{CellIs, IsInputOf, IsReached, IsRoomRun, IsRunOf, OrderIs, OutputIs, ScriptsAre}
 use Rattle.enc_top.specs.Output.{Adds, AddsFront, IsBegun}
 use Rattle.enc_top.specs.Task.{Task, check_task, task_of}
-use Rattle.enc_top.specs.Words.{Form, check_form, replay_form, later_form, no_form, form_of}
+use Rattle.enc_top.specs.Words.{Form, check_form, replay_form, room_form, later_form, no_form, form_of}
 use Rattle.report_text.specs.declared.status.Status.{Status}
 use Rattle.report_text.specs.declared.status.Status.TheVariants.{Done, Usage, Absent, BadCell, BadScript, ReadFault, WriteFault, TooLarge, NoMemory, BadOrder, Stuck, TooManyFindings, NotYet}
 use Rattle.enc_top.specs.declared.work.Work.{Work}
@@ -31,6 +34,7 @@ outside files read_faults write_faults written put_faults =
 abbrev pub IsBuilt : Form → Type 0
 IsBuilt (check_form cell) = Unit {0}
 IsBuilt (replay_form cell out order scripts) = Unit {0}
+IsBuilt (room_form cell out scripts) = Unit {0}
 IsBuilt later_form = ⊥
 IsBuilt no_form = ⊥
 
@@ -46,10 +50,17 @@ pub record IsReplayOf (cell out order : List ℕ) (scripts : List (List ℕ)) (f
   pub told : IfSome files (λ fs. CellIs cell fs (Ok start))
   pub run : IsRunOf start out order scripts files task
 
+-- the report of scripts on a cell, each in a thread of its own, where the files are told those of the files, and the cell that is left
+pub record IsRoomOf (cell out : List ℕ) (scripts : List (List ℕ)) (files : Option Files) (task : Task) : Type 0 where
+  pub start : Cell
+  pub told : IfSome files (λ fs. CellIs cell fs (Ok start))
+  pub run : IsRoomRun start out scripts files task
+
 -- what the form may do: put the text of a cell, or the report of scripts on a cell in an order and then write the cell that is left
 abbrev pub IsOutput : Form → Option Files → Task → Type 0
 IsOutput (check_form cell) files task = IsCheckOf cell files task
 IsOutput (replay_form cell out order scripts) files task = IsReplayOf cell out order scripts files task
+IsOutput (room_form cell out scripts) files task = IsRoomOf cell out scripts files task
 IsOutput later_form files task = ⊥
 IsOutput no_form files task = ⊥
 
@@ -96,25 +107,39 @@ pub record IsCutFile (task : Task) (before after : Outside) : Type 0 where
 abbrev pub IsCut : Task → Outside → Outside → Type 0
 IsCut task before after = IsCutText task before after ⊎ IsCutFile task before after
 
-abbrev pub IsCauseOf : Form → Outside → Outside → Status → Type 0
-IsCauseOf form before after Done = (task : Task) × IsOutput form before.files task × IsAsked before form (Ok task) × IsFinished task before after
-IsCauseOf form before after Usage = (form ≡ no_form) × IsSilent before after
-IsCauseOf form before after (Absent name) = IsInputOf form name × IsRefused form before after (Absent name)
-IsCauseOf form before after (BadCell fault) = IsRefused form before after (BadCell fault)
-IsCauseOf form before after (BadScript session line code) = IsRefused form before after (BadScript session line code)
-IsCauseOf form before after (ReadFault name) = IsInputOf form name × IsSilent before after × Rose before.read_faults after.read_faults × IfSome before.files (λ files. IsReached form files name)
-IsCauseOf form before after WriteFault = (task : Task) × IsOutput form before.files task × IsAsked before form (Ok task) × IsCut task before after
-IsCauseOf form before after (TooLarge name) = IsInputOf form name × IsRefused form before after (TooLarge name)
-IsCauseOf form before after NoMemory = IsBuilt form × IsSilent before after
-IsCauseOf form before after (BadOrder place) = IsRefused form before after (BadOrder place)
-IsCauseOf form before after TooManyFindings = IsRefused form before after TooManyFindings
-IsCauseOf form before after NotYet = (form ≡ later_form) × IsSilent before after
-IsCauseOf form before after (Stuck desk serial) = ⊥
+-- a session of a room was stuck before one of its views and commits, after nothing was put: where the files are told, these are of the script of
+-- that session
+pub record IsStuckIn (cell : List ℕ) (scripts : List (List ℕ)) (desk serial : ℕ) (files : Files) : Type 0 where
+  pub start : Cell
+  pub cell_is : CellIs cell files (Ok start)
+  pub commands : List (List Command)
+  pub scripts_are : ScriptsAre scripts files (Ok commands)
+  pub within : serial ≤ count_by is_shared (script_of commands desk)
 
-abbrev pub IsCause : List (List ℕ) → Outside → Outside → Status → Type 0
-IsCause words = IsCauseOf (form_of words)
+abbrev pub IsStuckAt : Form → Option Files → ℕ → ℕ → Type 0
+IsStuckAt (room_form cell out scripts) files desk serial = (1 ≤ desk) × (desk ≤ length scripts) × (1 ≤ serial) × IfSome files (IsStuckIn cell scripts desk serial)
+IsStuckAt other files desk serial = ⊥
 
--- where the files are told and no device failed, the status is the one that words and files ask for, unless memory ran out
+-- `sticks`: whether a rendezvous may give up
+abbrev pub IsCauseOf : Type 0 → Form → Outside → Outside → Status → Type 0
+IsCauseOf sticks form before after Done = (task : Task) × IsOutput form before.files task × IsAsked before form (Ok task) × IsFinished task before after
+IsCauseOf sticks form before after Usage = (form ≡ no_form) × IsSilent before after
+IsCauseOf sticks form before after (Absent name) = IsInputOf form name × IsRefused form before after (Absent name)
+IsCauseOf sticks form before after (BadCell fault) = IsRefused form before after (BadCell fault)
+IsCauseOf sticks form before after (BadScript session line code) = IsRefused form before after (BadScript session line code)
+IsCauseOf sticks form before after (ReadFault name) = IsInputOf form name × IsSilent before after × Rose before.read_faults after.read_faults × IfSome before.files (λ files. IsReached form files name)
+IsCauseOf sticks form before after WriteFault = (task : Task) × IsOutput form before.files task × IsAsked before form (Ok task) × IsCut task before after
+IsCauseOf sticks form before after (TooLarge name) = IsInputOf form name × IsRefused form before after (TooLarge name)
+IsCauseOf sticks form before after NoMemory = IsBuilt form × IsSilent before after
+IsCauseOf sticks form before after (BadOrder place) = IsRefused form before after (BadOrder place)
+IsCauseOf sticks form before after TooManyFindings = IsRefused form before after TooManyFindings
+IsCauseOf sticks form before after NotYet = (form ≡ later_form) × IsSilent before after
+IsCauseOf sticks form before after (Stuck desk serial) = sticks × IsSilent before after × IsStuckAt form before.files desk serial
+
+abbrev pub IsCause : Type 0 → List (List ℕ) → Outside → Outside → Status → Type 0
+IsCause sticks words = IsCauseOf sticks (form_of words)
+
+-- where the files are told, no device failed and no rendezvous may give up, the status is the one that words and files ask for, unless memory ran out
 pub record IsSmooth (before after : Outside) (files : Files) : Type 0 where
   pub told : before.files ≡ Some files
   pub reads : ¬ (Rose before.read_faults after.read_faults)
@@ -125,8 +150,8 @@ abbrev pub IsExpected : Form → Files → Status → Type 0
 IsExpected form files Done = (task : Task) × OutputIs form files (Ok task)
 IsExpected form files status = OutputIs form files (Err status)
 
-abbrev pub IsExact : List (List ℕ) → Outside → Outside → Status → Type 0
-IsExact words before after status = (files : Files) → IsSmooth before after files → IsExpected (form_of words) files status ⊎ (status ≡ NoMemory)
+abbrev pub IsExact : Type 0 → List (List ℕ) → Outside → Outside → Status → Type 0
+IsExact sticks words before after status = (files : Files) → IsSmooth before after files → ¬ sticks → IsExpected (form_of words) files status ⊎ (status ≡ NoMemory)
 
 -- where all is done, and the files are told before and after, the bytes of OUT are read as the cell that the run leaves
 pub record IsOutReadBack (cell out order : List ℕ) (scripts : List (List ℕ)) (old new : Files) : Type 0 where
@@ -140,27 +165,41 @@ pub record IsOutReadBack (cell out order : List ℕ) (scripts : List (List ℕ))
   pub there : new out ≡ Some bytes
   pub decoded : decoded_cell bytes ≡ Ok (final_cell start commands sessions)
 
+-- the same of sessions in threads, in the order that the report prints
+pub record IsRoomReadBack (cell out : List ℕ) (scripts : List (List ℕ)) (old new : Files) : Type 0 where
+  pub start : Cell
+  pub cell_is : CellIs cell old (Ok start)
+  pub commands : List (List Command)
+  pub scripts_are : ScriptsAre scripts old (Ok commands)
+  pub sessions : List ℕ
+  pub order : IsOrder (quotas_of commands) sessions
+  pub bytes : List ℕ
+  pub there : new out ≡ Some bytes
+  pub decoded : decoded_cell bytes ≡ Ok (final_cell start commands sessions)
+
 abbrev pub IsFormReadBack : Form → Files → Files → Type 0
 IsFormReadBack (replay_form cell out order scripts) old new = IsOutReadBack cell out order scripts old new
+IsFormReadBack (room_form cell out scripts) old new = IsRoomReadBack cell out scripts old new
 IsFormReadBack other old new = Unit {0}
 
 abbrev pub IsReadBackFrom : List (List ℕ) → Outside → Outside → Status → Type 0
 IsReadBackFrom words before after status = status ≡ Done → Told (IsFormReadBack (form_of words)) before.files after.files
 
 -- the work that a form asks for, or the status at which it ends
-abbrev pub IsAskedBy : Form → Option Files → ℕ → ℕ → Result Work Status → Type 0
-IsAskedBy form files before after (Ok work) = IsOutput form files (task_of work) × IfSome files (λ fs. OutputIs form fs (Ok (task_of work)))
-IsAskedBy form files before after (Err Usage) = form ≡ no_form
-IsAskedBy form files before after (Err (ReadFault name)) = IsInputOf form name × Rose before after × IfSome files (λ fs. IsReached form fs name)
-IsAskedBy form files before after (Err NoMemory) = IsBuilt form
-IsAskedBy form files before after (Err (Absent name)) = IsInputOf form name × IsBuilt form × IfSome files (λ fs. OutputIs form fs (Err (Absent name)))
-IsAskedBy form files before after (Err (BadCell fault)) = IsBuilt form × IfSome files (λ fs. OutputIs form fs (Err (BadCell fault)))
-IsAskedBy form files before after (Err (BadScript session line code)) = IsBuilt form × IfSome files (λ fs. OutputIs form fs (Err (BadScript session line code)))
-IsAskedBy form files before after (Err (TooLarge name)) = IsInputOf form name × IsBuilt form × IfSome files (λ fs. OutputIs form fs (Err (TooLarge name)))
-IsAskedBy form files before after (Err (BadOrder place)) = IsBuilt form × IfSome files (λ fs. OutputIs form fs (Err (BadOrder place)))
-IsAskedBy form files before after (Err TooManyFindings) = IsBuilt form × IfSome files (λ fs. OutputIs form fs (Err TooManyFindings))
-IsAskedBy form files before after (Err NotYet) = form ≡ later_form
-IsAskedBy form files before after (Err other) = ⊥
+abbrev pub IsAskedBy : Type 0 → Form → Option Files → ℕ → ℕ → Result Work Status → Type 0
+IsAskedBy sticks form files before after (Ok work) = IsOutput form files (task_of work) × IfSome files (λ fs. OutputIs form fs (Ok (task_of work)))
+IsAskedBy sticks form files before after (Err Usage) = form ≡ no_form
+IsAskedBy sticks form files before after (Err (ReadFault name)) = IsInputOf form name × Rose before after × IfSome files (λ fs. IsReached form fs name)
+IsAskedBy sticks form files before after (Err NoMemory) = IsBuilt form
+IsAskedBy sticks form files before after (Err (Absent name)) = IsInputOf form name × IsBuilt form × IfSome files (λ fs. OutputIs form fs (Err (Absent name)))
+IsAskedBy sticks form files before after (Err (BadCell fault)) = IsBuilt form × IfSome files (λ fs. OutputIs form fs (Err (BadCell fault)))
+IsAskedBy sticks form files before after (Err (BadScript session line code)) = IsBuilt form × IfSome files (λ fs. OutputIs form fs (Err (BadScript session line code)))
+IsAskedBy sticks form files before after (Err (TooLarge name)) = IsInputOf form name × IsBuilt form × IfSome files (λ fs. OutputIs form fs (Err (TooLarge name)))
+IsAskedBy sticks form files before after (Err (BadOrder place)) = IsBuilt form × IfSome files (λ fs. OutputIs form fs (Err (BadOrder place)))
+IsAskedBy sticks form files before after (Err TooManyFindings) = IsBuilt form × IfSome files (λ fs. OutputIs form fs (Err TooManyFindings))
+IsAskedBy sticks form files before after (Err NotYet) = form ≡ later_form
+IsAskedBy sticks form files before after (Err (Stuck desk serial)) = sticks × IsStuckAt form files desk serial
+IsAskedBy sticks form files before after (Err other) = ⊥
 
 -- the work was done whole, or a device failed in its course
 abbrev pub IsDoneWork : Task → Outside → Outside → Status → Type 0

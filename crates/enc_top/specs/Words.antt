@@ -27,17 +27,16 @@ abbrev pub is_drill : List (List ℕ) → Bool
 is_drill (n ∷ k ∷ []) = is_number_up_to 100 n && is_number_up_to 16 k
 is_drill other = false
 
--- the forms that aren't built yet: room CELL OUT S1 .. Sk with k from 1 to 16, make N OUT, drill N K
+-- the forms that aren't built yet: make N OUT, drill N K
 abbrev pub is_later_form : List (List ℕ) → Bool
 is_later_form [] = false
-is_later_form (first ∷ others) =
-    if is_word (codes "room") first then is_between 3 18 (length others) else
-    (if is_word (codes "make") first then is_make others else (is_word (codes "drill") first && is_drill others))
+is_later_form (first ∷ others) = if is_word (codes "make") first then is_make others else (is_word (codes "drill") first && is_drill others)
 
 -- what the words of a call ask for, with the names of files
 pub data Form : Type 0 where
   check_form : List ℕ → Form
   replay_form : (cell out order : List ℕ) → List (List ℕ) → Form
+  room_form : (cell out : List ℕ) → List (List ℕ) → Form
   later_form : Form
   no_form : Form
 
@@ -51,9 +50,20 @@ abbrev pub replay_among : List (List ℕ) → Form
 replay_among (cell ∷ out ∷ order ∷ scripts) = if is_between 1 16 (length scripts) then replay_form cell out order scripts else no_form
 replay_among other = no_form
 
+-- the words behind `room`: CELL OUT S1 .. Sk with k from 1 to 16
+abbrev pub room_among : List (List ℕ) → Form
+room_among (cell ∷ out ∷ scripts) = if is_between 1 16 (length scripts) then room_form cell out scripts else no_form
+room_among other = no_form
+
+-- the first word is `room`
+abbrev pub begins_with_room : List (List ℕ) → Bool
+begins_with_room [] = false
+begins_with_room (first ∷ others) = is_word (codes "room") first
+
 unfoldable pub form_of : List (List ℕ) → Form
 form_of [] = no_form
 form_of (first ∷ others) =
-    if is_word (codes "check") first then check_among others else
+    if is_word (codes "room") first then room_among others else
+    (if is_word (codes "check") first then check_among others else
     (if is_word (codes "replay") first then replay_among others else
-    (if is_later_form (first ∷ others) then later_form else no_form))
+    (if is_later_form (first ∷ others) then later_form else no_form)))

@@ -9,21 +9,21 @@ ghost use Rattle.history_spec.specs.Steps.{finding_limit};
 ghost use Rattle.sessions.specs.Replays.{IsShortScript};
 ghost use Rattle.text_spec.specs.OrderLine.{IsOrder, order_of};
 ghost use Rattle.room_laws.specs.Orders.{quotas_of as quotas_of_lem};
-ghost use Rattle.enc_top.specs.Inputs.{CellIs, FileIs, IsAmong, IsCellOfFile, IsFile, IsInputStatus, IsJudged, IsJudgedScript, IsReachedScript, OrderIs, ScriptIs, ScriptsAre, Tells, cell_in, order_in};
+ghost use Rattle.enc_top.specs.Inputs.{CellIs, FileIs, IsAmong, IsCellOfFile, IsFile, IsInputStatus, IsJudged, IsJudgedScript};
+ghost use Rattle.enc_top.specs.Inputs.{IsReachedScript, OrderIs, ScriptIs, ScriptsAre, Tells, cell_in, order_in};
 ghost use Rattle.enc_top.specs.Refused.{IsRefusal};
 
 use crate::input::{InputRefusal, read_file};
-use cell_bench::{FINDING_LIMIT, LoadRefusal};
+use cell_bench::{Bench, FINDING_LIMIT, LoadRefusal};
 use cell_decode::ReadRefusal;
 use cell_findings::{FindingRefusal, Findings, find_all};
-use commit_book::Book;
 use decode_laws::decoded_cell_is_writable;
 use enc_outside::Shelf;
 use order_text::{Order, OrderRefusal, order_lines_are_read, read_order};
 use report_text::Status;
 use s57_types::{Cell, Text};
 use script_text::{Script, ScriptRefusal, read_script};
-use sessions::open_book;
+use sessions::load_bench;
 use std::alloc::{AllocError, Global};
 
 /// How many bytes a cell file may have.
@@ -66,7 +66,8 @@ fn read_input<H: Shelf>(
     limit: usize,
 ) -> Result<Vec<u8>, Status>
     requires { limit < 2 ^ 32 }
-    ensures tells { Tells (λ bytes. bytes.items) (FileIs limit name.now) (IsFile name.now) (H.files shelf.old) (H.read_faults shelf.old) (H.read_faults shelf.new) result }
+    ensures tells { Tells (λ bytes. bytes.items) (FileIs limit name.now) (IsFile name.now)
+        (H.files shelf.old) (H.read_faults shelf.old) (H.read_faults shelf.new) result }
     ensures status { IfErr result (IsInputStatus (λ n. n ≡ name.now)) }
     ensures within { IfOk result (λ bytes. length bytes.items ≤ limit) }
     ensures files { H.files shelf.new ≡ H.files shelf.old }
@@ -114,20 +115,19 @@ fn judge_cell(alloc: Global, bytes: &[u8]) -> Result<Checked, Status>
     }
 }
 
-/// The log of a file's cell, before its first entry.
-fn open_log(alloc: Global, bytes: &[u8]) -> Result<Book, Status>
+/// The bench of a file's cell.
+fn judge_bench(alloc: Global, bytes: &[u8]) -> Result<Bench, Status>
     requires small { length bytes.now ≤ 16777216 }
-    ensures judged { IsJudged (λ book. book.opening) (cell_in bytes.now) result }
-    ensures opened { IfOk result (λ book. book.entries ≡ []) }
-    ensures of_file { IfOk result (λ book. IsCellOfFile book.opening) }
+    ensures judged { IsJudged (λ bench. bench) (cell_in bytes.now) result }
+    ensures of_file { IfOk result IsCellOfFile }
     ensures status { IfErr result (IsInputStatus (λ n. ⊥)) }
 {
     let cell = match decode(alloc, bytes) {
         Ok(cell) => cell,
         Err(status) => return Err(status),
     };
-    match open_book(alloc, cell) {
-        Ok(book) => Ok(book),
+    match load_bench(alloc, cell) {
+        Ok(bench) => Ok(bench),
         Err(LoadRefusal::FindingsFull) => Err(Status::TooManyFindings),
         Err(LoadRefusal::NoMemory) => Err(Status::NoMemory),
     }
@@ -135,7 +135,8 @@ fn open_log(alloc: Global, bytes: &[u8]) -> Result<Book, Status>
 
 /// The cell of an input file, with its findings.
 pub fn read_cell<H: Shelf>(alloc: Global, shelf: &mut H, name: &str) -> Result<Checked, Status>
-    ensures tells { Tells (λ checked. checked.cell) (CellIs name.now) (IsFile name.now) (H.files shelf.old) (H.read_faults shelf.old) (H.read_faults shelf.new) result }
+    ensures tells { Tells (λ checked. checked.cell) (CellIs name.now) (IsFile name.now)
+        (H.files shelf.old) (H.read_faults shelf.old) (H.read_faults shelf.new) result }
     ensures findings { IfOk result (λ checked. IsAllOf checked.cell finding_limit checked.findings) }
     ensures status { IfErr result (IsInputStatus (λ n. n ≡ name.now)) }
     ensures files { H.files shelf.new ≡ H.files shelf.old }
@@ -146,18 +147,18 @@ pub fn read_cell<H: Shelf>(alloc: Global, shelf: &mut H, name: &str) -> Result<C
     judge_cell(alloc, &bytes)
 }
 
-/// The log of an input file's cell, before its first entry.
-pub fn read_log<H: Shelf>(alloc: Global, shelf: &mut H, name: &str) -> Result<Book, Status>
-    ensures tells { Tells (λ book. book.opening) (CellIs name.now) (IsFile name.now) (H.files shelf.old) (H.read_faults shelf.old) (H.read_faults shelf.new) result }
-    ensures opened { IfOk result (λ book. book.entries ≡ []) }
-    ensures of_file { IfOk result (λ book. IsCellOfFile book.opening) }
+/// The bench of an input file's cell.
+pub fn read_bench<H: Shelf>(alloc: Global, shelf: &mut H, name: &str) -> Result<Bench, Status>
+    ensures tells { Tells (λ bench. bench) (CellIs name.now) (IsFile name.now)
+        (H.files shelf.old) (H.read_faults shelf.old) (H.read_faults shelf.new) result }
+    ensures of_file { IfOk result IsCellOfFile }
     ensures status { IfErr result (IsInputStatus (λ n. n ≡ name.now)) }
     ensures files { H.files shelf.new ≡ H.files shelf.old }
     ensures read_faults { H.read_faults shelf.old ≤ H.read_faults shelf.new }
     ensures write_faults { H.write_faults shelf.new ≡ H.write_faults shelf.old }
 {
     let bytes = read_input(alloc, shelf, name, CELL_LIMIT)?;
-    open_log(alloc, &bytes)
+    judge_bench(alloc, &bytes)
 }
 
 /// The script of a session that bytes are.
@@ -182,7 +183,8 @@ fn read_session<H: Shelf>(
     name: &str,
     session: u32,
 ) -> Result<Script, Status>
-    ensures tells { Tells (λ script. script) (ScriptIs session name.now) (IsFile name.now) (H.files shelf.old) (H.read_faults shelf.old) (H.read_faults shelf.new) result }
+    ensures tells { Tells (λ script. script) (ScriptIs session name.now) (IsFile name.now)
+        (H.files shelf.old) (H.read_faults shelf.old) (H.read_faults shelf.new) result }
     ensures short { IfOk result IsShortScript }
     ensures of_text { IfOk result IsScriptOfText }
     ensures status { IfErr result (IsInputStatus (λ n. n ≡ name.now)) }
@@ -209,7 +211,8 @@ pub fn read_scripts<H: Shelf>(
     names: &[String],
 ) -> Result<Vec<Script>, Status>
     requires few { length names.now ≤ 16 }
-    ensures tells { Tells (λ scripts. scripts.items) (ScriptsAre (map string_bytes names.now)) (λ fs n. IsReachedScript (map string_bytes names.now) fs n) (H.files shelf.old) (H.read_faults shelf.old) (H.read_faults shelf.new) result }
+    ensures tells { Tells (λ scripts. scripts.items) (ScriptsAre (map string_bytes names.now)) (λ fs n. IsReachedScript (map string_bytes names.now) fs n)
+        (H.files shelf.old) (H.read_faults shelf.old) (H.read_faults shelf.new) result }
     ensures many { IfOk result (λ scripts. length scripts.items ≡ length names.now) }
     ensures short { IfOk result (λ scripts. All IsShortScript scripts.items) }
     ensures of_texts { IfOk result (λ scripts. All IsScriptOfText scripts.items) }
@@ -265,7 +268,8 @@ pub fn read_sessions<H: Shelf>(
     quotas: &[u32],
 ) -> Result<Order, Status>
     requires few { length quotas.now < 2 ^ 32 }
-    ensures tells { Tells (λ order. order) (OrderIs quotas.now name.now) (IsFile name.now) (H.files shelf.old) (H.read_faults shelf.old) (H.read_faults shelf.new) result }
+    ensures tells { Tells (λ order. order) (OrderIs quotas.now name.now) (IsFile name.now)
+        (H.files shelf.old) (H.read_faults shelf.old) (H.read_faults shelf.new) result }
     ensures order { IfOk result (IsOrder quotas.now) }
     ensures status { IfErr result (IsInputStatus (λ n. n ≡ name.now)) }
     ensures files { H.files shelf.new ≡ H.files shelf.old }

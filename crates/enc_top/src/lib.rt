@@ -5,10 +5,11 @@ mod input;
 mod inputs;
 mod law;
 mod output;
+mod room;
 mod top;
 mod words;
 mod work;
 
 pub use law::one_answer_is_asked;
 pub use report_text::{Status, print_status};
-pub use top::{run, run_plain};
+pub use top::{run, run_plain, run_room};

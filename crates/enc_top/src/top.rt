@@ -1,20 +1,23 @@
 //! The program as one call.
 
-ghost use Rattle.std.specs.Prelude.{◌≡◌, ◌⊎◌, ◌↔◌, ◌≤◌, [], All, IfErr, IfOk, length, map, string_bytes};
+ghost use Rattle.std.specs.Prelude.{◌≡◌, ◌⊎◌, ◌↔◌, ◌≤◌, true, false, All, IfErr, IfOk, length, map, string_bytes};
 ghost use Rattle.export_laws.specs.ExportedCells.{IsScriptOfText};
 ghost use Rattle.room_laws.specs.Orders.{quotas_of as quotas_of_scripts};
 ghost use Rattle.sessions.specs.Replays.{IsShortScript, session_limit};
 ghost use Rattle.text_spec.specs.OrderLine.{IsOrder};
 ghost use Rattle.enc_top.specs.Complete.{IsComplete};
-ghost use Rattle.enc_top.specs.Inputs.{IsAmong, IsCellOfFile, IsFile, IsInputStatus, IsOrderedRun, IsReachedInRun, IsRunOf, OrderedRunIs, RunIs, Tells};
+ghost use Rattle.enc_top.specs.Inputs.{IsAmong, IsCellOfFile, IsFile, IsInputStatus, IsOrderedRun, IsReachedInRun, IsRunOf};
+ghost use Rattle.enc_top.specs.Inputs.{OrderedRunIs, RunIs, Tells};
 ghost use Rattle.enc_top.specs.Outcome.{IsAskedBy, IsCause, IsExact, IsReadBackFrom, outside};
 ghost use Rattle.enc_top.specs.Task.{run_task, task_of};
-ghost use Rattle.enc_top.specs.Words.{check_among, form_of, later_form, no_form, replay_among};
+ghost use Rattle.enc_top.specs.Words.{begins_with_room as spec_begins_with_room, check_among, form_of, later_form, no_form, replay_among};
 
-use crate::inputs::{quotas_of, read_cell, read_log, read_scripts, read_sessions};
+use crate::inputs::{quotas_of, read_bench, read_cell, read_scripts, read_sessions};
 use crate::output::finish;
-use crate::words::is_later_form;
+use crate::room::asked_room;
+use crate::words::{begins_with_room, is_later_form};
 use crate::work::{Work, work_of};
+use cell_bench::Bench;
 use cell_findings::push_cell;
 use commit_book::Book;
 use enc_outside::{Meet, Shelf, Sink};
@@ -23,27 +26,31 @@ use report_text::Status;
 use script_text::Script;
 use sessions::{SESSION_LIMIT, replay};
 use std::alloc::Global;
+use std::sync::Wait;
 use std::thread::Threads;
 
-/// Does what the words say: `check CELL` puts the numbers of records and all findings of the cell, and
-/// `replay CELL OUT ORDER S1 .. Sk` puts the report of running k scripts on it in the order of the order file, and then
-/// writes the cell that is left as the file OUT. The words are those after the program's name; `_meet` is for sessions in
-/// threads, which aren't built yet.
-pub fn run<R: Threads + Sync, H: Shelf, O: Sink, M: Meet + Sync>(
+/// Does what the words say: `check CELL` puts the numbers of records and all findings of the cell; `replay CELL OUT ORDER S1 .. Sk` puts the
+/// report of running k scripts on it in the order of the order file, and then writes the cell that is left as the file OUT;
+/// `room CELL OUT S1 .. Sk` does the same with each script in a thread of its own, in the order that comes about. The words are those after
+/// the program's name. `meet` is called before each view and commit of a session in a thread.
+///
+/// Whatever order the threads take: of `room` the report that is put is that of one thread that does each session's commands, once and in
+/// order, in the order that the report's first line tells, and OUT is the file of the cell that this leaves.
+pub fn run<R: Threads + Wait + Sync, H: Shelf, O: Sink, M: Meet + Sync>(
     rt: &R,
     alloc: Global,
     words: &[String],
     shelf: &mut H,
     out: &mut O,
-    _meet: &M,
+    meet: &M,
 ) -> Status
-    ensures cause { IsCause (map string_bytes words.now)
+    ensures cause { IsCause (M.sticks meet.now) (map string_bytes words.now)
         (outside (H.files shelf.old) (H.read_faults shelf.old) (H.write_faults shelf.old) (O.written out.old) (O.faults out.old))
         (outside (H.files shelf.new) (H.read_faults shelf.new) (H.write_faults shelf.new) (O.written out.new) (O.faults out.new)) result }
-    ensures exact { IsExact (map string_bytes words.now)
+    ensures exact { IsExact (M.sticks meet.now) (map string_bytes words.now)
         (outside (H.files shelf.old) (H.read_faults shelf.old) (H.write_faults shelf.old) (O.written out.old) (O.faults out.old))
         (outside (H.files shelf.new) (H.read_faults shelf.new) (H.write_faults shelf.new) (O.written out.new) (O.faults out.new)) result }
-    ensures complete { IsComplete (map string_bytes words.now)
+    ensures complete { IsComplete (M.sticks meet.now) (map string_bytes words.now)
         (outside (H.files shelf.old) (H.read_faults shelf.old) (H.write_faults shelf.old) (O.written out.old) (O.faults out.old))
         (outside (H.files shelf.new) (H.read_faults shelf.new) (H.write_faults shelf.new) (O.written out.new) (O.faults out.new)) result }
     ensures read_back { IsReadBackFrom (map string_bytes words.now)
@@ -53,10 +60,44 @@ pub fn run<R: Threads + Sync, H: Shelf, O: Sink, M: Meet + Sync>(
     ensures later { form_of (map string_bytes words.now) ≡ later_form → (result ≡ Status.NotYet) × (shelf.new ≡ shelf.old) × (out.new ≡ out.old) }
     ensures write_faults { H.write_faults shelf.old ≤ H.write_faults shelf.new }
 {
+    if begins_with_room(words) {
+        return run_room(rt, alloc, words, shelf, out, meet);
+    }
     run_plain(rt, alloc, words, shelf, out)
 }
 
-/// The same on one thread of control, which always returns.
+/// The same of words that begin with `room`.
+pub fn run_room<R: Threads + Wait + Sync, H: Shelf, O: Sink, M: Meet + Sync>(
+    rt: &R,
+    alloc: Global,
+    words: &[String],
+    shelf: &mut H,
+    out: &mut O,
+    meet: &M,
+) -> Status
+    requires { spec_begins_with_room (map string_bytes words.now) ≡ true }
+    ensures cause { IsCause (M.sticks meet.now) (map string_bytes words.now)
+        (outside (H.files shelf.old) (H.read_faults shelf.old) (H.write_faults shelf.old) (O.written out.old) (O.faults out.old))
+        (outside (H.files shelf.new) (H.read_faults shelf.new) (H.write_faults shelf.new) (O.written out.new) (O.faults out.new)) result }
+    ensures exact { IsExact (M.sticks meet.now) (map string_bytes words.now)
+        (outside (H.files shelf.old) (H.read_faults shelf.old) (H.write_faults shelf.old) (O.written out.old) (O.faults out.old))
+        (outside (H.files shelf.new) (H.read_faults shelf.new) (H.write_faults shelf.new) (O.written out.new) (O.faults out.new)) result }
+    ensures complete { IsComplete (M.sticks meet.now) (map string_bytes words.now)
+        (outside (H.files shelf.old) (H.read_faults shelf.old) (H.write_faults shelf.old) (O.written out.old) (O.faults out.old))
+        (outside (H.files shelf.new) (H.read_faults shelf.new) (H.write_faults shelf.new) (O.written out.new) (O.faults out.new)) result }
+    ensures read_back { IsReadBackFrom (map string_bytes words.now)
+        (outside (H.files shelf.old) (H.read_faults shelf.old) (H.write_faults shelf.old) (O.written out.old) (O.faults out.old))
+        (outside (H.files shelf.new) (H.read_faults shelf.new) (H.write_faults shelf.new) (O.written out.new) (O.faults out.new)) result }
+    ensures usage { (result ≡ Status.Usage) ↔ (form_of (map string_bytes words.now) ≡ no_form) }
+    ensures write_faults { H.write_faults shelf.old ≤ H.write_faults shelf.new }
+{
+    match asked_room(rt, alloc, words, shelf, meet) {
+        Ok(work) => finish(shelf, out, &work),
+        Err(status) => status,
+    }
+}
+
+/// The same of other words, on one thread of control, which always returns.
 pub fn run_plain<R: Threads + Sync, H: Shelf, O: Sink>(
     _rt: &R,
     alloc: Global,
@@ -64,13 +105,14 @@ pub fn run_plain<R: Threads + Sync, H: Shelf, O: Sink>(
     shelf: &mut H,
     out: &mut O,
 ) -> Status
-    ensures cause { IsCause (map string_bytes words.now)
+    requires { spec_begins_with_room (map string_bytes words.now) ≡ false }
+    ensures cause { IsCause ⊥ (map string_bytes words.now)
         (outside (H.files shelf.old) (H.read_faults shelf.old) (H.write_faults shelf.old) (O.written out.old) (O.faults out.old))
         (outside (H.files shelf.new) (H.read_faults shelf.new) (H.write_faults shelf.new) (O.written out.new) (O.faults out.new)) result }
-    ensures exact { IsExact (map string_bytes words.now)
+    ensures exact { IsExact ⊥ (map string_bytes words.now)
         (outside (H.files shelf.old) (H.read_faults shelf.old) (H.write_faults shelf.old) (O.written out.old) (O.faults out.old))
         (outside (H.files shelf.new) (H.read_faults shelf.new) (H.write_faults shelf.new) (O.written out.new) (O.faults out.new)) result }
-    ensures complete { IsComplete (map string_bytes words.now)
+    ensures complete { IsComplete ⊥ (map string_bytes words.now)
         (outside (H.files shelf.old) (H.read_faults shelf.old) (H.write_faults shelf.old) (O.written out.old) (O.faults out.old))
         (outside (H.files shelf.new) (H.read_faults shelf.new) (H.write_faults shelf.new) (O.written out.new) (O.faults out.new)) result }
     ensures read_back { IsReadBackFrom (map string_bytes words.now)
@@ -88,7 +130,8 @@ pub fn run_plain<R: Threads + Sync, H: Shelf, O: Sink>(
 
 /// The work that words ask for.
 fn asked_work<H: Shelf>(alloc: Global, words: &[String], shelf: &mut H) -> Result<Work, Status>
-    ensures asked { IsAskedBy (form_of (map string_bytes words.now)) (H.files shelf.old) (H.read_faults shelf.old) (H.read_faults shelf.new) result }
+    requires { spec_begins_with_room (map string_bytes words.now) ≡ false }
+    ensures asked { IsAskedBy ⊥ (form_of (map string_bytes words.now)) (H.files shelf.old) (H.read_faults shelf.old) (H.read_faults shelf.new) result }
     ensures later { form_of (map string_bytes words.now) ≡ later_form → shelf.new ≡ shelf.old }
     ensures files { H.files shelf.new ≡ H.files shelf.old }
     ensures write_faults { H.write_faults shelf.new ≡ H.write_faults shelf.old }
@@ -111,7 +154,7 @@ fn asked_work<H: Shelf>(alloc: Global, words: &[String], shelf: &mut H) -> Resul
 
 /// The text of the cell that the words behind `check` name.
 fn check<H: Shelf>(alloc: Global, others: &[String], shelf: &mut H) -> Result<Work, Status>
-    ensures asked { IsAskedBy (check_among (map string_bytes others.now)) (H.files shelf.old) (H.read_faults shelf.old) (H.read_faults shelf.new) result }
+    ensures asked { IsAskedBy ⊥ (check_among (map string_bytes others.now)) (H.files shelf.old) (H.read_faults shelf.old) (H.read_faults shelf.new) result }
     ensures files { H.files shelf.new ≡ H.files shelf.old }
     ensures write_faults { H.write_faults shelf.new ≡ H.write_faults shelf.old }
 {
@@ -129,7 +172,7 @@ fn check<H: Shelf>(alloc: Global, others: &[String], shelf: &mut H) -> Result<Wo
 
 /// The report of the run that the words behind `replay` name, and the file of the cell that is left.
 fn run_scripts<H: Shelf>(alloc: Global, others: &[String], shelf: &mut H) -> Result<Work, Status>
-    ensures asked { IsAskedBy (replay_among (map string_bytes others.now)) (H.files shelf.old) (H.read_faults shelf.old) (H.read_faults shelf.new) result }
+    ensures asked { IsAskedBy ⊥ (replay_among (map string_bytes others.now)) (H.files shelf.old) (H.read_faults shelf.old) (H.read_faults shelf.new) result }
     ensures files { H.files shelf.new ≡ H.files shelf.old }
     ensures write_faults { H.write_faults shelf.new ≡ H.write_faults shelf.old }
 {
@@ -139,28 +182,28 @@ fn run_scripts<H: Shelf>(alloc: Global, others: &[String], shelf: &mut H) -> Res
     if names.is_empty() || names.len() > SESSION_LIMIT {
         return Err(Status::Usage);
     }
-    let book = match read_log(alloc, shelf, cell.as_str()) {
-        Ok(book) => book,
+    let bench = match read_bench(alloc, shelf, cell.as_str()) {
+        Ok(bench) => bench,
         Err(status) => return Err(status),
     };
-    run_on(alloc, shelf, book, out.as_str(), order.as_str(), names)
+    run_on(alloc, shelf, bench, out.as_str(), order.as_str(), names)
 }
 
-/// The report of running the scripts of input files on the cell of an opened log in the order of another, and the file of the cell that
-/// is left.
+/// The report of running the scripts of input files on the cell of a bench in the order of another, and the file of the cell that is left.
 fn run_on<H: Shelf>(
     alloc: Global,
     shelf: &mut H,
-    book: Book,
+    bench: Bench,
     out: &str,
     order: &str,
     names: &[String],
 ) -> Result<Work, Status>
-    requires opened { book.entries ≡ [] }
-    requires of_file { IsCellOfFile book.opening }
+    requires of_file { IsCellOfFile bench }
     requires few { length names.now ≤ session_limit }
-    ensures tells { Tells task_of (RunIs book.opening out.now order.now (map string_bytes names.now)) (λ fs n. IsReachedInRun order.now (map string_bytes names.now) fs n) (H.files shelf.old) (H.read_faults shelf.old) (H.read_faults shelf.new) result }
-    ensures run { IfOk result (λ work. IsRunOf book.opening out.now order.now (map string_bytes names.now) (H.files shelf.old) (task_of work)) }
+    ensures tells { Tells task_of (RunIs bench out.now order.now (map string_bytes names.now))
+        (λ fs n. IsReachedInRun order.now (map string_bytes names.now) fs n)
+        (H.files shelf.old) (H.read_faults shelf.old) (H.read_faults shelf.new) result }
+    ensures run { IfOk result (λ work. IsRunOf bench out.now order.now (map string_bytes names.now) (H.files shelf.old) (task_of work)) }
     ensures status { IfErr result (IsInputStatus (λ n. (n ≡ order.now) ⊎ IsAmong (map string_bytes names.now) n)) }
     ensures files { H.files shelf.new ≡ H.files shelf.old }
     ensures read_faults { H.read_faults shelf.old ≤ H.read_faults shelf.new }
@@ -170,25 +213,25 @@ fn run_on<H: Shelf>(
         Ok(scripts) => scripts,
         Err(status) => return Err(status),
     };
-    run_in_order_of(alloc, shelf, book, out, order, scripts)
+    run_in_order_of(alloc, shelf, bench, out, order, scripts)
 }
 
-/// The report of running scripts on the cell of an opened log in the order of an input file, and the file of the cell that is left.
+/// The report of running scripts on the cell of a bench in the order of an input file, and the file of the cell that is left.
 fn run_in_order_of<H: Shelf>(
     alloc: Global,
     shelf: &mut H,
-    book: Book,
+    bench: Bench,
     out: &str,
     order: &str,
     scripts: Vec<Script>,
 ) -> Result<Work, Status>
-    requires opened { book.entries ≡ [] }
-    requires of_file { IsCellOfFile book.opening }
+    requires of_file { IsCellOfFile bench }
     requires few { length scripts.items ≤ session_limit }
     requires short { All IsShortScript scripts.items }
     requires of_texts { All IsScriptOfText scripts.items }
-    ensures tells { Tells task_of (OrderedRunIs book.opening out.now order.now scripts.items) (IsFile order.now) (H.files shelf.old) (H.read_faults shelf.old) (H.read_faults shelf.new) result }
-    ensures run { IfOk result (λ work. IsOrderedRun book.opening out.now order.now scripts.items (H.files shelf.old) (task_of work)) }
+    ensures tells { Tells task_of (OrderedRunIs bench out.now order.now scripts.items) (IsFile order.now)
+        (H.files shelf.old) (H.read_faults shelf.old) (H.read_faults shelf.new) result }
+    ensures run { IfOk result (λ work. IsOrderedRun bench out.now order.now scripts.items (H.files shelf.old) (task_of work)) }
     ensures status { IfErr result (IsInputStatus (λ n. n ≡ order.now)) }
     ensures files { H.files shelf.new ≡ H.files shelf.old }
     ensures read_faults { H.read_faults shelf.old ≤ H.read_faults shelf.new }
@@ -200,24 +243,24 @@ fn run_in_order_of<H: Shelf>(
         Ok(sessions) => sessions,
         Err(status) => return Err(status),
     };
-    run_of(alloc, book, out, scripts, sessions.as_slice())
+    run_of(alloc, bench, out, scripts, sessions.as_slice())
 }
 
-/// The report of running scripts on the cell of an opened log in an order, and the file of the cell that is left.
+/// The report of running scripts on the cell of a bench in an order, and the file of the cell that is left.
 fn run_of(
     alloc: Global,
-    book: Book,
+    bench: Bench,
     out: &str,
     scripts: Vec<Script>,
     order: &[u32],
 ) -> Result<Work, Status>
-    requires opened { book.entries ≡ [] }
     requires few { length scripts.items ≤ session_limit }
     requires short { All IsShortScript scripts.items }
     requires order { IsOrder (quotas_of_scripts scripts.items) order.now }
-    ensures run { IfOk result (λ work. task_of work ≡ run_task book.opening out.now scripts.items order.now) }
+    ensures run { IfOk result (λ work. task_of work ≡ run_task bench out.now scripts.items order.now) }
     ensures status { IfErr result (λ status. status ≡ Status.NoMemory) }
 {
+    let book = Book::of_bench(alloc, bench);
     let replayed = replay(alloc, book, scripts, order)?;
     Ok(work_of(alloc, out, &replayed.book, &replayed.transcripts)?)
 }

@@ -2,7 +2,9 @@
 
 ghost use Rattle.std.specs.Prelude.{◌≡◌, ◌+◌, ◌<◌, ◌≤◌, ◌∷◌, map, string_bytes, nat_eq, decimal};
 ghost use Rattle.std.specs.Cmp.Lexicographic.{pointwise};
-ghost use Rattle.enc_top.specs.Words.{is_number_up_to as is_number_up_to_lem, is_make as is_make_lem, is_drill as is_drill_lem, is_later_form as is_later_form_lem};
+ghost use Rattle.enc_top.specs.Words.{begins_with_room as begins_with_room_lem, is_drill as is_drill_lem};
+ghost use Rattle.enc_top.specs.Words.{is_later_form as is_later_form_lem, is_make as is_make_lem};
+ghost use Rattle.enc_top.specs.Words.{is_number_up_to as is_number_up_to_lem};
 
 use itoa::Buffer;
 use sessions::SESSION_LIMIT;
@@ -62,11 +64,18 @@ pub fn is_later_form(words: &[String]) -> bool
         return false;
     };
     let first = first.as_str();
-    if first == "room" {
-        return 3 <= others.len() && others.len() <= 18;
-    }
     if first == "make" {
         return is_make(others);
     }
     first == "drill" && is_drill(others)
+}
+
+/// Whether the first word is `room`.
+pub fn begins_with_room(words: &[String]) -> bool
+    ensures { result ≡ begins_with_room_lem (map string_bytes words.now) }
+{
+    match words {
+        [first, ..] => first.as_str() == "room",
+        [] => false,
+    }
 }

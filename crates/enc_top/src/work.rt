@@ -34,7 +34,8 @@ pub(crate) fn work_of(
     book: &Book,
     transcripts: &[Transcript],
 ) -> Result<Work, AllocError>
-    ensures { (scripts : List (List Command)) → AreInterleaved book.now.opening scripts book.now.entries → AreTranscripts book.now.opening book.now.entries 1 scripts transcripts.now
+    ensures { (scripts : List (List Command)) → AreInterleaved book.now.opening scripts book.now.entries
+        → AreTranscripts book.now.opening book.now.entries 1 scripts transcripts.now
         → IfOk result (λ work. task_of work ≡ run_task book.now.opening out.now scripts (order_of_entries book.now.entries)) }
 {
     a_history_has_the_report_of_its_order();

@@ -1,6 +1,7 @@
 -- The line of an order is read as that order.
 use Rattle.std.proofs.Common.{◌≡◌, ◌≢◌, ◌<◌, ◌≤◌, ◌+◌, ◌^◌, ◌==◌, ◌&&◌, ℕ, zero, suc, Bool, true, false, List, [], ◌∷◌, ◌++◌, Some, Result, Ok, length, map, take, drop, get_or, filter_map, count_by, arith, refl, sym, ◌∙◌, ap, nat_le, cond, rules, if◌then◌else◌}
-use Rattle.std.specs.Prelude.{nat_eq}
+use mathlib.Core.List.{IsPrefix}
+use Rattle.std.specs.Prelude.{codes, nat_eq}
 use Rattle.std.specs.Cmp.Lexicographic.{pointwise}
 use Rattle.std.specs.Fmt.{decimal}
 use Rattle.std.specs.List.{list_all, position_or_len, range_with_len}
@@ -74,14 +75,17 @@ feed_behind (b ∷ w) rest free =
 abbrev spoken : List ℕ → List ℕ
 spoken order = spaced_words (words_of order)
 
-feed_at_end : (order : List ℕ) → AreSmall order → feed (spoken order ++ 10 ∷ []) ≡ length (spoken order)
-feed_at_end [] small = refl
-feed_at_end (i ∷ order) small =
-    let inner = feed_at_end order (small_tail i order small) in
-    let word = feed_behind (decimal i) (spoken order ++ 10 ∷ []) (feed_free i (small 0 (omega arith))) in
-    let apart : (decimal i ++ spoken order) ++ 10 ∷ [] ≡ decimal i ++ (spoken order ++ 10 ∷ []) = append_assoc (decimal i) (spoken order) (10 ∷ []) in
+feed_in_front : (order rest : List ℕ) → AreSmall order → feed (spoken order ++ 10 ∷ rest) ≡ length (spoken order)
+feed_in_front [] rest small = refl
+feed_in_front (i ∷ order) rest small =
+    let inner = feed_in_front order rest (small_tail i order small) in
+    let word = feed_behind (decimal i) (spoken order ++ 10 ∷ rest) (feed_free i (small 0 (omega arith))) in
+    let apart : (decimal i ++ spoken order) ++ 10 ∷ rest ≡ decimal i ++ (spoken order ++ 10 ∷ rest) = append_assoc (decimal i) (spoken order) (10 ∷ rest) in
     let all : length (decimal i ++ spoken order) ≡ length (decimal i) + length (spoken order) = length-append (decimal i) (spoken order) in
     ap (λ t. 1 + feed t) apart ∙ omega (arith, inner, word, all)
+
+feed_at_end : (order : List ℕ) → AreSmall order → feed (spoken order ++ 10 ∷ []) ≡ length (spoken order)
+feed_at_end order small = feed_in_front order [] small
 
 -- what follows `order` in the line
 abbrev behind_of : List ℕ → List ℕ
@@ -196,3 +200,27 @@ ok_is x y e = cc
 -- no other order has the line
 pub order_line-one : (quotas order other : List ℕ) → length quotas < 2 ^ 32 → IsOrder quotas order → IsOrder quotas other → order_line order ≡ order_line other → order ≡ other
 order_line-one quotas order other few is so same = ok_is order other (sym (order_of-line quotas order few is) ∙ ap (order_of quotas) same ∙ order_of-line quotas other few so)
+
+-- ---- a text that begins with the line
+line_length : (order rest : List ℕ) → AreSmall order → feed (order_line order ++ rest) + 1 ≡ length (order_line order)
+line_length order rest small =
+    let apart : order_line order ++ rest ≡ codes "order" ++ (spoken order ++ 10 ∷ rest) =
+    append_assoc (codes "order") (spoken order ++ 10 ∷ []) rest ∙ ap (λ t. codes "order" ++ t) (append_assoc (spoken order) (10 ∷ []) rest) in
+    let word : feed (codes "order" ++ (spoken order ++ 10 ∷ rest)) ≡ 5 + feed (spoken order ++ 10 ∷ rest) = omega arith in
+    let inner = feed_in_front order rest small in
+    let whole = length-append (codes "order") (spoken order ++ 10 ∷ []) in
+    let last = length-append (spoken order) (10 ∷ []) in
+    let front = ap feed apart in
+    omega (arith, front, word, inner, whole, last)
+
+first_line : (order text : List ℕ) → AreSmall order → IsPrefix (order_line order) text → order_line order ≡ take (feed text + 1) text
+first_line order text small begins =
+    sym (take-append_seam (order_line order) begins.0)
+    ∙ ap (λ n. take n (order_line order ++ begins.0)) (sym (line_length order begins.0 small))
+    ∙ ap (λ t. take (feed t + 1) t) begins.1
+
+-- no other order's line begins it
+pub order_line-first : (quotas order other text : List ℕ) → length quotas < 2 ^ 32 → IsOrder quotas order → IsOrder quotas other → IsPrefix (order_line order) text → IsPrefix (order_line other) text → order ≡ other
+order_line-first quotas order other text few is so first second =
+    let small : (o : List ℕ) → IsOrder quotas o → AreSmall o = λ o are k below. let within = (are.sessions k 0 below).1 in omega (arith, within, few) in
+    order_line-one quotas order other few is so (first_line order text (small order is) first ∙ sym (first_line other text (small other so) second))

@@ -61,7 +61,8 @@ fn from_line_feed(text: &[u8]) -> &[u8]
 
 /// The bytes up to the first space, and those behind it.
 fn cut_piece(text: &[u8]) -> (&[u8], Option<&[u8]>)
-    ensures { MatchOption result.1 (pieces text.now ≡ result.0.now ∷ []) (λ rest. (pieces text.now ≡ result.0.now ∷ pieces rest.now) × (length rest.now < length text.now)) }
+    ensures { MatchOption result.1 (pieces text.now ≡ result.0.now ∷ [])
+        (λ rest. (pieces text.now ≡ result.0.now ∷ pieces rest.now) × (length rest.now < length text.now)) }
 {
     let place = place_of(text, b' ');
     if place == text.len() {

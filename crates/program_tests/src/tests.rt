@@ -2,4 +2,5 @@ mod calls;
 mod drawn;
 mod draws;
 mod lines;
+mod room;
 mod square;

@@ -160,7 +160,8 @@ fn push_three(
     third: &Part,
 ) -> Result<(), AllocError>
     ensures { OnOk result (out.new.items ≡ out.old.items ++ line_lem text.now
-        (first.now.word.now ∷ decimal first.now.number ∷ second.now.word.now ∷ decimal second.now.number ∷ third.now.word.now ∷ decimal third.now.number ∷ [])) }
+        (first.now.word.now ∷ decimal first.now.number ∷ second.now.word.now ∷ decimal second.now.number
+        ∷ third.now.word.now ∷ decimal third.now.number ∷ [])) }
 {
     push_text(out, text)?;
     push_numbered(out, first.word, first.number)?;

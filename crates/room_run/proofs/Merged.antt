@@ -2,7 +2,8 @@
 use mathlib.Core.List.{IsPrefix}
 use Rattle.std.proofs.Common.{◌≡◌, List, [], ◌∷◌, ◌++◌, All, map, sym, ◌∙◌, subst}
 use Rattle.std.proofs.lemmas.List.{map-append}
-use Rattle.std.proofs.lemmas.List.Elements.{All-cons, All-head, All-nil, All-push, All-tail}
+use Rattle.std.proofs.lemmas.List.Elements.{All-from_recursion, All-nil, All-push, recursion_from_All}
+use Rattle.cell_spec.proofs.EachItem.{each_back, each_front}
 use Rattle.turn_gate.proofs.Prefixes.{prefix_trans}
 use Rattle.turn_gate.specs.Histories.{IsExact}
 use Rattle.workroom.specs.Desks.{DeskState, merged_desk}
@@ -12,12 +13,10 @@ use Rattle.room_run.specs.declared.compiler.Compiler.{Compiler}
 use Rattle.room_run.specs.declared.gather.Outcome.{Outcome}
 
 left_all : {X : Type 0} (P : X → Type 0) (xs ys : List X) → All P (xs ++ ys) → All P xs
-left_all P [] ys all = All-nil P
-left_all P (x ∷ xs) ys all = All-cons P x xs (All-head P x (xs ++ ys) all) (left_all P xs ys (All-tail P x (xs ++ ys) all))
+left_all P xs ys all = All-from_recursion P xs (each_front P xs ys (recursion_from_All P (xs ++ ys) all))
 
 right_all : {X : Type 0} (P : X → Type 0) (xs ys : List X) → All P (xs ++ ys) → All P ys
-right_all P [] ys all = all
-right_all P (x ∷ xs) ys all = right_all P xs ys (All-tail P x (xs ++ ys) all)
+right_all P xs ys all = All-from_recursion P ys (each_back P xs ys (recursion_from_All P (xs ++ ys) all))
 
 -- one desk more is taken over
 pub keeps_more : (first old new : DeskState) (ks : List Compiler) (k : Compiler) → KeepsDesks first ks old → new ≡ merged_desk old k.desk → IsPrefix old.seen new.seen → IsPrefix k.desk.seen new.seen

@@ -5,4 +5,4 @@ mod compiler;
 mod gather;
 mod run;
 
-pub use run::{Held, RunEnd, open_room, run_sessions};
+pub use run::{Held, RunEnd, run_sessions};

@@ -1,51 +1,21 @@
 //! Sessions in threads.
 
-ghost use Rattle.std.specs.Prelude.{◌≡◌, ◌≤◌, ◌<◌, ℕ, All, IfErr, IfOk, MatchResult, OnOk, length, slice_index_or};
-ghost use Rattle.cell_bench.specs.Benches.{IsLoadRefusal};
-ghost use Rattle.cell_spec.specs.Writable.{IsWritable};
+ghost use Rattle.std.specs.Prelude.{◌≡◌, ◌≤◌, ◌<◌, ℕ, All, IfErr, IfOk, OnOk, length, slice_index_or};
 ghost use Rattle.room_run.specs.Rooms.{AreOpened, IsFresh, IsHeld, IsRun, IsRunEnd};
 ghost use Rattle.sessions.specs.Replays.{IsShortScript, session_limit};
-ghost use Rattle.workroom.specs.Rooms.{IsLoadedRoom};
 
 use crate::compiler::{Compiler, Ended, serve};
 use crate::gather::{gather, transcripts_of};
-use cell_bench::LoadRefusal;
 use commit_book::Book;
 use enc_outside::{Meet, Stuck};
-use look_counter::start_counter;
 use report_text::Transcript;
-use s57_types::Cell;
 use script_text::Script;
 use sessions::Session;
 use std::alloc::{AllocError, Global};
-use std::marker::Brand;
 use std::sync::Wait;
-use std::sync::ledger::{Blank, Ledger};
 use std::thread;
 use std::thread::Threads;
 use workroom::{DeskRefusal, Workroom};
-
-/// The workroom of a writable cell before its first desk, with its look-ups counted.
-fn open_counted<L: Ledger>(alloc: Global, cell: Cell, blank: Blank) -> Result<Workroom, LoadRefusal>
-    requires writable { IsWritable cell }
-    requires name { blank.name ≡ L.name }
-    requires parts { blank.parts ≡ L.parts }
-    requires some_part { 0 < L.parts }
-    ensures { MatchResult result (IsLoadedRoom cell) (IsLoadRefusal cell) }
-{
-    let mut steps = start_counter::<L>(blank);
-    Workroom::make(alloc, cell, &mut steps)
-}
-
-/// The workroom of a writable cell before its first desk.
-///
-/// An `Err` says that the cell has more findings than the limit, or is want of memory.
-pub fn open_room(alloc: Global, cell: Cell) -> Result<Workroom, LoadRefusal>
-    requires { IsWritable cell }
-    ensures { MatchResult result (IsLoadedRoom cell) (IsLoadRefusal cell) }
-{
-    open_counted::<Brand>(alloc, cell, Blank::new(1))
-}
 
 /// What is left of a run: the log of its history, and the lines of each session.
 #[derive(Drop)]
@@ -130,7 +100,8 @@ fn run_threads<R: Threads + Wait + Sync, M: Meet + Sync>(
     compilers: &mut [Compiler],
 )
     requires { All (IsFresh room.now.room) compilers.old }
-    ensures run { (i : ℕ) (d : _) → i < length compilers.old → IsRun (M.sticks meet.now) (slice_index_or compilers.old i d) (slice_index_or compilers.new i d) }
+    ensures run { (i : ℕ) (d : _) → i < length compilers.old
+        → IsRun (M.sticks meet.now) (slice_index_or compilers.old i d) (slice_index_or compilers.new i d) }
     ensures len { length compilers.new ≡ length compilers.old }
 {
     let threads = compilers.len().max(1);
@@ -151,7 +122,8 @@ fn run_all<R: Threads + Wait + Sync, M: Meet + Sync>(
     compilers: &mut Vec<Compiler>,
 )
     requires { All (IsFresh room.now.room) compilers.old.items }
-    ensures run { (i : ℕ) (d : _) → i < length compilers.old.items → IsRun (M.sticks meet.now) (slice_index_or compilers.old.items i d) (slice_index_or compilers.new.items i d) }
+    ensures run { (i : ℕ) (d : _) → i < length compilers.old.items
+        → IsRun (M.sticks meet.now) (slice_index_or compilers.old.items i d) (slice_index_or compilers.new.items i d) }
     ensures len { length compilers.new.items ≡ length compilers.old.items }
 {
     run_threads(rt, room, alloc, meet, compilers.as_mut_slice());

@@ -1,9 +1,8 @@
 //! Sessions run by one thread, in an order.
 
 ghost use Rattle.std.specs.Prelude.{◌≡◌, ◌≤◌, ◌<◌, [], All, IfOk, List, MatchResult, OnOk, length};
-ghost use Rattle.cell_bench.specs.Benches.{IsLoadRefusal};
+ghost use Rattle.cell_bench.specs.Benches.{IsLoadRefusal, IsLoaded};
 ghost use Rattle.cell_spec.specs.Writable.{IsWritable};
-ghost use Rattle.commit_book.specs.Books.{IsOpened};
 ghost use Rattle.history_spec.specs.declared.entry.Entry.{Entry};
 ghost use Rattle.room_laws.specs.Orders.{quotas_of};
 ghost use Rattle.s57_types.specs.declared.cell.Cell.{Cell as SpecCell};
@@ -11,7 +10,7 @@ ghost use Rattle.sessions.specs.Replays.{AreEditors, AreEnded, AreEndedAs, AreSe
 ghost use Rattle.text_spec.specs.OrderLine.{IsOrder};
 
 use crate::editor::Editor;
-use cell_bench::LoadRefusal;
+use cell_bench::{Bench, LoadRefusal};
 use commit_book::Book;
 use look_counter::start_counter;
 use report_text::Transcript;
@@ -24,26 +23,26 @@ use std::sync::ledger::{Blank, Ledger};
 /// How many sessions may share a cell.
 pub const SESSION_LIMIT: usize = 16;
 
-/// The log of a writable cell before its first entry, with its look-ups counted.
-fn open_counted<L: Ledger>(alloc: Global, cell: Cell, blank: Blank) -> Result<Book, LoadRefusal>
+/// The bench of a writable cell, with its look-ups counted.
+fn load_counted<L: Ledger>(alloc: Global, cell: Cell, blank: Blank) -> Result<Bench, LoadRefusal>
     requires writable { IsWritable cell }
     requires name { blank.name ≡ L.name }
     requires parts { blank.parts ≡ L.parts }
     requires some_part { 0 < L.parts }
-    ensures { MatchResult result (IsOpened cell) (IsLoadRefusal cell) }
+    ensures { MatchResult result (IsLoaded cell) (IsLoadRefusal cell) }
 {
     let mut steps = start_counter::<L>(blank);
-    Book::make(alloc, cell, &mut steps)
+    Bench::load(alloc, cell, &mut steps)
 }
 
-/// The log of a writable cell before its first entry.
+/// The bench of a writable cell.
 ///
 /// An `Err` says that the cell has more findings than the limit, or is want of memory.
-pub fn open_book(alloc: Global, cell: Cell) -> Result<Book, LoadRefusal>
+pub fn load_bench(alloc: Global, cell: Cell) -> Result<Bench, LoadRefusal>
     requires { IsWritable cell }
-    ensures { MatchResult result (IsOpened cell) (IsLoadRefusal cell) }
+    ensures { MatchResult result (IsLoaded cell) (IsLoadRefusal cell) }
 {
-    open_counted::<Brand>(alloc, cell, Blank::new(1))
+    load_counted::<Brand>(alloc, cell, Blank::new(1))
 }
 
 /// What is left of a run: the log of its history, and the lines of each session.

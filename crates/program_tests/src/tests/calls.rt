@@ -1,8 +1,9 @@
 //! Calls of the program on files in memory.
 
-use enc_outside::{MemShelf, MemSink};
-use enc_top::{print_status, run_plain};
+use enc_outside::{Meet, MemShelf, MemSink, NoMeet};
+use enc_top::{print_status, run};
 use std::alloc::Global;
+use std::sync::Wait;
 use std::test::Fail;
 use std::thread::Threads;
 
@@ -24,20 +25,35 @@ fn words(alloc: Global, text: &str) -> Result<Vec<String>, Fail> {
     Ok(words)
 }
 
-/// What `check` prints of a cell file: what it puts, and then the line of its status.
-pub fn checked<R: Threads + Sync>(rt: &R, alloc: Global, cell: &[u8]) -> Result<Vec<u8>, Fail> {
-    let mut shelf = MemShelf::make(alloc);
-    shelf.place("CELL", cell)?;
+/// What a call prints: what it puts, and then the line of its status.
+pub fn printed<R: Threads + Wait + Sync, M: Meet + Sync>(
+    rt: &R,
+    alloc: Global,
+    shelf: &mut MemShelf,
+    call: &str,
+    meet: &M,
+) -> Result<Vec<u8>, Fail> {
     let mut out = MemSink::make(alloc);
-    let words = words(alloc, "check CELL")?;
-    let status = run_plain(rt, alloc, &words, &mut shelf, &mut out);
+    let words = words(alloc, call)?;
+    let status = run(rt, alloc, &words, shelf, &mut out, meet);
     let mut text = Vec::from_slice(alloc, out.bytes())?;
     print_status(alloc, &status, &mut text)?;
     Ok(text)
 }
 
+/// What `check` prints of a cell file.
+pub fn checked<R: Threads + Wait + Sync>(
+    rt: &R,
+    alloc: Global,
+    cell: &[u8],
+) -> Result<Vec<u8>, Fail> {
+    let mut shelf = MemShelf::make(alloc);
+    shelf.place("CELL", cell)?;
+    printed(rt, alloc, &mut shelf, "check CELL", &NoMeet)
+}
+
 /// The file that a run of one script in an order leaves.
-pub fn exported<R: Threads + Sync>(
+pub fn exported<R: Threads + Wait + Sync>(
     rt: &R,
     alloc: Global,
     cell: &[u8],
@@ -50,7 +66,7 @@ pub fn exported<R: Threads + Sync>(
     shelf.place("S", script)?;
     let mut out = MemSink::make(alloc);
     let words = words(alloc, "replay CELL OUT ORDER S")?;
-    run_plain(rt, alloc, &words, &mut shelf, &mut out);
+    run(rt, alloc, &words, &mut shelf, &mut out, &NoMeet);
     let file = shelf.file("OUT").ok_or("no file was made")?;
     Ok(Vec::from_slice(alloc, file)?)
 }

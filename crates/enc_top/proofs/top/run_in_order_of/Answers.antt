@@ -1,4 +1,4 @@
-use Rattle.std.proofs.Common.{◌≡◌, ◌≤◌, IfSome, Ok, Err, inr, refl, sym, ap, ◌∙◌, subst}
+use Rattle.std.proofs.Common.{◌≡◌, IfSome, Ok, Err, inr, refl, sym, ap, ◌∙◌, subst}
 use Rattle.enc_top.specs.Task.{run_task, task_of}
 use Rattle.enc_top.specs.declared.work.Work.{Work}
 use Rattle.text_spec.specs.OrderLine.{IsOrder}
@@ -10,7 +10,7 @@ use Rattle.enc_top.proofs.top.run_in_order_of.Goals as goal
 pub returns-in-Err-clause-tells : goal.returns-in-Err-clause-tells
 returns-in-Err-clause-tells g c =
     let quotas = c.deref-2.ensures.value ∙ c.in_ok-quotas.ensures ∙ ap quotas_of c.deref.ensures.value in
-    tells_first (λ order. order) task_of (OrderIs c.deref-2.result.now c.args.order.now) (OrderedRunIs c.args.book.opening c.args.out.now c.args.order.now c.args.scripts.items) (IsFile c.args.order.now) (IsFile c.args.order.now)
+    tells_first (λ order. order) task_of (OrderIs c.deref-2.result.now c.args.order.now) (OrderedRunIs c.args.bench c.args.out.now c.args.order.now c.args.scripts.items) (IsFile c.args.order.now) (IsFile c.args.order.now)
     (g.H.Shelf.files c.args.shelf.now) (g.H.Shelf.read_faults c.args.shelf.now) (g.H.Shelf.read_faults c.read_sessions.new.shelf) c.in-Err.status
     (λ fs bad. inr (c.in-Err.status, subst (λ q. OrderIs q c.args.order.now fs (Err c.in-Err.status)) quotas bad, refl)) (λ fs n near. near) c.in-Err.ensures.tells
 
@@ -21,7 +21,7 @@ run_of-requires-clause-order g c =
 
 pub returns-clause-run : goal.returns-clause-run
 returns-clause-run g c =
-    let cell = c.args.book.opening in
+    let cell = c.args.bench in
     let commands = c.args.scripts.items in
     let order = c.args.order.now in
     let files = g.H.Shelf.files c.args.shelf.now in

@@ -17,6 +17,6 @@ returns-in-Err-clause-complete g c =
     let new = c.asked_work.new.shelf in
     let before = outside (files old) (read_faults old) (write_faults old) written faults in
     let after = outside (files new) (read_faults new) (write_faults new) written faults in
-    complete_from_exact words before after c.in-Err.status
-    (exact_from_cause words before after c.in-Err.status
-    (refused_cause (form_of words) before after c.in-Err.status (record { written = refl; files = c.in-Err.ensures.files }) c.in-Err.ensures.asked))
+    complete_from_exact ⊥ words before after c.in-Err.status
+    (exact_from_cause ⊥ words before after c.in-Err.status
+    (refused_cause ⊥ (form_of words) before after c.in-Err.status (record { written = refl; files = c.in-Err.ensures.files }) c.in-Err.ensures.asked))

@@ -1,8 +1,7 @@
-use Rattle.std.proofs.Common.{◌≡◌, ◌++◌, Some, sym, ap, ◌∙◌}
+use Rattle.std.proofs.Common.{◌++◌, Some, sym, ap, ◌∙◌}
 use Rattle.file_spec.specs.EncodedCell.{encoded_cell}
 use Rattle.history_spec.specs.Entries.{order_of_entries}
 use Rattle.history_spec.specs.EntriesReport.{entries_report}
-use Rattle.history_spec.specs.ReportText.{report}
 use Rattle.enc_top.proofs.work.work_of.Goals as goal
 
 pub returns : goal.returns

@@ -1,4 +1,4 @@
-use Rattle.order_text.proofs.OrderLines.{order_of-line, order_line-one}
+use Rattle.order_text.proofs.OrderLines.{order_of-line, order_line-first, order_line-one}
 use Rattle.order_text.proofs.ReadOrders.{order_of-order}
 use Rattle.order_text.proofs.law.order_lines_are_read.Goals as goal
 
@@ -10,3 +10,6 @@ returns-clause-one c = order_line-one
 
 pub returns-clause-only : goal.returns-clause-only
 returns-clause-only c = order_of-order
+
+pub returns-clause-first : goal.returns-clause-first
+returns-clause-first c = order_line-first

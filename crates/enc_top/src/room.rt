@@ -1,0 +1,91 @@
+//! Sessions in threads, as one call.
+
+ghost use Rattle.std.specs.Prelude.{◌≡◌, ◌≤◌, true, All, IfErr, IfOk, length, map, string_bytes};
+ghost use Rattle.export_laws.specs.ExportedCells.{IsScriptOfText};
+ghost use Rattle.enc_top.specs.Inputs.{IsCellOfFile, IsRunInRoom};
+ghost use Rattle.enc_top.specs.Outcome.{IsAskedBy};
+ghost use Rattle.enc_top.specs.Task.{task_of};
+ghost use Rattle.enc_top.specs.Words.{begins_with_room, form_of};
+ghost use Rattle.room_run.specs.Rooms.{IsRunEnd};
+ghost use Rattle.sessions.specs.Replays.{IsShortScript, session_limit};
+
+use crate::inputs::{read_bench, read_scripts};
+use crate::work::{Work, work_of};
+use cell_bench::Bench;
+use enc_outside::{Meet, Shelf};
+use export_laws::exports_are_read_back;
+use order_text::order_lines_are_read;
+use report_text::Status;
+use room_laws::entries_are_in_order;
+use room_run::{RunEnd, run_sessions};
+use script_text::Script;
+use sessions::SESSION_LIMIT;
+use std::alloc::Global;
+use std::sync::Wait;
+use std::thread::Threads;
+use workroom::Workroom;
+
+/// The work that the words behind `room` ask for: the report of running the scripts of input files on a cell, each in a thread of its own,
+/// and the file of the cell that is left.
+pub(crate) fn asked_room<R: Threads + Wait + Sync, H: Shelf, M: Meet + Sync>(
+    rt: &R,
+    alloc: Global,
+    words: &[String],
+    shelf: &mut H,
+    meet: &M,
+) -> Result<Work, Status>
+    requires { begins_with_room (map string_bytes words.now) ≡ true }
+    ensures asked { IsAskedBy (M.sticks meet.now) (form_of (map string_bytes words.now))
+        (H.files shelf.old) (H.read_faults shelf.old) (H.read_faults shelf.new) result }
+    ensures files { H.files shelf.new ≡ H.files shelf.old }
+    ensures write_faults { H.write_faults shelf.new ≡ H.write_faults shelf.old }
+{
+    let [_, cell, out, names @ ..] = words else {
+        return Err(Status::Usage);
+    };
+    if names.is_empty() || names.len() > SESSION_LIMIT {
+        return Err(Status::Usage);
+    }
+    let bench = match read_bench(alloc, shelf, cell.as_str()) {
+        Ok(bench) => bench,
+        Err(status) => return Err(status),
+    };
+    let scripts = match read_scripts(alloc, shelf, names) {
+        Ok(scripts) => scripts,
+        Err(status) => return Err(status),
+    };
+    match room_work(rt, alloc, bench, out.as_str(), scripts, meet) {
+        Ok(work) => Ok(work),
+        Err(RunEnd::Stuck(stuck)) => Err(Status::Stuck(stuck.desk, stuck.serial)),
+        Err(RunEnd::NoMemory) => Err(Status::NoMemory),
+    }
+}
+
+/// The report of running scripts on the cell of a bench, each in a thread of its own at a desk of its own, and the file of the cell that is
+/// left: those of one thread in the order that the report tells.
+fn room_work<R: Threads + Wait + Sync, M: Meet + Sync>(
+    rt: &R,
+    alloc: Global,
+    bench: Bench,
+    out: &str,
+    scripts: Vec<Script>,
+    meet: &M,
+) -> Result<Work, RunEnd>
+    requires of_file { IsCellOfFile bench }
+    requires some { 1 ≤ length scripts.items }
+    requires few { length scripts.items ≤ session_limit }
+    requires short { All IsShortScript scripts.items }
+    requires of_texts { All IsScriptOfText scripts.items }
+    ensures run { IfOk result (λ work. IsRunInRoom bench out.now scripts.items (task_of work)) }
+    ensures end { IfErr result (IsRunEnd (M.sticks meet.now) scripts.items) }
+{
+    exports_are_read_back();
+    order_lines_are_read();
+    entries_are_in_order();
+    let room = Workroom::of_bench(alloc, bench)?;
+    let held = match run_sessions(rt, alloc, room, scripts, meet) {
+        Ok(held) => held,
+        Err(end) => return Err(end),
+    };
+    Ok(work_of(alloc, out, &held.book, &held.transcripts)?)
+}
