@@ -1,0 +1,3 @@
+pub mod InTurns
+pub mod Orders
+pub mod Counted
