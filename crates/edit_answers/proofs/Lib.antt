@@ -1,0 +1,3 @@
+pub mod NamesAfter
+pub mod Ties
+pub mod Unedited

@@ -1,0 +1,117 @@
+//! Records, and their pointers and identities, as lists.
+
+ghost use Rattle.std.specs.Prelude.{◌≡◌, ◌≤◌, ◌++◌, All, IfOk, OnOk, length, map};
+ghost use Rattle.std.specs.Borrow.{Bor};
+ghost use Rattle.s57_types.specs.declared.record.End.{End as SpecEnd};
+ghost use Rattle.s57_types.specs.declared.record.Spot.{Spot as SpecSpot};
+ghost use Rattle.s57_types.specs.declared.record.Rec.{Rec as SpecRec};
+ghost use Rattle.s57_types.specs.RecordFields.{length_limit};
+ghost use Rattle.cell_spec.specs.Lookup.{all_records};
+ghost use Rattle.chain_topo.specs.Listed.{HasFewPointers, pointers_from, pointers_of, pointers_listed, identity_of, identities_listed};
+
+use cell_spec::Ref;
+use s57_types::{Cell, End, Lnam, Rec, RecName, Spot};
+use std::alloc::{AllocError, Global};
+
+// Appends records.
+fn add_records<'a>(list: &mut Vec<&'a Rec>, recs: &'a [Rec]) -> Result<(), AllocError>
+    ensures { OnOk result (map (λ r. r.now) list.new.items ≡ map (λ r. r.now) list.old.items ++ recs.now) }
+{
+    for rec in recs {
+        list.push(rec)?;
+    }
+    Ok(())
+}
+
+/// All records of a cell, in file order.
+///
+/// An `Err` is want of memory.
+pub fn records_of(alloc: Global, cell: &Cell) -> Result<Vec<&Rec>, AllocError>
+    ensures { IfOk result (λ list. map (λ r. r.now) list.items ≡ all_records cell.now) }
+{
+    let mut list = Vec::new(alloc);
+    add_records(&mut list, cell.vi.as_slice())?;
+    add_records(&mut list, cell.vc.as_slice())?;
+    add_records(&mut list, cell.ve.as_slice())?;
+    add_records(&mut list, cell.fe.as_slice())?;
+    Ok(list)
+}
+
+// Appends the target of each of a record's ends, with the place of the end.
+fn add_ends(list: &mut Vec<(RecName, Ref)>, from: RecName, ends: &[End]) -> Result<(), AllocError>
+    requires { length ends.now ≤ length_limit }
+    ensures { OnOk result (list.new.items ≡ list.old.items ++ pointers_from from 1 (map (λ (e : SpecEnd). e.to) ends.now)) }
+{
+    for (k, end) in ends.iter().enumerate() {
+        let place = (k + 1) as u32;
+        list.push((end.to, Ref { from, place }))?;
+    }
+    Ok(())
+}
+
+// Appends the target of each of a record's spots, with the place of the spot.
+fn add_spots(
+    list: &mut Vec<(RecName, Ref)>,
+    from: RecName,
+    spots: &[Spot],
+) -> Result<(), AllocError>
+    requires { length spots.now ≤ length_limit }
+    ensures { OnOk result (list.new.items ≡ list.old.items ++ pointers_from from 1 (map (λ (s : SpecSpot). s.to) spots.now)) }
+{
+    for (k, spot) in spots.iter().enumerate() {
+        let place = (k + 1) as u32;
+        list.push((spot.to, Ref { from, place }))?;
+    }
+    Ok(())
+}
+
+// Appends the pointers of a record, each with its target before it.
+fn add_pointers(list: &mut Vec<(RecName, Ref)>, rec: &Rec) -> Result<(), AllocError>
+    requires { HasFewPointers rec.now }
+    ensures { OnOk result (list.new.items ≡ list.old.items ++ pointers_of rec.now) }
+{
+    match rec {
+        Rec::V(vector) => add_ends(list, vector.name, vector.ends.as_slice()),
+        Rec::F(feature) => add_spots(list, feature.name, feature.places.as_slice()),
+        Rec::H(_) => Ok(()),
+    }
+}
+
+/// The pointers of records, each with its target before it.
+pub(crate) fn list_pointers(
+    alloc: Global,
+    records: &[&Rec],
+) -> Result<Vec<(RecName, Ref)>, AllocError>
+    requires { All (λ (r : Bor SpecRec). HasFewPointers r.now) records.now }
+    ensures { IfOk result (λ list. list.items ≡ pointers_listed (map (λ r. r.now) records.now)) }
+{
+    let mut list = Vec::new(alloc);
+    for rec in records {
+        add_pointers(&mut list, rec)?;
+    }
+    Ok(list)
+}
+
+// Appends the identity of a record with its name, if it is a feature.
+fn add_identity(list: &mut Vec<(Lnam, RecName)>, rec: &Rec) -> Result<(), AllocError>
+    ensures { OnOk result (list.new.items ≡ list.old.items ++ identity_of rec.now) }
+{
+    if let Rec::F(feature) = rec {
+        list.push((feature.foid, feature.name))?;
+    }
+    Ok(())
+}
+
+/// The identities of records, each with the name of the feature that bears it.
+pub(crate) fn list_identities(
+    alloc: Global,
+    records: &[&Rec],
+) -> Result<Vec<(Lnam, RecName)>, AllocError>
+    ensures { IfOk result (λ list. list.items ≡ identities_listed (map (λ r. r.now) records.now)) }
+{
+    let mut list = Vec::new(alloc);
+    for rec in records {
+        add_identity(&mut list, rec)?;
+    }
+    Ok(list)
+}

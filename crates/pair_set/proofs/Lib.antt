@@ -1,0 +1,3 @@
+pub mod Found
+pub mod Pairs
+pub mod Range

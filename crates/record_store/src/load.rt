@@ -1,0 +1,57 @@
+//! The store of a whole cell.
+
+ghost use Rattle.std.specs.Prelude.{◌≡◌, ◌++◌, IfOk, OnOk, flat_map, map};
+ghost use Rattle.std.specs.Borrow.{Bor};
+ghost use Rattle.s57_types.specs.declared.record.Rec.{Rec as SpecRec};
+ghost use Rattle.cell_spec.specs.Ascending.{ascending};
+ghost use Rattle.cell_spec.specs.Edits.{keys_answered_by};
+ghost use Rattle.cell_spec.specs.Names.{key_order};
+ghost use Rattle.cell_spec.specs.Readable.{IsReadable};
+ghost use Rattle.cell_spec.specs.Writable.{IsWritable};
+ghost use Rattle.record_store.specs.Stores.{AreAnswersOf};
+
+use crate::answers::Answers;
+use crate::records::Records;
+use crate::store::RecordStore;
+use cell_spec::{Keys, ascending_keys, writable_cells_are_readable};
+use edit_answers::{group_identities, group_pointers, push_answered, records_of};
+use s57_types::{Cell, Rec};
+use std::alloc::{AllocError, Global};
+
+impl RecordStore {
+    /// The store of a writable cell.
+    ///
+    /// An `Err` is want of memory.
+    pub fn load(alloc: Global, cell: Cell) -> Result<RecordStore, AllocError>
+        requires { IsWritable cell }
+        ensures { IfOk result (λ store. store ≡ cell) }
+    {
+        writable_cells_are_readable();
+        let answers = answers_of(alloc, &cell)?;
+        let records = Records::load(alloc, cell)?;
+        Ok(RecordStore { records, answers })
+    }
+}
+
+// The pointers and bearers of a cell.
+fn answers_of(alloc: Global, cell: &Cell) -> Result<Answers, AllocError>
+    requires { IsReadable cell.now }
+    ensures { IfOk result (λ answers. AreAnswersOf cell.now answers.pointers answers.bearers) }
+{
+    let records = records_of(alloc, cell)?;
+    let pointers = group_pointers(alloc, &records)?;
+    let bearers = group_identities(alloc, &records)?;
+    let keys = keys_of(alloc, &records)?;
+    Answers::filled(alloc, &pointers, &bearers, keys.as_slice())
+}
+
+// The keys that records answer, ascending, each once.
+fn keys_of(alloc: Global, records: &[&Rec]) -> Result<Keys, AllocError>
+    ensures { IfOk result (λ keys. keys ≡ ascending key_order (flat_map keys_answered_by (map (λ (r : Bor SpecRec). r.now) records.now))) }
+{
+    let mut keys = Vec::new(alloc);
+    for rec in records {
+        push_answered(&mut keys, rec)?;
+    }
+    Ok(ascending_keys(keys))
+}

@@ -1,0 +1,260 @@
+//! The index of tiles and plans of its changes.
+
+ghost use Rattle.std.specs.Prelude.{◌≡◌, [], IfOk, IsOk, OnOk, is_some, option_and_then, if◌then◌else◌};
+ghost use Rattle.std.specs.Ordering.{is_eq};
+ghost use Rattle.s57_types.specs.declared.name.RecName.{RecName as SpecRecName};
+ghost use Rattle.cell_spec.specs.Names.{name_order};
+ghost use Rattle.row_table.specs.Rows.{value_of, with_row, without_key};
+ghost use Rattle.finding_laws.specs.Tables.{Covering, mates_in};
+ghost use Rattle.pair_set.specs.Pairs.{is_among};
+ghost use Rattle.tile_index.specs.Changes.{after_change, after_changes, covering_given as spec_given};
+ghost use Rattle.tile_index.specs.Tilings.{Tile as SpecTile, is_near, is_under, tile_order};
+
+use crate::change::TileChange;
+use crate::cover::Cover;
+use crate::mates::{names_under, push_names, without};
+use crate::range::Tile;
+use cell_spec::{Names, ascending_names, orders_are_by_parts};
+use geometry_spec::Box4;
+use pair_set::PairSet;
+use s57_types::{Duplicate, RecName};
+use shared_table::{Shared, SharedTable};
+use std::alloc::{AllocError, Global};
+use std::marker::Model;
+
+/// The tiles under connected nodes and edges, seen as rows of a name and its covering, in ascending order of the names. Copies share what
+/// they hold, and a change of one of two leaves the other as it is.
+#[derive(Drop)]
+pub struct TileIndex {
+    kept: SharedTable<RecName, Shared<Cover>>,
+    in_tiles: PairSet<Tile, RecName>,
+    oversized: SharedTable<RecName, ()>,
+}
+
+impl Model for TileIndex {
+    ghost use Rattle.std.specs.Prelude.{List};
+    ghost use Rattle.s57_types.specs.declared.name.RecName.{RecName};
+    ghost use Rattle.finding_laws.specs.Tables.{Covering};
+
+    ghost Value = { List (RecName × Covering) };
+
+    ghost use Rattle.tile_index.specs.Tilings.{IsTiling};
+
+    ghost view = { λ i. i.kept };
+
+    ghost invariant = { λ i. IsTiling i.kept i.in_tiles i.oversized };
+}
+
+/// The whole of an index after some changes, seen as its rows.
+#[derive(Drop)]
+pub struct TilePlan {
+    index: TileIndex,
+}
+
+impl Model for TilePlan {
+    ghost use Rattle.std.specs.Prelude.{List};
+    ghost use Rattle.s57_types.specs.declared.name.RecName.{RecName};
+    ghost use Rattle.finding_laws.specs.Tables.{Covering};
+
+    ghost Value = { List (RecName × Covering) };
+
+    ghost view = { λ p. p.index };
+}
+
+impl TileIndex {
+    /// An index that keeps no name.
+    pub fn make() -> TileIndex
+        ensures { result ≡ [] }
+    {
+        TileIndex {
+            kept: SharedTable::make(),
+            in_tiles: PairSet::make(),
+            oversized: SharedTable::make(),
+        }
+    }
+
+    /// The names that may touch this one, ascending: all others where one of its ranges is oversized, else those that share a tile with
+    /// it and the oversized ones. A name that isn't kept has none. An `Err` is want of memory.
+    pub fn mates(&self, alloc: Global, name: RecName) -> Result<Names, AllocError>
+        ensures { IfOk result (λ names. names ≡ mates_in self.now name) }
+    {
+        orders_are_by_parts();
+        // The rows ascend.
+        let _count = self.kept.len();
+        let Some(own) = self.kept.get(&name) else {
+            return Ok(Names::make(alloc));
+        };
+        let near = self.near(alloc, own)?;
+        Ok(ascending_names(without(alloc, &near, name)?))
+    }
+
+    /// The names that may touch this one after a plan.
+    pub fn mates_after(
+        &self,
+        alloc: Global,
+        plan: &TilePlan,
+        name: RecName,
+    ) -> Result<Names, AllocError>
+        ensures { IfOk result (λ names. names ≡ mates_in plan.now name) }
+    {
+        plan.index.mates(alloc, name)
+    }
+
+    /// The least box around a name's segments. There is none where the name isn't kept.
+    pub fn extent(&self, name: RecName) -> Option<Box4>
+        ensures { result ≡ option_and_then (λ (covering : Covering). covering.extent) (value_of name_order self.now name) }
+    {
+        orders_are_by_parts();
+        self.kept.get(&name)?.extent()
+    }
+
+    /// The index after some changes, one after the other. It takes all memory that they need, and an `Err` is want of it.
+    pub fn plan(&self, alloc: Global, changes: &[TileChange]) -> Result<TilePlan, AllocError>
+        ensures { IfOk result (λ plan. plan ≡ after_changes self.now changes.now) }
+    {
+        let mut index = self.copy(alloc)?;
+        for change in changes {
+            index = index.changed(alloc, change)?;
+        }
+        Ok(TilePlan { index })
+    }
+
+    /// Takes the memory that installing a plan needs: none, since the plan has taken it.
+    pub fn reserve(&mut self, _plan: &TilePlan) -> Result<(), AllocError>
+        ensures ok { IsOk result }
+        ensures same { self.new ≡ self.old }
+    {
+        Ok(())
+    }
+
+    /// Puts the index of a plan in this one's place. It takes no memory.
+    pub fn install(&mut self, plan: TilePlan)
+        ensures { self.new ≡ plan }
+    {
+        *self = plan.index;
+    }
+
+    // The names whose ranges meet those of a covering, in any order and maybe more than once.
+    fn near(&self, alloc: Global, own: &Cover) -> Result<Vec<RecName>, AllocError>
+        ensures { IfOk result (λ names. (n : SpecRecName) → is_among name_order names.items n ≡ is_near self.now own.now n) }
+    {
+        if own.is_oversized() {
+            let mut names = Vec::new(alloc);
+            push_names(&mut names, &self.kept)?;
+            return Ok(names);
+        }
+        let mut names = names_under(alloc, &self.in_tiles, &own.tiles(alloc)?)?;
+        push_names(&mut names, &self.oversized)?;
+        Ok(names)
+    }
+
+    // The index after a change.
+    fn changed(self, alloc: Global, change: &TileChange) -> Result<TileIndex, AllocError>
+        ensures { IfOk result (λ index. index ≡ after_change self change.now) }
+    {
+        match covering_given(alloc, change)? {
+            Some(cover) => self.with_cover(alloc, change.name, cover),
+            None => self.without(alloc, change.name),
+        }
+    }
+
+    // The index with a name's new covering.
+    fn with_cover(self, alloc: Global, name: RecName, cover: Cover) -> Result<TileIndex, AllocError>
+        ensures { IfOk result (λ index. index ≡ with_row name_order self name cover) }
+    {
+        orders_are_by_parts();
+        let TileIndex {
+            mut kept,
+            mut in_tiles,
+            mut oversized,
+        } = self;
+        let old = tiles_at(alloc, &kept, name)?;
+        in_tiles.replace(alloc, name, &old, &cover.tiles(alloc)?)?;
+        mark(alloc, &mut oversized, name, cover.is_oversized())?;
+        kept.put(alloc, name, Shared::make(alloc, cover)?)?;
+        Ok(TileIndex {
+            kept,
+            in_tiles,
+            oversized,
+        })
+    }
+
+    // The index without a name.
+    fn without(self, alloc: Global, name: RecName) -> Result<TileIndex, AllocError>
+        ensures { IfOk result (λ index. index ≡ without_key name_order self name) }
+    {
+        orders_are_by_parts();
+        let TileIndex {
+            mut kept,
+            mut in_tiles,
+            mut oversized,
+        } = self;
+        // The rows ascend, so that the name has one.
+        let _count = kept.len();
+        let old = tiles_at(alloc, &kept, name)?;
+        in_tiles.replace(alloc, name, &old, &[])?;
+        mark(alloc, &mut oversized, name, false)?;
+        kept.take(alloc, &name)?;
+        Ok(TileIndex {
+            kept,
+            in_tiles,
+            oversized,
+        })
+    }
+}
+
+impl Duplicate for TileIndex {
+    /// The same index. It counts what both share, and copies no row.
+    fn copy(&self, _alloc: Global) -> Result<TileIndex, AllocError> {
+        Ok(TileIndex {
+            kept: self.kept.share()?,
+            in_tiles: self.in_tiles.share()?,
+            oversized: self.oversized.share()?,
+        })
+    }
+}
+
+// The covering that a change gives its name.
+fn covering_given(alloc: Global, change: &TileChange) -> Result<Option<Cover>, AllocError>
+    ensures { IfOk result (λ cover. cover ≡ spec_given change.now) }
+{
+    match &change.points {
+        Some(points) => Cover::of_points(alloc, change.name, points.as_slice()),
+        None => Ok(None),
+    }
+}
+
+// The tiles that a name stands with, none of an oversized one.
+fn tiles_at(
+    alloc: Global,
+    kept: &SharedTable<RecName, Shared<Cover>>,
+    name: RecName,
+) -> Result<Vec<Tile>, AllocError>
+    ensures { IfOk result (λ tiles. (t : SpecTile) → is_among tile_order tiles.items t ≡ is_under kept.now t name) }
+{
+    orders_are_by_parts();
+    match kept.get(&name) {
+        Some(cover) => cover.tiles(alloc),
+        None => Ok(Vec::new(alloc)),
+    }
+}
+
+// Puts a name among the oversized ones, or takes it out.
+fn mark(
+    alloc: Global,
+    oversized: &mut SharedTable<RecName, ()>,
+    name: RecName,
+    is: bool,
+) -> Result<(), AllocError>
+    ensures { OnOk result ((n : SpecRecName) → is_some (value_of name_order oversized.new n)
+        ≡ (if is_eq (name_order name n) then is else is_some (value_of name_order oversized.old n))) }
+{
+    orders_are_by_parts();
+    // The rows ascend, so that the name stands there once.
+    let _count = oversized.len();
+    if is {
+        oversized.put(alloc, name, ())
+    } else {
+        oversized.take(alloc, &name)
+    }
+}
