@@ -1,3 +1,4 @@
 mod answers;
 mod books;
+mod desks;
 mod full;

@@ -112,8 +112,12 @@ const OFFERS: [(Offer, Brief, usize); 8] = [
 ];
 
 /// An answer without its count of findings.
-fn uncounted(brief: Brief) -> Brief {
+pub(crate) fn uncounted(brief: Brief) -> Brief {
     match brief {
+        Brief::Viewed { number, .. } => Brief::Viewed {
+            number,
+            findings: 0,
+        },
         Brief::Accepted { number, .. } => Brief::Accepted {
             number,
             findings: 0,
