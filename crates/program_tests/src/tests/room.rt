@@ -32,8 +32,6 @@ impl Held {
 }
 
 impl Meet for Held {
-    ghost use Rattle.std.specs.Prelude.{Unit};
-
     ghost sticks = { λ _. Unit {0} };
 
     fn arrive(&self, desk: u32, serial: u32) -> Result<(), Stuck> {
