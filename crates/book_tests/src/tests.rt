@@ -1,4 +1,3 @@
 mod answers;
 mod books;
-mod desks;
 mod full;

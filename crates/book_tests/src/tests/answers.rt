@@ -112,12 +112,8 @@ const OFFERS: [(Offer, Brief, usize); 8] = [
 ];
 
 /// An answer without its count of findings.
-pub(crate) fn uncounted(brief: Brief) -> Brief {
+fn uncounted(brief: Brief) -> Brief {
     match brief {
-        Brief::Viewed { number, .. } => Brief::Viewed {
-            number,
-            findings: 0,
-        },
         Brief::Accepted { number, .. } => Brief::Accepted {
             number,
             findings: 0,

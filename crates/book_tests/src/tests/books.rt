@@ -6,7 +6,7 @@ ghost use Rattle.cell_spec.specs.Writable.{IsWritable};
 use cell_make::make_cell;
 use cell_spec::{Edit, Rows};
 use chain_topo::Steps;
-use commit_book::{Bench, Book, Prepared, Told};
+use commit_book::{Book, Prepared, Told};
 use edit_sets::EditSet;
 use s57_types::{Cell, Kind, RecName};
 use std::alloc::{AllocError, Global};
@@ -33,7 +33,7 @@ fn named(name: Name) -> RecName {
 }
 
 /// The cell of one square: nodes 1 to 4, edges 1 to 4, features 1 and 2.
-pub(crate) fn one_square(alloc: Global) -> Result<Cell, AllocError>
+fn one_square(alloc: Global) -> Result<Cell, AllocError>
     ensures { IfOk result IsWritable }
 {
     make_cell(alloc, 1)
@@ -67,42 +67,24 @@ fn names_of(alloc: Global, names: &[Name]) -> Result<Vec<RecName>, AllocError> {
     Ok(made)
 }
 
-/// The edit set of an offer, at the level of a cell.
+/// The edit set of an offer, at the level of a book.
 fn set_for(
     rt: &impl Abort,
     alloc: Global,
-    bench: &Bench,
+    book: &Book,
     edits: &[Edit],
     guards: &[RecName],
 ) -> EditSet
-    ensures { result.nall ≡ bench.now.head.nall }
+    ensures { result.nall ≡ book.now.opening.head.nall }
 {
+    book.known();
     if edits.len() > 99 || guards.len() > 99 {
         panic!(rt; "too much is offered");
     }
-    match EditSet::make(alloc, edits, guards, bench.head().nall) {
+    match EditSet::make(alloc, edits, guards, book.bench().head().nall) {
         Ok(set) => set,
         Err(_) => panic!(rt; "the form is wrong"),
     }
-}
-
-/// Deletions with their guards, as they are prepared on a cell.
-pub(crate) fn prepared_on(
-    rt: &impl Abort,
-    alloc: Global,
-    bench: &Bench,
-    base: u32,
-    deleted: &[Name],
-    guards: &[Name],
-) -> Result<Prepared, AllocError>
-    ensures base { IfOk result (λ prepared. prepared.base ≡ base) }
-    ensures level { IfOk result (λ prepared. prepared.edits.nall ≡ bench.now.head.nall) }
-    ensures rows { IfOk result (λ prepared. prepared.rows ≡ []) }
-{
-    let edits = deletions(alloc, deleted)?;
-    let guards = names_of(alloc, guards)?;
-    let set = set_for(rt, alloc, bench, &edits, &guards);
-    Ok(Prepared::make(base, set, Rows::make(alloc)))
 }
 
 /// An offer as it is prepared for a book.
@@ -116,15 +98,10 @@ pub(crate) fn prepared(
     ensures level { IfOk result (λ prepared. prepared.edits.nall ≡ book.now.opening.head.nall) }
     ensures rows { IfOk result (λ prepared. prepared.rows ≡ []) }
 {
-    book.known();
-    prepared_on(
-        rt,
-        alloc,
-        book.bench(),
-        offer.base,
-        offer.deleted,
-        offer.guards,
-    )
+    let edits = deletions(alloc, offer.deleted)?;
+    let guards = names_of(alloc, offer.guards)?;
+    let set = set_for(rt, alloc, book, &edits, &guards);
+    Ok(Prepared::make(offer.base, set, Rows::make(alloc)))
 }
 
 /// The answer to an offer.
