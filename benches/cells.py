@@ -141,11 +141,12 @@ write_text("ADDED", "".join(f"add vc {k} 1 p=0,0\n" for k in range(1_000, 5_096)
 # one node of the ring moved in each of 2,000 commits, and the cell viewed before each
 write_text("MOVES", "".join(f"set vc {k % 500 + 1} 2 p={k},{k}\nview\ncommit\n" for k in range(2_000)))
 # 50,000 commands, and 1,048,576 bytes
-# 1,600 of these commits, shared out among so many sessions
+# 1,600 commits shared out among so many sessions: each moves a node by one unit, so that the ring stays a ring in whatever order they come
 for sessions in (1, 2, 4, 8, 16):
     for session in range(sessions):
         moves = range(session, 1_600, sessions)
-        write_text(f"PART_{sessions}_{session + 1}", "".join(f"set vc {k % 500 + 1} 2 p={k},{k}\nview\ncommit\n" for k in moves))
+        commits = (f"set vc {k % 500 + 1} 2 p={k % 500 + 1},{k % 500 + 1 + k // 500 % 2}\nview\ncommit\n" for k in moves)
+        write_text(f"PART_{sessions}_{session + 1}", "".join(commits))
 write_text("DELETIONS", 50_000 * "del vc 4294967295\n")
 write_text("EDGES", "".join("add ve 1 1" + points * " p=-500000,400000" + "\n" for points in [*20 * [3_000], 1_667]) + "#end.\n")
 for count in (0, 1, 4_000):
