@@ -196,12 +196,17 @@ impl<'a> Stage<'a> {
         }
     }
 
-    /// Takes in a file that the last call made, whatever its content is.
-    fn take_file(&mut self, name: &str) -> Result<(), Stop> {
+    /// Takes in a file that the last call made, whatever its content is: `NAME`, or `NAME of N bytes`.
+    fn take_file(&mut self, rest: &str) -> Result<(), Stop> {
+        let (name, size) = rest.split_once(" of ").unwrap_or((rest, ""));
         let made = self.ended.as_ref().and_then(|ended| ended.store.file(name));
         let Some(content) = made else {
             return Err(Stop::at_line(self.alloc, "no file", name));
         };
+        if !size.is_empty() {
+            let found = format!(in self.alloc; "{} bytes", content.len())?;
+            expect_words(self.alloc, "size", found.as_str(), size)?;
+        }
         let content = Vec::from_slice(self.alloc, content)?;
         let name = String::from_str(self.alloc, name)?;
         self.files.insert(name, content)?;

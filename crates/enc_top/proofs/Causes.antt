@@ -5,7 +5,7 @@ use Rattle.enc_outside.specs.Files.{Files}
 use Rattle.enc_top.specs.Inputs.{IsInputOf, OutputIs}
 use Rattle.enc_top.specs.Outcome.{IsAsked, IsAskedBy, IsBuilt, IsCause, IsCauseOf, IsCut, IsDoneWork, IsExact, IsExpected, IsOutput, IsSilent, IsSmooth, IsStuckAt, Outside}
 use Rattle.enc_top.specs.Task.{Task, task_of}
-use Rattle.enc_top.specs.Words.{Form, later_form, no_form, form_of}
+use Rattle.enc_top.specs.Words.{Form, no_form, form_of}
 use Rattle.report_text.specs.declared.status.Status.{Status}
 use Rattle.report_text.specs.declared.status.Status.TheVariants.{Done, Usage, Absent, BadCell, BadScript, ReadFault, WriteFault, TooLarge, NoMemory, BadOrder, Stuck, TooManyFindings, NotYet}
 use Rattle.enc_top.specs.declared.work.Work.{Work}
@@ -40,7 +40,7 @@ refused_cause sticks form before after NoMemory silent asked = (asked, silent)
 refused_cause sticks form before after (BadOrder place) silent asked = (asked.0, silent, asked.1)
 refused_cause sticks form before after (Stuck desk serial) silent asked = (asked.0, silent, asked.1)
 refused_cause sticks form before after TooManyFindings silent asked = (asked.0, silent, asked.1)
-refused_cause sticks form before after NotYet silent asked = (asked, silent)
+refused_cause sticks form before after NotYet silent asked = absurd asked
 
 -- ---- where no device failed
 of_told : (told : Option Files) (files : Files) (P : Files → Type 0) → told ≡ Some files → IfSome told P → P files
@@ -52,8 +52,6 @@ asked_of form before after files answer smooth asked = of_told before.files file
 none_asked : (form : Form) (files : Files) → form ≡ no_form → OutputIs form files (Err Usage)
 none_asked form files is = subst (λ (f : Form). OutputIs f files (Err Usage)) (sym is) refl
 
-later_asked : (form : Form) (files : Files) → form ≡ later_form → OutputIs form files (Err NotYet)
-later_asked form files is = subst (λ (f : Form). OutputIs f files (Err NotYet)) (sym is) refl
 
 no_cut : (task : Task) (before after : Outside) (files : Files) → IsSmooth before after files → IsCut task before after → ⊥
 no_cut task before after files smooth (inl text) = smooth.puts text.rose
@@ -72,12 +70,12 @@ exact_of sticks form before after NoMemory cause files smooth calm = inr refl
 exact_of sticks form before after (BadOrder place) cause files smooth calm = inl (asked_of form before after files (Err (BadOrder place)) smooth cause.2)
 exact_of sticks form before after (Stuck desk serial) cause files smooth calm = absurd (calm cause.0)
 exact_of sticks form before after TooManyFindings cause files smooth calm = inl (asked_of form before after files (Err TooManyFindings) smooth cause.2)
-exact_of sticks form before after NotYet later files smooth calm = inl (later_asked form files later.0)
+exact_of sticks form before after NotYet cause files smooth calm = absurd cause
 
 pub exact_from_cause : (sticks : Type 0) (words : List (List ℕ)) (before after : Outside) (status : Status) → IsCause sticks words before after status → IsExact sticks words before after status
 exact_from_cause sticks words before after status cause = exact_of sticks (form_of words) before after status cause
 
--- ---- words of no form, and of a later form
+-- ---- words of no form
 no_input : (form : Form) (name : List ℕ) → IsInputOf form name → form ≡ no_form → ⊥
 no_input form name is none = subst (λ (f : Form). IsInputOf f name) none is
 
@@ -86,9 +84,6 @@ not_built form built none = subst IsBuilt none built
 
 no_output : (form : Form) (files : Option Files) (task : Task) → IsOutput form files task → form ≡ no_form → ⊥
 no_output form files task output none = subst (λ (f : Form). IsOutput f files task) none output
-
-apart : later_form ≡ no_form → ⊥
-apart is = cc (is)
 
 pub usage_of_none : (sticks : Type 0) (form : Form) (before after : Outside) (status : Status) → IsCauseOf sticks form before after status → form ≡ no_form → status ≡ Usage
 usage_of_none sticks form before after Done cause none = absurd (no_output form before.files cause.0 cause.1 none)
@@ -103,34 +98,10 @@ usage_of_none sticks form before after NoMemory cause none = absurd (not_built f
 usage_of_none sticks form before after (BadOrder place) cause none = absurd (not_built form cause.0 none)
 usage_of_none sticks form before after (Stuck desk serial) cause none = absurd (subst (λ (f : Form). IsStuckAt f before.files desk serial) none cause.2)
 usage_of_none sticks form before after TooManyFindings cause none = absurd (not_built form cause.0 none)
-usage_of_none sticks form before after NotYet later none = absurd (apart (subst (λ (f : Form). f ≡ no_form) later.0 none))
+usage_of_none sticks form before after NotYet cause none = absurd cause
 
 pub none_of_usage : (sticks : Type 0) (form : Form) (before after : Outside) (status : Status) → IsCauseOf sticks form before after status → status ≡ Usage → form ≡ no_form
 none_of_usage sticks form before after status cause is = (subst (IsCauseOf sticks form before after) is cause).0
-
-later_input : (form : Form) (name : List ℕ) → IsInputOf form name → form ≡ later_form → ⊥
-later_input form name is later = subst (λ (f : Form). IsInputOf f name) later is
-
-later_built : (form : Form) → IsBuilt form → form ≡ later_form → ⊥
-later_built form built later = subst IsBuilt later built
-
-pub later_output : (form : Form) (files : Option Files) (task : Task) → IsOutput form files task → form ≡ later_form → ⊥
-later_output form files task output later = subst (λ (f : Form). IsOutput f files task) later output
-
-pub status_of_later : (sticks : Type 0) (form : Form) (files : Option Files) (reads after : ℕ) (status : Status) → IsAskedBy sticks form files reads after (Err status) → form ≡ later_form → status ≡ NotYet
-status_of_later sticks form files reads after Done asked later = absurd asked
-status_of_later sticks form files reads after WriteFault asked later = absurd asked
-status_of_later sticks form files reads after Usage asked later = absurd (apart (sym later ∙ asked))
-status_of_later sticks form files reads after (Absent name) asked later = absurd (later_input form name asked.0 later)
-status_of_later sticks form files reads after (BadCell fault) asked later = absurd (later_built form asked.0 later)
-status_of_later sticks form files reads after (BadScript session line code) asked later = absurd (later_built form asked.0 later)
-status_of_later sticks form files reads after (ReadFault name) asked later = absurd (later_input form name asked.0 later)
-status_of_later sticks form files reads after (TooLarge name) asked later = absurd (later_input form name asked.0 later)
-status_of_later sticks form files reads after NoMemory asked later = absurd (later_built form asked later)
-status_of_later sticks form files reads after (BadOrder place) asked later = absurd (later_built form asked.0 later)
-status_of_later sticks form files reads after (Stuck desk serial) asked later = absurd (subst (λ (f : Form). IsStuckAt f files desk serial) later asked.1)
-status_of_later sticks form files reads after TooManyFindings asked later = absurd (later_built form asked.0 later)
-status_of_later sticks form files reads after NotYet asked later = refl
 
 -- ---- where no rendezvous may give up, as where one may
 pub with_sticks : (sticks : Type 0) (form : Form) (before after : Outside) (status : Status) → IsCauseOf ⊥ form before after status → IsCauseOf sticks form before after status
@@ -145,5 +116,5 @@ with_sticks sticks form before after (TooLarge name) cause = cause
 with_sticks sticks form before after NoMemory cause = cause
 with_sticks sticks form before after (BadOrder place) cause = cause
 with_sticks sticks form before after TooManyFindings cause = cause
-with_sticks sticks form before after NotYet cause = cause
+with_sticks sticks form before after NotYet cause = absurd cause
 with_sticks sticks form before after (Stuck desk serial) cause = absurd cause.0

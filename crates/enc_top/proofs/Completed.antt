@@ -1,8 +1,9 @@
 -- Good input files leave no refusal, and what is left in OUT is read back.
-use Rattle.std.proofs.Common.{◌≡◌, ◌⊎◌, inl, inr, ℕ, ◌+◌, ◌<◌, ◌≤◌, ◌^◌, Bool, true, false, List, [], ◌∷◌, length, Option, Some, None, Ok, Err, codes, cond, refl, sym, ap, subst, arith}
+use Rattle.std.proofs.Common.{◌≡◌, ◌⊎◌, inl, inr, ℕ, ◌+◌, ◌<◌, ◌≤◌, ◌^◌, Bool, true, false, List, [], ◌∷◌, length, map, Option, Some, None, Ok, Err, codes, cond, refl, sym, ap, ◌∙◌, subst, arith}
 use Rattle.std.specs.Prelude.{count_by, nat_lt, slice_index_or}
 use Rattle.std.proofs.lemmas.Bool.Decides.{nat_tests}
 use Rattle.std.proofs.lemmas.List.{length-map}
+use Rattle.cell_make.specs.GeneratedCell.{generated_cell}
 use Rattle.enc_outside.specs.Files.{Files, Told}
 use Rattle.file_spec.specs.EncodedCell.{encoded_cell}
 use Rattle.history_spec.specs.ReportText.{final_cell}
@@ -14,10 +15,10 @@ use Rattle.text_spec.specs.declared.command.Command.{Command}
 use Rattle.order_text.proofs.OrderLines.{order_of-line}
 use Rattle.enc_top.specs.Complete.{AreGood, AreGoodScripts, IsComplete, IsGoodCell, IsGoodOrder, IsGoodScript, IsThere}
 use Rattle.room_laws.specs.Orders.{quotas_of}
-use Rattle.enc_top.specs.Inputs.{CellIs, FileIs, OrderIs, OutputIs, RoomIs, ScriptIs, ScriptsAre, cell_limit, order_in, order_limit, script_limit}
-use Rattle.enc_top.specs.Outcome.{AreWritten, IsCause, IsCauseOf, IsExact, IsExpected, IsFormReadBack, IsOutReadBack, IsReadBackFrom, IsReplayOf, IsRoomOf, IsRoomReadBack, Outside}
-use Rattle.enc_top.specs.Task.{Task, check_task, run_task}
-use Rattle.enc_top.specs.Words.{Form, check_among, check_form, form_of, is_between, is_later_form, is_word, later_form, no_form, replay_among, replay_form, room_among, room_form}
+use Rattle.enc_top.specs.Inputs.{AreScripts, CellIs, FileIs, OrderIs, OutputIs, RoomIs, ScriptIs, ScriptsAre, cell_limit, drill_answer, order_in, order_limit, script_limit}
+use Rattle.enc_top.specs.Outcome.{AreWritten, IsCause, IsCauseOf, IsExact, IsExpected, IsFormReadBack, IsMadeReadBack, IsMakeOf, IsOutReadBack, IsReadBackFrom, IsReplayOf, IsRoomOf, IsRoomReadBack, Outside}
+use Rattle.enc_top.specs.Task.{Task, check_task, drill_task, make_task, run_task}
+use Rattle.enc_top.specs.Words.{Form, check_among, check_form, drill_among, drill_form, drill_of, form_of, is_between, is_word, make_among, make_form, make_of, no_form, number_up_to, replay_among, replay_form, room_among, room_form}
 use Rattle.report_text.specs.declared.status.Status.{Status}
 use Rattle.report_text.specs.declared.status.Status.TheVariants.{Done, Usage, Absent, BadCell, BadScript, ReadFault, WriteFault, TooLarge, NoMemory, BadOrder, Stuck, TooManyFindings, NotYet}
 use Rattle.enc_top.proofs.OneAnswer.{apart, ok_not_err, one_cell, one_output, one_scripts}
@@ -47,7 +48,8 @@ abbrev FewScripts : Form → Type 0
 FewScripts (check_form cell) = Unit {0}
 FewScripts (replay_form cell out order scripts) = length scripts ≤ 16
 FewScripts (room_form cell out scripts) = Unit {0}
-FewScripts later_form = Unit {0}
+FewScripts (make_form n out) = Unit {0}
+FewScripts (drill_form n sessions) = Unit {0}
 FewScripts no_form = Unit {0}
 
 few_by : (b : Bool) (x y : Form) → FewScripts x → FewScripts y → FewScripts (cond b x y)
@@ -78,16 +80,40 @@ few_roomed [] = tt
 few_roomed (a ∷ []) = tt
 few_roomed (a ∷ b ∷ rest) = few_by_count (is_between 1 16 (length rest)) a b rest
 
+few_made_of : (out : List ℕ) (n : Option ℕ) → FewScripts (make_of out n)
+few_made_of out None = tt
+few_made_of out (Some n) = tt
+
+few_made : (others : List (List ℕ)) → FewScripts (make_among others)
+few_made [] = tt
+few_made (a ∷ []) = tt
+few_made (a ∷ b ∷ []) = few_made_of b (number_up_to 100 a)
+few_made (a ∷ b ∷ d ∷ rest) = tt
+
+few_drilled_of : (n sessions : Option ℕ) → FewScripts (drill_of n sessions)
+few_drilled_of None sessions = tt
+few_drilled_of (Some n) None = tt
+few_drilled_of (Some n) (Some sessions) = tt
+
+few_drilled : (others : List (List ℕ)) → FewScripts (drill_among others)
+few_drilled [] = tt
+few_drilled (a ∷ []) = tt
+few_drilled (a ∷ b ∷ []) = few_drilled_of (number_up_to 100 a) (number_up_to 16 b)
+few_drilled (a ∷ b ∷ d ∷ rest) = tt
+
 few_scripts : (words : List (List ℕ)) → FewScripts (form_of words)
 unfolding form_of
 few_scripts [] = tt
 few_scripts (first ∷ others) =
-    let later = cond (is_later_form (first ∷ others)) later_form no_form in
-    let replayed = cond (is_word (codes "replay") first) (replay_among others) later in
+    let drilled = cond (is_word (codes "drill") first) (drill_among others) no_form in
+    let made = cond (is_word (codes "make") first) (make_among others) drilled in
+    let replayed = cond (is_word (codes "replay") first) (replay_among others) made in
     let checked = cond (is_word (codes "check") first) (check_among others) replayed in
     few_by (is_word (codes "room") first) (room_among others) checked (few_roomed others)
     (few_by (is_word (codes "check") first) (check_among others) replayed (few_checked others)
-    (few_by (is_word (codes "replay") first) (replay_among others) later (few_replayed others) (few_by (is_later_form (first ∷ others)) later_form no_form tt tt)))
+    (few_by (is_word (codes "replay") first) (replay_among others) made (few_replayed others)
+    (few_by (is_word (codes "make") first) (make_among others) drilled (few_made others)
+    (few_by (is_word (codes "drill") first) (drill_among others) no_form (few_drilled others) tt))))
 
 -- ---- good files ask for a task
 few_quotas : (names : List (List ℕ)) (commands : List (List Command)) → length names ≤ 16 → length commands ≡ length names → length (quotas_of commands) < 2 ^ 32
@@ -98,8 +124,12 @@ abbrev IsSteady : Form → Files → Type 0
 IsSteady (check_form cell) files = AreGood (check_form cell) files
 IsSteady (replay_form cell out order scripts) files = AreGood (replay_form cell out order scripts) files
 IsSteady (room_form cell out scripts) files = ⊥
-IsSteady later_form files = ⊥
+IsSteady (make_form n out) files = AreGood (make_form n out) files
+IsSteady (drill_form n sessions) files = AreGood (drill_form n sessions) files
 IsSteady no_form files = ⊥
+
+pub drilled : (n sessions : ℕ) → finding_total (generated_cell n) ≤ finding_limit → drill_answer n sessions ≡ Ok (drill_task n sessions)
+drilled n sessions few = rw (not_above finding_limit (finding_total (generated_cell n)) few) refl
 
 good_output : (form : Form) (files : Files) → FewScripts form → IsSteady form files → (task : Task) × OutputIs form files (Ok task)
 good_output (check_form cell) files few good = (check_task good.start, inl (good.start, cell_is cell files good, refl))
@@ -119,7 +149,8 @@ good_output (replay_form cell out order scripts) files few good =
       ),
     )
 good_output (room_form cell out scripts) files few good = absurd good
-good_output later_form files few good = absurd good
+good_output (make_form n out) files few good = (make_task n out, refl)
+good_output (drill_form n sessions) files few good = (drill_task n sessions, sym (drilled n sessions good))
 good_output no_form files few good = absurd good
 
 -- a status that is asked for beside a task is Done
@@ -170,7 +201,8 @@ expected_done form files status few good (inr none) = inr none
 expected_done (check_form cell) files status few good (inl is) = inl (good_done (check_form cell) files status few good is)
 expected_done (replay_form cell out order scripts) files status few good (inl is) = inl (good_done (replay_form cell out order scripts) files status few good is)
 expected_done (room_form cell out scripts) files status few good (inl is) = inl (room_done cell out scripts files status good is)
-expected_done later_form files status few good (inl is) = absurd good
+expected_done (make_form n out) files status few good (inl is) = inl (good_done (make_form n out) files status few good is)
+expected_done (drill_form n sessions) files status few good (inl is) = inl (good_done (drill_form n sessions) files status few good is)
 expected_done no_form files status few good (inl is) = absurd good
 
 pub complete_from_exact : (sticks : Type 0) (words : List (List ℕ)) (before after : Outside) (status : Status) → IsExact sticks words before after status → IsComplete sticks words before after status
@@ -217,6 +249,13 @@ room_read_back cell out scripts task (Some fs) (Some gs) run written =
       decoded = run.run.run.read_back;
     }
 
+made_read_back : (n : ℕ) (out : List ℕ) (task : Task) (a b : Option Files) → IsMakeOf n out task → AreWritten task.file a b → Told (λ old new. IsMadeReadBack n out new) a b
+made_read_back n out task None b made written = tt
+made_read_back n out task (Some fs) None made written = tt
+made_read_back n out task (Some fs) (Some gs) made written =
+    let wrote = subst (λ (t : Task). AreWritten t.file (Some fs) (Some gs)) made.is written in
+    record { bytes = encoded_cell (generated_cell n); there = wrote.written; decoded = made.read_back }
+
 nothing_left : (a b : Option Files) → Told (λ old new. Unit {0}) a b
 nothing_left None b = tt
 nothing_left (Some fs) None = tt
@@ -226,7 +265,8 @@ form_read_back : (sticks : Type 0) (form : Form) (before after : Outside) → Is
 form_read_back sticks (check_form cell) before after cause = nothing_left before.files after.files
 form_read_back sticks (replay_form cell out order scripts) before after cause = out_read_back cell out order scripts cause.0 before.files after.files cause.1 cause.3.files
 form_read_back sticks (room_form cell out scripts) before after cause = room_read_back cell out scripts cause.0 before.files after.files cause.1 cause.3.files
-form_read_back sticks later_form before after cause = nothing_left before.files after.files
+form_read_back sticks (make_form n out) before after cause = made_read_back n out cause.0 before.files after.files cause.1 cause.3.files
+form_read_back sticks (drill_form n sessions) before after cause = nothing_left before.files after.files
 form_read_back sticks no_form before after cause = nothing_left before.files after.files
 
 pub read_back_from_cause : (sticks : Type 0) (words : List (List ℕ)) (before after : Outside) (status : Status) → IsCause sticks words before after status → IsReadBackFrom words before after status

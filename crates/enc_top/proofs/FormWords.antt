@@ -3,7 +3,8 @@ use Rattle.std.proofs.Common.{◌≡◌, ℕ, ◌-◌, ◌<◌, ◌≤◌, take,
 use Rattle.std.specs.Prelude.{codes, nat_le}
 use Rattle.std.proofs.lemmas.Bool.Decides.{nat_tests}
 use Rattle.std.proofs.lemmas.List.{length-drop, length-map}
-use Rattle.enc_top.specs.Words.{begins_with_room, check_among, check_form, form_of, is_between, is_later_form, is_word, later_form, no_form, replay_among, replay_form, room_among, room_form}
+use Rattle.enc_top.specs.Words.{begins_with_room, check_among, check_form, drill_among, drill_of, form_of, is_between, is_word, make_among, make_of, no_form, number_up_to, replay_among, replay_form, room_among, room_form}
+use Rattle.enc_top.proofs.WordLists.{two_words}
 
 -- the words behind the first ones
 pub behind : (n : ℕ) (words : List (String Global)) → take (length words - n) (drop n words) ≡ drop n words
@@ -78,17 +79,18 @@ module _ (words : List (String Global)) (first : String Global) (others : List (
     unfolding form_of
     run_words check replay = ap form_of (split words first others some is are) ∙ (rw (room, check, replay) refl)
 
-    pub later_words : is_word (codes "check") (string_bytes first) ≡ false → is_word (codes "replay") (string_bytes first) ≡ false → is_later_form (map string_bytes words) ≡ true → form_of (map string_bytes words) ≡ later_form
+    pub made_words : is_word (codes "check") (string_bytes first) ≡ false → is_word (codes "replay") (string_bytes first) ≡ false → is_word (codes "make") (string_bytes first) ≡ true → form_of (map string_bytes words) ≡ make_among (map string_bytes others)
     unfolding form_of
-    later_words check replay later =
-        ap form_of (split words first others some is are)
-        ∙ (let test : is_later_form (string_bytes first ∷ map string_bytes others) ≡ true = ap is_later_form (sym (split words first others some is are)) ∙ later in rw (room, check, replay, test) refl)
+    made_words check replay make = ap form_of (split words first others some is are) ∙ (rw (room, check, replay, make) refl)
 
-    pub other_words : is_word (codes "check") (string_bytes first) ≡ false → is_word (codes "replay") (string_bytes first) ≡ false → is_later_form (map string_bytes words) ≡ false → form_of (map string_bytes words) ≡ no_form
-    unfolding form_of
-    other_words check replay later =
-        ap form_of (split words first others some is are)
-        ∙ (let test : is_later_form (string_bytes first ∷ map string_bytes others) ≡ false = ap is_later_form (sym (split words first others some is are)) ∙ later in rw (room, check, replay, test) refl)
+    module _ (check : is_word (codes "check") (string_bytes first) ≡ false) (replay : is_word (codes "replay") (string_bytes first) ≡ false) (make : is_word (codes "make") (string_bytes first) ≡ false) where
+      pub drilled_words : is_word (codes "drill") (string_bytes first) ≡ true → form_of (map string_bytes words) ≡ drill_among (map string_bytes others)
+      unfolding form_of
+      drilled_words drill = ap form_of (split words first others some is are) ∙ (rw (room, check, replay, make, drill) refl)
+
+      pub other_words : is_word (codes "drill") (string_bytes first) ≡ false → form_of (map string_bytes words) ≡ no_form
+      unfolding form_of
+      other_words drill = ap form_of (split words first others some is are) ∙ (rw (room, check, replay, make, drill) refl)
 
 pub no_words : (words : List (String Global)) → length words < 1 → form_of (map string_bytes words) ≡ no_form
 unfolding form_of
@@ -127,33 +129,33 @@ wrong_room_count (a ∷ b ∷ d ∷ rest) names begins many are other =
     ∙ ap (λ t. cond t (room_form (string_bytes b) (string_bytes d) (map string_bytes rest)) no_form)
     (not_between (length (map string_bytes rest)) (λ low high. other (omega (arith, low, count)) (omega (arith, high, count))))
 
--- ---- words behind `check` and `replay` are of no later form
-pub check_not_later : (others : List (List ℕ)) → check_among others ≡ later_form → ⊥
-check_not_later [] is = cc (is)
-check_not_later (a ∷ []) is = cc (is)
-check_not_later (a ∷ b ∷ rest) is = cc (is)
+-- ---- the words behind `make` and `drill`
+pub fewer_made : (others : List (String Global)) → length others < 2 → make_among (map string_bytes others) ≡ no_form
+fewer_made [] few = refl
+fewer_made (a ∷ []) few = refl
+fewer_made (a ∷ b ∷ rest) few = absurd (omega (arith, few))
 
-run_by : (b : Bool) (cell out order : List ℕ) (scripts : List (List ℕ)) → cond b (replay_form cell out order scripts) no_form ≡ later_form → ⊥
-run_by true cell out order scripts is = cc (is)
-run_by false cell out order scripts is = cc (is)
+pub more_made : (others : List (String Global)) → 3 ≤ length others → make_among (map string_bytes others) ≡ no_form
+more_made [] many = absurd (omega (arith, many))
+more_made (a ∷ []) many = absurd (omega (arith, many))
+more_made (a ∷ b ∷ []) many = absurd (omega (arith, many))
+more_made (a ∷ b ∷ d ∷ rest) many = refl
 
-pub run_not_later : (others : List (List ℕ)) → replay_among others ≡ later_form → ⊥
-run_not_later [] is = cc (is)
-run_not_later (a ∷ []) is = cc (is)
-run_not_later (a ∷ b ∷ []) is = cc (is)
-run_not_later (a ∷ b ∷ d ∷ rest) is = run_by (is_between 1 16 (length rest)) a b d rest is
+pub two_made : (others : List (String Global)) (size out : String Global) → length others ≡ 2 → size ≡ get_or others 0 size → out ≡ get_or others 1 out
+    → make_among (map string_bytes others) ≡ make_of (string_bytes out) (number_up_to 100 (string_bytes size))
+two_made others size out two is_size is_out = ap make_among (two_words others size out two is_size is_out)
 
-room_by : (b : Bool) (cell out : List ℕ) (scripts : List (List ℕ)) → cond b (room_form cell out scripts) no_form ≡ later_form → ⊥
-room_by true cell out scripts is = cc (is)
-room_by false cell out scripts is = cc (is)
+pub fewer_drilled : (others : List (String Global)) → length others < 2 → drill_among (map string_bytes others) ≡ no_form
+fewer_drilled [] few = refl
+fewer_drilled (a ∷ []) few = refl
+fewer_drilled (a ∷ b ∷ rest) few = absurd (omega (arith, few))
 
-room_not_later : (others : List (List ℕ)) → room_among others ≡ later_form → ⊥
-room_not_later [] is = cc (is)
-room_not_later (a ∷ []) is = cc (is)
-room_not_later (a ∷ b ∷ rest) is = room_by (is_between 1 16 (length rest)) a b rest is
+pub more_drilled : (others : List (String Global)) → 3 ≤ length others → drill_among (map string_bytes others) ≡ no_form
+more_drilled [] many = absurd (omega (arith, many))
+more_drilled (a ∷ []) many = absurd (omega (arith, many))
+more_drilled (a ∷ b ∷ []) many = absurd (omega (arith, many))
+more_drilled (a ∷ b ∷ d ∷ rest) many = refl
 
--- words that begin with `room` are of no later form
-pub room_is_built : (words : List (List ℕ)) → begins_with_room words ≡ true → form_of words ≡ later_form → ⊥
-unfolding form_of
-room_is_built [] begins is = cc (is)
-room_is_built (first ∷ others) begins is = room_not_later others (sym (rw begins refl) ∙ is)
+pub two_drilled : (others : List (String Global)) (size sessions : String Global) → length others ≡ 2 → size ≡ get_or others 0 size → sessions ≡ get_or others 1 sessions
+    → drill_among (map string_bytes others) ≡ drill_of (number_up_to 100 (string_bytes size)) (number_up_to 16 (string_bytes sessions))
+two_drilled others size sessions two is_size is_sessions = ap drill_among (two_words others size sessions two is_size is_sessions)

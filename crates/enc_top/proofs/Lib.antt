@@ -7,5 +7,6 @@ pub mod Causes
 pub mod FormWords
 pub mod OneAnswer
 pub mod Completed
+pub mod GeneratedWork
 mod Reports
 mod RoomAnswers

@@ -11,7 +11,7 @@ use Rattle.text_spec.specs.declared.command.Command.{Command}
 use Rattle.room_laws.specs.Orders.{quotas_of}
 use Rattle.enc_top.specs.Inputs.{AndThen, AreOneAnswer, AreScripts, CellIs, FileIs, IsFirstBad, OrderIs, OrderedRunIs, OutputIs, RoomIs, RunIs, ScriptIn, ScriptIs, ScriptsAre, cell_limit, order_limit, script_limit}
 use Rattle.enc_top.specs.Task.{Task}
-use Rattle.enc_top.specs.Words.{Form, check_form, later_form, no_form, replay_form, room_form}
+use Rattle.enc_top.specs.Words.{Form, check_form, drill_form, make_form, no_form, replay_form, room_form}
 use Rattle.report_text.specs.declared.status.Status.{Status}
 use Rattle.report_text.specs.declared.status.Status.TheVariants.{Done, Usage, Absent, BadCell, BadScript, ReadFault, WriteFault, TooLarge, NoMemory, BadOrder, Stuck, TooManyFindings, NotYet}
 
@@ -151,7 +151,8 @@ one_output (room_form cell out scripts) files = λ x y p q.
     as_one cell out scripts x y
     (same_then (CellIs cell files) (λ c. RoomIs c out scripts files) (one_cell cell files)
     (λ c. same_then (ScriptsAre scripts files) _ (one_scripts scripts files) (λ commands a b r t. both_reports a b _ _ r.2 t.2)) x y p q)
-one_output later_form files = λ x y p q. p ∙ sym q
+one_output (make_form n out) files = λ x y p q. p ∙ sym q
+one_output (drill_form n sessions) files = λ x y p q. p ∙ sym q
 one_output no_form files = λ x y p q. p ∙ sym q
 
 -- a report is no refusal
@@ -159,5 +160,6 @@ pub apart : (form : Form) (task : Task) (status : Status) → AreOneAnswer form 
 apart (check_form cell) task status same = ok_not_err task status same
 apart (replay_form cell out order scripts) task status same = ok_not_err task status same
 apart (room_form cell out scripts) task status same = ok_not_err task status same
-apart later_form task status same = ok_not_err task status same
+apart (make_form n out) task status same = ok_not_err task status same
+apart (drill_form n sessions) task status same = ok_not_err task status same
 apart no_form task status same = ok_not_err task status same

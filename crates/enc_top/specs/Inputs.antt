@@ -1,6 +1,7 @@
 -- What input files are, or why a call ends there. A relation tells what a step answers where nothing fails. This project's own.
 use mathlib.Core.List.{IsPrefix}
 use Rattle.std.specs.Prelude.{◌≡◌, ◌⊎◌, ℕ, ◌+◌, ◌<◌, nat_lt, List, [], length, slice_index_or, Option, None, Some, Result, Ok, Err, IfSome, if◌then◌else◌}
+use Rattle.cell_make.specs.GeneratedCell.{generated_cell}
 use Rattle.enc_outside.specs.Count.{Rose}
 use Rattle.enc_outside.specs.Files.{Files}
 use Rattle.export_laws.specs.DecodedTypes.{AreFileBytes}
@@ -15,8 +16,8 @@ use Rattle.room_laws.specs.Orders.{quotas_of}
 use Rattle.script_text.specs.Faults.{IsFirstFault}
 use Rattle.text_spec.specs.declared.command.Command.{Command}
 use Rattle.history_spec.specs.Steps.{finding_limit}
-use Rattle.enc_top.specs.Task.{Task, check_task, run_task}
-use Rattle.enc_top.specs.Words.{Form, check_form, replay_form, room_form, later_form, no_form}
+use Rattle.enc_top.specs.Task.{Task, check_task, drill_task, make_task, run_task}
+use Rattle.enc_top.specs.Words.{Form, check_form, replay_form, room_form, make_form, drill_form, no_form}
 use Rattle.report_text.specs.declared.status.Status.{Status}
 use Rattle.report_text.specs.declared.status.Status.TheVariants.{Done, Usage, Absent, BadCell, BadScript, ReadFault, WriteFault, TooLarge, NoMemory, BadOrder, Stuck, TooManyFindings, NotYet}
 
@@ -103,12 +104,18 @@ RunIs c out order scripts files = AndThen (ScriptsAre scripts files) (λ command
 abbrev pub RoomIs : Cell → List ℕ → List (List ℕ) → Files → Result Task Status → Type 0
 RoomIs c out scripts files = AndThen (ScriptsAre scripts files) (λ commands answer. (sessions : List ℕ) × IsOrder (quotas_of commands) sessions × (answer ≡ Ok (run_task c out commands sessions)))
 
--- what is done: the text of the cell is put, or the report of the run, and then the cell that is left is written
+-- a drill, where the generated cell has not too many findings
+abbrev pub drill_answer : ℕ → ℕ → Result Task Status
+drill_answer n sessions = if nat_lt finding_limit (finding_total (generated_cell n)) then Err TooManyFindings else Ok (drill_task n sessions)
+
+-- what is done: the text of the cell is put, or the report of the run, and then the cell that is left is written; the generated cell and the drill
+-- on it are told by a line
 abbrev pub OutputIs : Form → Files → Result Task Status → Type 0
 OutputIs (check_form cell) files = AndThen (CellIs cell files) (λ c answer. answer ≡ Ok (check_task c))
 OutputIs (replay_form cell out order scripts) files = AndThen (CellIs cell files) (λ c. RunIs c out order scripts files)
 OutputIs (room_form cell out scripts) files = AndThen (CellIs cell files) (λ c. RoomIs c out scripts files)
-OutputIs later_form files = λ answer. answer ≡ Err NotYet
+OutputIs (make_form n out) files = λ answer. answer ≡ Ok (make_task n out)
+OutputIs (drill_form n sessions) files = λ answer. answer ≡ drill_answer n sessions
 OutputIs no_form files = λ answer. answer ≡ Err Usage
 
 -- two answers to what words and files ask for are one; of sessions in threads, two reports may be in different orders
@@ -170,7 +177,8 @@ abbrev pub IsReached : Form → Files → List ℕ → Type 0
 IsReached (check_form cell) files name = name ≡ cell
 IsReached (replay_form cell out order scripts) files name = (name ≡ cell) ⊎ ((c : Cell) × CellIs cell files (Ok c) × IsReachedInRun order scripts files name)
 IsReached (room_form cell out scripts) files name = (name ≡ cell) ⊎ ((c : Cell) × CellIs cell files (Ok c) × IsReachedScript scripts files name)
-IsReached later_form files name = ⊥
+IsReached (make_form n out) files name = ⊥
+IsReached (drill_form n sessions) files name = ⊥
 IsReached no_form files name = ⊥
 
 -- what a step's answer tells, with what it gave seen through a function: where the files are told, the relation of the step
@@ -210,7 +218,8 @@ abbrev pub IsInputOf : Form → List ℕ → Type 0
 IsInputOf (check_form cell) name = name ≡ cell
 IsInputOf (replay_form cell out order scripts) name = (name ≡ cell) ⊎ ((name ≡ order) ⊎ IsAmong scripts name)
 IsInputOf (room_form cell out scripts) name = (name ≡ cell) ⊎ IsAmong scripts name
-IsInputOf later_form name = ⊥
+IsInputOf (make_form n out) name = ⊥
+IsInputOf (drill_form n sessions) name = ⊥
 IsInputOf no_form name = ⊥
 
 -- an answer of a judging step: the expected one, or want of memory

@@ -2,7 +2,9 @@
 use Rattle.std.specs.Prelude.{◌≡◌, ◌⊎◌, ℕ, ◌≤◌, List, length, count_by, Option, None, Some, Result, Ok, Err, IfSome}
 use Rattle.enc_outside.specs.Count.{Rose}
 use Rattle.enc_outside.specs.Files.{Files, Told, Writes}
+use Rattle.cell_make.specs.GeneratedCell.{generated_cell}
 use Rattle.file_spec.specs.DecodedCell.{decoded_cell}
+use Rattle.file_spec.specs.EncodedCell.{encoded_cell}
 use Rattle.history_spec.specs.ReportText.{final_cell}
 use Rattle.s57_types.specs.declared.cell.Cell.{Cell}
 use Rattle.history_spec.specs.Sessions.{script_of}
@@ -10,10 +12,10 @@ use Rattle.text_spec.specs.OrderLine.{IsOrder}
 use Rattle.text_spec.specs.ScriptLines.{is_shared}
 use Rattle.text_spec.specs.declared.command.Command.{Command}
 use Rattle.room_laws.specs.Orders.{quotas_of}
-use Rattle.enc_top.specs.Inputs.{CellIs, IsInputOf, IsReached, IsRoomRun, IsRunOf, OrderIs, OutputIs, ScriptsAre}
+use Rattle.enc_top.specs.Inputs.{CellIs, IsInputOf, IsReached, IsRoomRun, IsRunOf, OrderIs, OutputIs, ScriptsAre, drill_answer}
 use Rattle.enc_top.specs.Output.{Adds, AddsFront, IsBegun}
-use Rattle.enc_top.specs.Task.{Task, check_task, task_of}
-use Rattle.enc_top.specs.Words.{Form, check_form, replay_form, room_form, later_form, no_form, form_of}
+use Rattle.enc_top.specs.Task.{Task, check_task, make_task, task_of}
+use Rattle.enc_top.specs.Words.{Form, check_form, replay_form, room_form, make_form, drill_form, no_form, form_of}
 use Rattle.report_text.specs.declared.status.Status.{Status}
 use Rattle.report_text.specs.declared.status.Status.TheVariants.{Done, Usage, Absent, BadCell, BadScript, ReadFault, WriteFault, TooLarge, NoMemory, BadOrder, Stuck, TooManyFindings, NotYet}
 use Rattle.enc_top.specs.declared.work.Work.{Work}
@@ -30,12 +32,13 @@ abbrev pub outside : Option Files → ℕ → ℕ → Option (List ℕ) → ℕ 
 outside files read_faults write_faults written put_faults =
     record { files = files; read_faults = read_faults; write_faults = write_faults; written = written; put_faults = put_faults }
 
--- the form is one that is built
+-- the words are in one of the forms
 abbrev pub IsBuilt : Form → Type 0
 IsBuilt (check_form cell) = Unit {0}
 IsBuilt (replay_form cell out order scripts) = Unit {0}
 IsBuilt (room_form cell out scripts) = Unit {0}
-IsBuilt later_form = ⊥
+IsBuilt (make_form n out) = Unit {0}
+IsBuilt (drill_form n sessions) = Unit {0}
 IsBuilt no_form = ⊥
 
 -- the text of a cell, where the files are told that of the file
@@ -56,12 +59,18 @@ pub record IsRoomOf (cell out : List ℕ) (scripts : List (List ℕ)) (files : O
   pub told : IfSome files (λ fs. CellIs cell fs (Ok start))
   pub run : IsRoomRun start out scripts files task
 
+-- the line of a generated cell, whose file is read as that cell
+pub record IsMakeOf (n : ℕ) (out : List ℕ) (task : Task) : Type 0 where
+  pub is : task ≡ make_task n out
+  pub read_back : decoded_cell (encoded_cell (generated_cell n)) ≡ Ok (generated_cell n)
+
 -- what the form may do: put the text of a cell, or the report of scripts on a cell in an order and then write the cell that is left
 abbrev pub IsOutput : Form → Option Files → Task → Type 0
 IsOutput (check_form cell) files task = IsCheckOf cell files task
 IsOutput (replay_form cell out order scripts) files task = IsReplayOf cell out order scripts files task
 IsOutput (room_form cell out scripts) files task = IsRoomOf cell out scripts files task
-IsOutput later_form files task = ⊥
+IsOutput (make_form n out) files task = IsMakeOf n out task
+IsOutput (drill_form n sessions) files task = drill_answer n sessions ≡ Ok task
 IsOutput no_form files task = ⊥
 
 -- where the files are told, this is what they ask for
@@ -73,7 +82,7 @@ pub record IsSilent (before after : Outside) : Type 0 where
   pub written : after.written ≡ before.written
   pub files : after.files ≡ before.files
 
--- a built form whose files end the call so, before anything is written
+-- a form whose files end the call so, before anything is written
 abbrev pub IsRefused : Form → Outside → Outside → Status → Type 0
 IsRefused form before after status = IsBuilt form × IsSilent before after × IsAsked before form (Err status)
 
@@ -133,7 +142,7 @@ IsCauseOf sticks form before after (TooLarge name) = IsInputOf form name × IsRe
 IsCauseOf sticks form before after NoMemory = IsBuilt form × IsSilent before after
 IsCauseOf sticks form before after (BadOrder place) = IsRefused form before after (BadOrder place)
 IsCauseOf sticks form before after TooManyFindings = IsRefused form before after TooManyFindings
-IsCauseOf sticks form before after NotYet = (form ≡ later_form) × IsSilent before after
+IsCauseOf sticks form before after NotYet = ⊥
 IsCauseOf sticks form before after (Stuck desk serial) = sticks × IsSilent before after × IsStuckAt form before.files desk serial
 
 abbrev pub IsCause : Type 0 → List (List ℕ) → Outside → Outside → Status → Type 0
@@ -177,9 +186,16 @@ pub record IsRoomReadBack (cell out : List ℕ) (scripts : List (List ℕ)) (old
   pub there : new out ≡ Some bytes
   pub decoded : decoded_cell bytes ≡ Ok (final_cell start commands sessions)
 
+-- the same of a generated cell
+pub record IsMadeReadBack (n : ℕ) (out : List ℕ) (new : Files) : Type 0 where
+  pub bytes : List ℕ
+  pub there : new out ≡ Some bytes
+  pub decoded : decoded_cell bytes ≡ Ok (generated_cell n)
+
 abbrev pub IsFormReadBack : Form → Files → Files → Type 0
 IsFormReadBack (replay_form cell out order scripts) old new = IsOutReadBack cell out order scripts old new
 IsFormReadBack (room_form cell out scripts) old new = IsRoomReadBack cell out scripts old new
+IsFormReadBack (make_form n out) old new = IsMadeReadBack n out new
 IsFormReadBack other old new = Unit {0}
 
 abbrev pub IsReadBackFrom : List (List ℕ) → Outside → Outside → Status → Type 0
@@ -197,7 +213,6 @@ IsAskedBy sticks form files before after (Err (BadScript session line code)) = I
 IsAskedBy sticks form files before after (Err (TooLarge name)) = IsInputOf form name × IsBuilt form × IfSome files (λ fs. OutputIs form fs (Err (TooLarge name)))
 IsAskedBy sticks form files before after (Err (BadOrder place)) = IsBuilt form × IfSome files (λ fs. OutputIs form fs (Err (BadOrder place)))
 IsAskedBy sticks form files before after (Err TooManyFindings) = IsBuilt form × IfSome files (λ fs. OutputIs form fs (Err TooManyFindings))
-IsAskedBy sticks form files before after (Err NotYet) = form ≡ later_form
 IsAskedBy sticks form files before after (Err (Stuck desk serial)) = sticks × IsStuckAt form files desk serial
 IsAskedBy sticks form files before after (Err other) = ⊥
 

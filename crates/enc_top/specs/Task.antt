@@ -1,6 +1,9 @@
 -- What a call does once its input is read. This project's own.
-use Rattle.std.specs.Prelude.{ℕ, List, Option, None, Some, string_bytes}
+use Rattle.std.specs.Prelude.{ℕ, List, length, Option, None, Some, string_bytes}
 use Rattle.std.specs.Option.{option_map}
+use Rattle.cell_make.specs.GeneratedCell.{generated_cell}
+use Rattle.drill_run.specs.Drills.{drill_counts}
+use Rattle.drill_run.specs.DrillText.{drill_line, made_line}
 use Rattle.file_spec.specs.EncodedCell.{encoded_cell}
 use Rattle.history_spec.specs.ReportText.{final_cell, report}
 use Rattle.s57_types.specs.declared.cell.Cell.{Cell}
@@ -21,6 +24,17 @@ check_task c = record { text = cell_text c; file = None }
 -- the report of scripts on a cell in an order is put, and the cell that is left is written under a name
 abbrev pub run_task : Cell → List ℕ → List (List Command) → List ℕ → Task
 run_task c out commands sessions = record { text = report c commands sessions; file = Some (out, encoded_cell (final_cell c commands sessions)) }
+
+-- the line of the generated cell is put, and the cell is written under a name
+abbrev pub make_task : ℕ → List ℕ → Task
+make_task n out = record {
+  text = made_line (generated_cell n) (length (encoded_cell (generated_cell n)));
+  file = Some (out, encoded_cell (generated_cell n));
+}
+
+-- the line of a drill is put
+abbrev pub drill_task : ℕ → ℕ → Task
+drill_task n sessions = record { text = drill_line n sessions (drill_counts n sessions); file = None }
 
 abbrev pub file_of : Export → List ℕ × List ℕ
 file_of export = (string_bytes export.name, export.bytes.items)

@@ -1,6 +1,6 @@
 -- The forms of words of a call.
-use Rattle.std.specs.Prelude.{ℕ, ◌&&◌, Bool, false, nat_le, List, [], ◌∷◌, length, codes, nat_eq, if◌then◌else◌}
-use Rattle.std.specs.List.{list_any, range_with_len}
+use Rattle.std.specs.Prelude.{ℕ, ◌&&◌, Bool, false, nat_le, List, [], ◌∷◌, Option, None, Some, length, find, codes, nat_eq, if◌then◌else◌}
+use Rattle.std.specs.List.{range_with_len}
 use Rattle.std.specs.Cmp.Lexicographic.{pointwise}
 use Rattle.std.specs.Fmt.{decimal}
 
@@ -11,33 +11,20 @@ is_word word text = pointwise nat_eq text word
 abbrev pub is_written_as : List ℕ → ℕ → Bool
 is_written_as text n = pointwise nat_eq (decimal n) text
 
--- a number from 1 to a limit, decimal without leading zeros
-abbrev pub is_number_up_to : ℕ → List ℕ → Bool
-is_number_up_to limit text = list_any (is_written_as text) (range_with_len 1 limit)
+-- the number from 1 to a limit that a text is, decimal without leading zeros
+abbrev pub number_up_to : ℕ → List ℕ → Option ℕ
+number_up_to limit text = find (is_written_as text) (range_with_len 1 limit)
 
 abbrev pub is_between : ℕ → ℕ → ℕ → Bool
 is_between low high n = nat_le low n && nat_le n high
-
--- the words behind `make`: N OUT, and behind `drill`: N K
-abbrev pub is_make : List (List ℕ) → Bool
-is_make (n ∷ out ∷ []) = is_number_up_to 100 n
-is_make other = false
-
-abbrev pub is_drill : List (List ℕ) → Bool
-is_drill (n ∷ k ∷ []) = is_number_up_to 100 n && is_number_up_to 16 k
-is_drill other = false
-
--- the forms that aren't built yet: make N OUT, drill N K
-abbrev pub is_later_form : List (List ℕ) → Bool
-is_later_form [] = false
-is_later_form (first ∷ others) = if is_word (codes "make") first then is_make others else (is_word (codes "drill") first && is_drill others)
 
 -- what the words of a call ask for, with the names of files
 pub data Form : Type 0 where
   check_form : List ℕ → Form
   replay_form : (cell out order : List ℕ) → List (List ℕ) → Form
   room_form : (cell out : List ℕ) → List (List ℕ) → Form
-  later_form : Form
+  make_form : ℕ → (out : List ℕ) → Form
+  drill_form : (n sessions : ℕ) → Form
   no_form : Form
 
 -- the words behind `check`: CELL
@@ -55,6 +42,25 @@ abbrev pub room_among : List (List ℕ) → Form
 room_among (cell ∷ out ∷ scripts) = if is_between 1 16 (length scripts) then room_form cell out scripts else no_form
 room_among other = no_form
 
+-- the words behind `make`: N OUT with N from 1 to 100
+abbrev pub make_of : List ℕ → Option ℕ → Form
+make_of out None = no_form
+make_of out (Some n) = make_form n out
+
+abbrev pub make_among : List (List ℕ) → Form
+make_among (n ∷ out ∷ []) = make_of out (number_up_to 100 n)
+make_among other = no_form
+
+-- the words behind `drill`: N K with N from 1 to 100 and K from 1 to 16
+abbrev pub drill_of : Option ℕ → Option ℕ → Form
+drill_of None sessions = no_form
+drill_of (Some n) None = no_form
+drill_of (Some n) (Some sessions) = drill_form n sessions
+
+abbrev pub drill_among : List (List ℕ) → Form
+drill_among (n ∷ sessions ∷ []) = drill_of (number_up_to 100 n) (number_up_to 16 sessions)
+drill_among other = no_form
+
 -- the first word is `room`
 abbrev pub begins_with_room : List (List ℕ) → Bool
 begins_with_room [] = false
@@ -66,4 +72,5 @@ form_of (first ∷ others) =
     if is_word (codes "room") first then room_among others else
     (if is_word (codes "check") first then check_among others else
     (if is_word (codes "replay") first then replay_among others else
-    (if is_later_form (first ∷ others) then later_form else no_form)))
+    (if is_word (codes "make") first then make_among others else
+    (if is_word (codes "drill") first then drill_among others else no_form))))

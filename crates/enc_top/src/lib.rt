@@ -4,6 +4,7 @@
 mod input;
 mod inputs;
 mod law;
+mod made;
 mod output;
 mod room;
 mod top;

@@ -10,12 +10,13 @@ ghost use Rattle.enc_top.specs.Inputs.{IsAmong, IsCellOfFile, IsFile, IsInputSta
 ghost use Rattle.enc_top.specs.Inputs.{OrderedRunIs, RunIs, Tells};
 ghost use Rattle.enc_top.specs.Outcome.{IsAskedBy, IsCause, IsExact, IsReadBackFrom, outside};
 ghost use Rattle.enc_top.specs.Task.{run_task, task_of};
-ghost use Rattle.enc_top.specs.Words.{begins_with_room as spec_begins_with_room, check_among, form_of, later_form, no_form, replay_among};
+ghost use Rattle.enc_top.specs.Words.{begins_with_room as spec_begins_with_room, check_among, form_of, no_form, replay_among};
 
 use crate::inputs::{quotas_of, read_bench, read_cell, read_scripts, read_sessions};
+use crate::made::{drill, make};
 use crate::output::finish;
 use crate::room::asked_room;
-use crate::words::{begins_with_room, is_later_form};
+use crate::words::begins_with_room;
 use crate::work::{Work, work_of};
 use cell_bench::Bench;
 use cell_findings::push_cell;
@@ -31,8 +32,10 @@ use std::thread::Threads;
 
 /// Does what the words say: `check CELL` puts the numbers of records and all findings of the cell; `replay CELL OUT ORDER S1 .. Sk` puts the
 /// report of running k scripts on it in the order of the order file, and then writes the cell that is left as the file OUT;
-/// `room CELL OUT S1 .. Sk` does the same with each script in a thread of its own, in the order that comes about. The words are those after
-/// the program's name. `meet` is called before each view and commit of a session in a thread.
+/// `room CELL OUT S1 .. Sk` does the same with each script in a thread of its own, in the order that comes about; `make N OUT` puts the line
+/// of the generated cell of N rows of N squares, and then writes the cell as the file OUT; `drill N K` puts the line of the run of K generated
+/// scripts on that cell, the sessions in turn. The words are those after the program's name. `meet` is called before each view and commit of
+/// a session in a thread.
 ///
 /// Whatever order the threads take: of `room` the report that is put is that of one thread that does each session's commands, once and in
 /// order, in the order that the report's first line tells, and OUT is the file of the cell that this leaves.
@@ -57,7 +60,6 @@ pub fn run<R: Threads + Wait + Sync, H: Shelf, O: Sink, M: Meet + Sync>(
         (outside (H.files shelf.old) (H.read_faults shelf.old) (H.write_faults shelf.old) (O.written out.old) (O.faults out.old))
         (outside (H.files shelf.new) (H.read_faults shelf.new) (H.write_faults shelf.new) (O.written out.new) (O.faults out.new)) result }
     ensures usage { (result ≡ Status.Usage) ↔ (form_of (map string_bytes words.now) ≡ no_form) }
-    ensures later { form_of (map string_bytes words.now) ≡ later_form → (result ≡ Status.NotYet) × (shelf.new ≡ shelf.old) × (out.new ≡ out.old) }
     ensures write_faults { H.write_faults shelf.old ≤ H.write_faults shelf.new }
 {
     if begins_with_room(words) {
@@ -119,7 +121,6 @@ pub fn run_plain<R: Threads + Sync, H: Shelf, O: Sink>(
         (outside (H.files shelf.old) (H.read_faults shelf.old) (H.write_faults shelf.old) (O.written out.old) (O.faults out.old))
         (outside (H.files shelf.new) (H.read_faults shelf.new) (H.write_faults shelf.new) (O.written out.new) (O.faults out.new)) result }
     ensures usage { (result ≡ Status.Usage) ↔ (form_of (map string_bytes words.now) ≡ no_form) }
-    ensures later { form_of (map string_bytes words.now) ≡ later_form → (result ≡ Status.NotYet) × (shelf.new ≡ shelf.old) × (out.new ≡ out.old) }
     ensures write_faults { H.write_faults shelf.old ≤ H.write_faults shelf.new }
 {
     match asked_work(alloc, words, shelf) {
@@ -132,7 +133,6 @@ pub fn run_plain<R: Threads + Sync, H: Shelf, O: Sink>(
 fn asked_work<H: Shelf>(alloc: Global, words: &[String], shelf: &mut H) -> Result<Work, Status>
     requires { spec_begins_with_room (map string_bytes words.now) ≡ false }
     ensures asked { IsAskedBy ⊥ (form_of (map string_bytes words.now)) (H.files shelf.old) (H.read_faults shelf.old) (H.read_faults shelf.new) result }
-    ensures later { form_of (map string_bytes words.now) ≡ later_form → shelf.new ≡ shelf.old }
     ensures files { H.files shelf.new ≡ H.files shelf.old }
     ensures write_faults { H.write_faults shelf.new ≡ H.write_faults shelf.old }
 {
@@ -146,8 +146,11 @@ fn asked_work<H: Shelf>(alloc: Global, words: &[String], shelf: &mut H) -> Resul
     if first == "replay" {
         return run_scripts(alloc, others, shelf);
     }
-    if is_later_form(words) {
-        return Err(Status::NotYet);
+    if first == "make" {
+        return make(alloc, others);
+    }
+    if first == "drill" {
+        return drill(alloc, others);
     }
     Err(Status::Usage)
 }

@@ -1,12 +1,8 @@
-use Rattle.std.proofs.Common.{map, string_bytes, sym}
+use Rattle.std.proofs.Common.{map, string_bytes}
 use Rattle.enc_top.specs.Outcome.{outside}
 use Rattle.enc_top.specs.Words.{form_of}
 use Rattle.enc_top.proofs.Causes.{with_sticks}
-use Rattle.enc_top.proofs.FormWords.{room_is_built}
 use Rattle.enc_top.proofs.top.run.Goals as goal
-
-pub returns-then-begins_with_room-clause-later : goal.returns-then-begins_with_room-clause-later
-returns-then-begins_with_room-clause-later g c = λ later. absurd (room_is_built (map string_bytes c.args.words.now) (sym c.if-begins_with_room.ensures) later)
 
 pub returns-clause-cause : goal.returns-clause-cause
 returns-clause-cause g c =

@@ -1,0 +1,88 @@
+//! The generated cell, and the drill on it.
+
+ghost use Rattle.std.specs.Prelude.{◌≡◌, ◌≤◌, ◌∷◌, IfOk, List, Ok, Option, map, string_bytes, ℕ};
+ghost use Rattle.enc_outside.specs.Files.{Files};
+ghost use Rattle.enc_top.specs.Inputs.{IsJudged, drill_answer};
+ghost use Rattle.enc_top.specs.Outcome.{IsAskedBy, IsMakeOf};
+ghost use Rattle.enc_top.specs.Task.{task_of};
+ghost use Rattle.enc_top.specs.Words.{drill_among, make_among};
+
+use crate::words::number_up_to;
+use crate::work::{Export, Work};
+use cell_make::make_cell;
+use cell_write::write_cell;
+use drill_run::{DrillRefusal, push_drill, push_made};
+use file_spec::writable_cell_is_read_back;
+use report_text::Status;
+use std::alloc::{AllocError, Global};
+
+/// The greatest number of rows of squares in a generated cell.
+const SIZE_LIMIT: u32 = 100;
+
+/// How many sessions a drill may have.
+const SESSION_LIMIT: u32 = 16;
+
+/// The line of the generated cell that the words behind `make` ask for, and its file.
+pub(crate) fn make(alloc: Global, others: &[String]) -> Result<Work, Status>
+    ensures { (files : Option Files) (before after : ℕ) → IsAskedBy ⊥ (make_among (map string_bytes others.now)) files before after result }
+{
+    let [size, out] = others else {
+        return Err(Status::Usage);
+    };
+    let Some(size) = number_up_to(size.as_str(), SIZE_LIMIT) else {
+        return Err(Status::Usage);
+    };
+    Ok(made_work(alloc, size, out.as_str())?)
+}
+
+/// The line of a generated cell, and its file.
+fn made_work(alloc: Global, size: u32, out: &str) -> Result<Work, AllocError>
+    requires some { 1 ≤ size }
+    requires few { size ≤ 100 }
+    ensures { IfOk result (λ work. IsMakeOf size out.now (task_of work)) }
+{
+    let cell = make_cell(alloc, size)?;
+    writable_cell_is_read_back(&cell);
+    let bytes = write_cell(alloc, &cell)?;
+    let mut text = Vec::new(alloc);
+    push_made(alloc, &cell, bytes.len(), &mut text)?;
+    let name = String::from_str(alloc, out)?;
+    Ok(Work {
+        text,
+        export: Some(Export { name, bytes }),
+    })
+}
+
+/// The line of the drill that the words behind `drill` ask for.
+pub(crate) fn drill(alloc: Global, others: &[String]) -> Result<Work, Status>
+    ensures { (files : Option Files) (before after : ℕ) → IsAskedBy ⊥ (drill_among (map string_bytes others.now)) files before after result }
+{
+    let [size, sessions] = others else {
+        return Err(Status::Usage);
+    };
+    let Some(size) = number_up_to(size.as_str(), SIZE_LIMIT) else {
+        return Err(Status::Usage);
+    };
+    let Some(sessions) = number_up_to(sessions.as_str(), SESSION_LIMIT) else {
+        return Err(Status::Usage);
+    };
+    drilled_work(alloc, size, sessions)
+}
+
+/// The line of a drill.
+fn drilled_work(alloc: Global, size: u32, sessions: u32) -> Result<Work, Status>
+    requires some { 1 ≤ size }
+    requires few { size ≤ 100 }
+    requires one_session { 1 ≤ sessions }
+    requires sessions { sessions ≤ 16 }
+    ensures { IsJudged task_of (drill_answer size sessions) result }
+{
+    let drilled = match drill_run::drill(alloc, size, sessions) {
+        Ok(drilled) => drilled,
+        Err(DrillRefusal::TooManyFindings) => return Err(Status::TooManyFindings),
+        Err(DrillRefusal::NoMemory) => return Err(Status::NoMemory),
+    };
+    let mut text = Vec::new(alloc);
+    push_drill(alloc, size, sessions, &drilled, &mut text)?;
+    Ok(Work { text, export: None })
+}
