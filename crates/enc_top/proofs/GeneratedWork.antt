@@ -1,17 +1,25 @@
 -- What the words behind `make` and `drill` ask for.
-use Rattle.std.proofs.Common.{◌≡◌, ◌⊎◌, inl, inr, ℕ, Bool, true, false, List, Option, Some, None, Result, Ok, Err, cond, refl, sym, ap, ◌∙◌, subst}
+use Rattle.std.proofs.Common.{◌≡◌, ◌⊎◌, inl, inr, ℕ, ◌<◌, Bool, true, false, List, length, Option, Some, None, Result, Ok, Err, cond, refl, sym, ap, ◌∙◌, subst, arith}
 use Rattle.std.specs.Prelude.{IfSome, nat_lt}
+use Rattle.std.proofs.lemmas.Bool.Decides.{nat_tests}
 use Rattle.cell_make.specs.GeneratedCell.{generated_cell}
+use Rattle.drill_run.specs.Drills.{IsDrilled}
+use Rattle.drill_run.specs.DrillText.{drill_line, made_line}
+use Rattle.drill_run.specs.declared.counts.Drilled.{Drilled}
 use Rattle.enc_outside.specs.Files.{Files}
+use Rattle.file_spec.specs.DecodedCell.{decoded_cell}
+use Rattle.file_spec.specs.EncodedCell.{encoded_cell}
 use Rattle.history_spec.specs.Steps.{finding_limit}
 use Rattle.rule_spec.specs.Findings.{finding_total}
+use Rattle.s57_types.specs.declared.cell.Cell.{Cell}
 use Rattle.enc_top.specs.Inputs.{IsJudged, drill_answer}
 use Rattle.enc_top.specs.Outcome.{IsAskedBy, IsMakeOf}
-use Rattle.enc_top.specs.Task.{Task, drill_task, task_of}
+use Rattle.enc_top.specs.Task.{Task, drill_task, make_task, task_of}
 use Rattle.enc_top.specs.Words.{Form, drill_form, make_form}
 use Rattle.enc_top.specs.declared.work.Work.{Work}
 use Rattle.report_text.specs.declared.status.Status.{Status}
 use Rattle.report_text.specs.declared.status.Status.TheVariants.{NoMemory, TooManyFindings}
+use Rattle.enc_top.proofs.Completed.{drilled}
 
 always : {P : Type 0} (files : Option Files) → P → IfSome files (λ fs. P)
 always None p = tt
@@ -48,3 +56,30 @@ drill_asked n sessions files before after (Err status) (inl is) =
 pub asked_drill : (form : Form) (n sessions : ℕ) (files : Option Files) (before after : ℕ) (result : Result Work Status) → form ≡ drill_form n sessions → IsJudged task_of (drill_answer n sessions) result → IsAskedBy ⊥ form files before after result
 asked_drill form n sessions files before after result is judged =
     subst (λ (f : Form). IsAskedBy ⊥ f files before after result) (sym is) (drill_asked n sessions files before after result judged)
+
+-- ---- the tasks, by their parts
+above : (limit n : ℕ) → limit < n → nat_lt limit n ≡ true
+above limit n more = grind (arith, nat_tests)
+
+pub too_full : (n sessions : ℕ) → finding_limit < finding_total (generated_cell n) → drill_answer n sessions ≡ Err TooManyFindings
+too_full n sessions many = rw (above finding_limit (finding_total (generated_cell n)) many) refl
+
+abbrev text_alone : List ℕ → Task
+text_alone text = record { text = text; file = None }
+
+pub drilled_is : (n sessions : ℕ) (counts : Drilled) (text : List ℕ) → IsDrilled n sessions counts → text ≡ drill_line n sessions counts → drill_answer n sessions ≡ Ok (text_alone text)
+drilled_is n sessions counts text is told = drilled n sessions is.few ∙ ap (λ (t : List ℕ). Ok (text_alone t)) (sym (told ∙ ap (drill_line n sessions) is.counts))
+
+abbrev text_and_file : List ℕ → List ℕ → List ℕ → Task
+text_and_file out text bytes = record { text = text; file = Some (out, bytes) }
+
+pub made_is : (n : ℕ) (out : List ℕ) (cell : Cell) (name text bytes : List ℕ) → cell ≡ generated_cell n → name ≡ out → text ≡ made_line cell (length bytes) → bytes ≡ encoded_cell cell → decoded_cell (encoded_cell cell) ≡ Ok cell
+    → IsMakeOf n out (text_and_file name text bytes)
+made_is n out cell name text bytes is_cell is_name is_text is_bytes back =
+    record {
+      is = by (is_text ∙ ap (λ (b : List ℕ). made_line cell (length b)) is_bytes);
+      read_back = subst (λ (c : Cell). decoded_cell (encoded_cell c) ≡ Ok c) is_cell back;
+    }
+  where
+    by : text ≡ made_line cell (length (encoded_cell cell)) → text_and_file name text bytes ≡ make_task n out
+    by told = (λ i. text_and_file (is_name i) (told i) (is_bytes i)) ∙ ap (λ (c : Cell). text_and_file out (made_line c (length (encoded_cell c))) (encoded_cell c)) is_cell

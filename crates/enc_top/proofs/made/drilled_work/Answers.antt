@@ -1,0 +1,23 @@
+use Rattle.std.proofs.Common.{◌++◌, inl, inr, refl, subst, ap, ◌∙◌}
+use Rattle.std.proofs.lemmas.Result.{err_from_is_err_and}
+use Rattle.drill_run.specs.Drills.{IsDrillRefusal}
+use Rattle.drill_run.specs.DrillText.{drill_line}
+use Rattle.enc_top.proofs.GeneratedWork.{drilled_is, too_full}
+use Rattle.enc_top.proofs.made.drilled_work.Goals as goal
+
+pub returns-in-Err-TooManyFindings : goal.returns-in-Err-TooManyFindings
+returns-in-Err-TooManyFindings c =
+    inl (too_full c.args.size c.args.sessions (subst (IsDrillRefusal c.args.size) c.in-Err-TooManyFindings.field-0-is c.in-Err-TooManyFindings.ensures.err))
+
+pub returns-in_err-push_drill : goal.returns-in_err-push_drill
+returns-in_err-push_drill c =
+    let refused = err_from_is_err_and c.from_residual.result c.from_residual.ensures.1 in
+    rw (refused.1, refused.2) (inr refl)
+
+pub returns : goal.returns
+returns c =
+    let n = c.args.size in
+    let sessions = c.args.sessions in
+    let counts = c.in-Ok.drilled in
+    let text = c.in_ok-push_drill.ensures.ok ∙ ap (λ before. before ++ drill_line n sessions counts) c.new-text.ensures.items in
+    drilled_is n sessions counts c.push_drill.new.out.items c.in-Ok.ensures.ok text
