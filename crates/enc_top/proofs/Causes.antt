@@ -7,7 +7,7 @@ use Rattle.enc_top.specs.Outcome.{IsAsked, IsAskedBy, IsBuilt, IsCause, IsCauseO
 use Rattle.enc_top.specs.Task.{Task, task_of}
 use Rattle.enc_top.specs.Words.{Form, no_form, form_of}
 use Rattle.report_text.specs.declared.status.Status.{Status}
-use Rattle.report_text.specs.declared.status.Status.TheVariants.{Done, Usage, Absent, BadCell, BadScript, ReadFault, WriteFault, TooLarge, NoMemory, BadOrder, Stuck, TooManyFindings, NotYet}
+use Rattle.report_text.specs.declared.status.Status.TheVariants.{Done, Usage, Absent, BadCell, BadScript, ReadFault, WriteFault, TooLarge, NoMemory, BadOrder, Stuck, TooManyFindings}
 use Rattle.enc_top.specs.declared.work.Work.{Work}
 
 pub work_cause : (sticks : Type 0) (form : Form) (before after : Outside) (work : Work) (status : Status)
@@ -24,7 +24,6 @@ work_cause sticks form before after work NoMemory output asked done = absurd don
 work_cause sticks form before after work (BadOrder place) output asked done = absurd done
 work_cause sticks form before after work (Stuck desk serial) output asked done = absurd done
 work_cause sticks form before after work TooManyFindings output asked done = absurd done
-work_cause sticks form before after work NotYet output asked done = absurd done
 
 pub refused_cause : (sticks : Type 0) (form : Form) (before after : Outside) (status : Status) → IsSilent before after
     → IsAskedBy sticks form before.files before.read_faults after.read_faults (Err status) → IsCauseOf sticks form before after status
@@ -40,7 +39,6 @@ refused_cause sticks form before after NoMemory silent asked = (asked, silent)
 refused_cause sticks form before after (BadOrder place) silent asked = (asked.0, silent, asked.1)
 refused_cause sticks form before after (Stuck desk serial) silent asked = (asked.0, silent, asked.1)
 refused_cause sticks form before after TooManyFindings silent asked = (asked.0, silent, asked.1)
-refused_cause sticks form before after NotYet silent asked = absurd asked
 
 -- ---- where no device failed
 of_told : (told : Option Files) (files : Files) (P : Files → Type 0) → told ≡ Some files → IfSome told P → P files
@@ -70,7 +68,6 @@ exact_of sticks form before after NoMemory cause files smooth calm = inr refl
 exact_of sticks form before after (BadOrder place) cause files smooth calm = inl (asked_of form before after files (Err (BadOrder place)) smooth cause.2)
 exact_of sticks form before after (Stuck desk serial) cause files smooth calm = absurd (calm cause.0)
 exact_of sticks form before after TooManyFindings cause files smooth calm = inl (asked_of form before after files (Err TooManyFindings) smooth cause.2)
-exact_of sticks form before after NotYet cause files smooth calm = absurd cause
 
 pub exact_from_cause : (sticks : Type 0) (words : List (List ℕ)) (before after : Outside) (status : Status) → IsCause sticks words before after status → IsExact sticks words before after status
 exact_from_cause sticks words before after status cause = exact_of sticks (form_of words) before after status cause
@@ -98,7 +95,6 @@ usage_of_none sticks form before after NoMemory cause none = absurd (not_built f
 usage_of_none sticks form before after (BadOrder place) cause none = absurd (not_built form cause.0 none)
 usage_of_none sticks form before after (Stuck desk serial) cause none = absurd (subst (λ (f : Form). IsStuckAt f before.files desk serial) none cause.2)
 usage_of_none sticks form before after TooManyFindings cause none = absurd (not_built form cause.0 none)
-usage_of_none sticks form before after NotYet cause none = absurd cause
 
 pub none_of_usage : (sticks : Type 0) (form : Form) (before after : Outside) (status : Status) → IsCauseOf sticks form before after status → status ≡ Usage → form ≡ no_form
 none_of_usage sticks form before after status cause is = (subst (IsCauseOf sticks form before after) is cause).0
@@ -116,5 +112,4 @@ with_sticks sticks form before after (TooLarge name) cause = cause
 with_sticks sticks form before after NoMemory cause = cause
 with_sticks sticks form before after (BadOrder place) cause = cause
 with_sticks sticks form before after TooManyFindings cause = cause
-with_sticks sticks form before after NotYet cause = absurd cause
 with_sticks sticks form before after (Stuck desk serial) cause = absurd cause.0

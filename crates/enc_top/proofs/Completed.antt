@@ -1,4 +1,5 @@
 -- Good input files leave no refusal, and what is left in OUT is read back.
+use mathlib.Core.List.{IsPrefix}
 use Rattle.std.proofs.Common.{◌≡◌, ◌⊎◌, inl, inr, ℕ, ◌+◌, ◌<◌, ◌≤◌, ◌^◌, Bool, true, false, List, [], ◌∷◌, length, map, Option, Some, None, Ok, Err, codes, cond, refl, sym, ap, ◌∙◌, subst, arith}
 use Rattle.std.specs.Prelude.{count_by, nat_lt, slice_index_or}
 use Rattle.std.proofs.lemmas.Bool.Decides.{nat_tests}
@@ -17,10 +18,11 @@ use Rattle.enc_top.specs.Complete.{AreGood, AreGoodScripts, IsComplete, IsGoodCe
 use Rattle.room_laws.specs.Orders.{quotas_of}
 use Rattle.enc_top.specs.Inputs.{AreScripts, CellIs, FileIs, OrderIs, OutputIs, RoomIs, ScriptIs, ScriptsAre, cell_limit, drill_answer, order_in, order_limit, script_limit}
 use Rattle.enc_top.specs.Outcome.{AreWritten, IsCause, IsCauseOf, IsExact, IsExpected, IsFormReadBack, IsMadeReadBack, IsMakeOf, IsOutReadBack, IsReadBackFrom, IsReplayOf, IsRoomOf, IsRoomReadBack, Outside}
+use Rattle.enc_top.specs.Output.{Adds, AddsFrom}
 use Rattle.enc_top.specs.Task.{Task, check_task, drill_task, make_task, run_task}
 use Rattle.enc_top.specs.Words.{Form, check_among, check_form, drill_among, drill_form, drill_of, form_of, is_between, is_word, make_among, make_form, make_of, no_form, number_up_to, replay_among, replay_form, room_among, room_form}
 use Rattle.report_text.specs.declared.status.Status.{Status}
-use Rattle.report_text.specs.declared.status.Status.TheVariants.{Done, Usage, Absent, BadCell, BadScript, ReadFault, WriteFault, TooLarge, NoMemory, BadOrder, Stuck, TooManyFindings, NotYet}
+use Rattle.report_text.specs.declared.status.Status.TheVariants.{Done, Usage, Absent, BadCell, BadScript, ReadFault, WriteFault, TooLarge, NoMemory, BadOrder, Stuck, TooManyFindings}
 use Rattle.enc_top.proofs.OneAnswer.{apart, ok_not_err, one_cell, one_output, one_scripts}
 
 not_above : (limit n : ℕ) → n ≤ limit → nat_lt limit n ≡ false
@@ -167,7 +169,6 @@ done_of form files task NoMemory good is = absurd (apart form task NoMemory (one
 done_of form files task (BadOrder place) good is = absurd (apart form task (BadOrder place) (one_output form files (Ok task) (Err (BadOrder place)) good is))
 done_of form files task (Stuck desk serial) good is = absurd (apart form task (Stuck desk serial) (one_output form files (Ok task) (Err (Stuck desk serial)) good is))
 done_of form files task TooManyFindings good is = absurd (apart form task TooManyFindings (one_output form files (Ok task) (Err TooManyFindings) good is))
-done_of form files task NotYet good is = absurd (apart form task NotYet (one_output form files (Ok task) (Err NotYet) good is))
 
 -- good files of sessions in threads leave no refusal
 no_bad_room : (cell out : List ℕ) (scripts : List (List ℕ)) (files : Files) (status : Status) → AreGood (room_form cell out scripts) files → OutputIs (room_form cell out scripts) files (Err status) → ⊥
@@ -191,7 +192,6 @@ room_done cell out scripts files NoMemory good is = absurd (no_bad_room cell out
 room_done cell out scripts files (BadOrder place) good is = absurd (no_bad_room cell out scripts files (BadOrder place) good is)
 room_done cell out scripts files (Stuck desk serial) good is = absurd (no_bad_room cell out scripts files (Stuck desk serial) good is)
 room_done cell out scripts files TooManyFindings good is = absurd (no_bad_room cell out scripts files TooManyFindings good is)
-room_done cell out scripts files NotYet good is = absurd (no_bad_room cell out scripts files NotYet good is)
 
 good_done : (form : Form) (files : Files) (status : Status) → FewScripts form → IsSteady form files → IsExpected form files status → status ≡ Done
 good_done form files status few good is = let output = good_output form files few good in done_of form files output.0 status output.1 is
@@ -229,10 +229,17 @@ out_read_back cell out order scripts task (Some fs) (Some gs) run written =
       decoded = run.run.run.read_back;
     }
 
-room_read_back : (cell out : List ℕ) (scripts : List (List ℕ)) (task : Task) (a b : Option Files) → IsRoomOf cell out scripts a task → AreWritten task.file a b → Told (IsRoomReadBack cell out scripts) a b
-room_read_back cell out scripts task None b run written = tt
-room_read_back cell out scripts task (Some fs) None run written = tt
-room_read_back cell out scripts task (Some fs) (Some gs) run written =
+-- a text that was put begins as it does
+put_from : (front text : List ℕ) (a b : Option (List ℕ)) → IsPrefix front text → Told (Adds text) a b → Told (AddsFrom front) a b
+put_from front text None b begins put = tt
+put_from front text (Some old) None begins put = tt
+put_from front text (Some old) (Some new) begins put = (text, put, begins)
+
+room_read_back : (cell out : List ℕ) (scripts : List (List ℕ)) (task : Task) (before after : Outside) (a b : Option Files) → IsRoomOf cell out scripts a task
+    → Told (Adds task.text) before.written after.written → AreWritten task.file a b → Told (IsRoomReadBack cell out scripts before after) a b
+room_read_back cell out scripts task before after None b run put written = tt
+room_read_back cell out scripts task before after (Some fs) None run put written = tt
+room_read_back cell out scripts task before after (Some fs) (Some gs) run put written =
     let c = run.start in
     let commands = run.run.commands in
     let sessions = run.run.run.sessions in
@@ -244,6 +251,7 @@ room_read_back cell out scripts task (Some fs) (Some gs) run written =
       scripts_are = run.run.told;
       sessions = sessions;
       order = run.run.run.order;
+      line = put_from (order_line sessions) task.text before.written after.written run.run.run.begins put;
       bytes = encoded_cell (final_cell c commands sessions);
       there = wrote.written;
       decoded = run.run.run.read_back;
@@ -261,10 +269,10 @@ nothing_left None b = tt
 nothing_left (Some fs) None = tt
 nothing_left (Some fs) (Some gs) = tt
 
-form_read_back : (sticks : Type 0) (form : Form) (before after : Outside) → IsCauseOf sticks form before after Done → Told (IsFormReadBack form) before.files after.files
+form_read_back : (sticks : Type 0) (form : Form) (before after : Outside) → IsCauseOf sticks form before after Done → Told (IsFormReadBack form before after) before.files after.files
 form_read_back sticks (check_form cell) before after cause = nothing_left before.files after.files
 form_read_back sticks (replay_form cell out order scripts) before after cause = out_read_back cell out order scripts cause.0 before.files after.files cause.1 cause.3.files
-form_read_back sticks (room_form cell out scripts) before after cause = room_read_back cell out scripts cause.0 before.files after.files cause.1 cause.3.files
+form_read_back sticks (room_form cell out scripts) before after cause = room_read_back cell out scripts cause.0 before after before.files after.files cause.1 cause.3.written cause.3.files
 form_read_back sticks (make_form n out) before after cause = made_read_back n out cause.0 before.files after.files cause.1 cause.3.files
 form_read_back sticks (drill_form n sessions) before after cause = nothing_left before.files after.files
 form_read_back sticks no_form before after cause = nothing_left before.files after.files

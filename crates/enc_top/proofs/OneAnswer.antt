@@ -13,7 +13,7 @@ use Rattle.enc_top.specs.Inputs.{AndThen, AreOneAnswer, AreScripts, CellIs, File
 use Rattle.enc_top.specs.Task.{Task}
 use Rattle.enc_top.specs.Words.{Form, check_form, drill_form, make_form, no_form, replay_form, room_form}
 use Rattle.report_text.specs.declared.status.Status.{Status}
-use Rattle.report_text.specs.declared.status.Status.TheVariants.{Done, Usage, Absent, BadCell, BadScript, ReadFault, WriteFault, TooLarge, NoMemory, BadOrder, Stuck, TooManyFindings, NotYet}
+use Rattle.report_text.specs.declared.status.Status.TheVariants.{Done, Usage, Absent, BadCell, BadScript, ReadFault, WriteFault, TooLarge, NoMemory, BadOrder, Stuck, TooManyFindings}
 
 -- a relation that has one answer at most
 abbrev IsOne : {A : Type 0} → (A → Type 0) → Type 0
@@ -64,7 +64,6 @@ fault_of session bytes NoMemory bad = absurd bad
 fault_of session bytes (BadOrder place) bad = absurd bad
 fault_of session bytes (Stuck desk serial) bad = absurd bad
 fault_of session bytes TooManyFindings bad = absurd bad
-fault_of session bytes NotYet bad = absurd bad
 
 same_commands : (a b : List Command) → ◌≡◌ {A = Result (List Command) (ℕ × ℕ)} (Ok a) (Ok b) → a ≡ b
 same_commands a b e = cc

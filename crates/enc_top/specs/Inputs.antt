@@ -19,7 +19,7 @@ use Rattle.history_spec.specs.Steps.{finding_limit}
 use Rattle.enc_top.specs.Task.{Task, check_task, drill_task, make_task, run_task}
 use Rattle.enc_top.specs.Words.{Form, check_form, replay_form, room_form, make_form, drill_form, no_form}
 use Rattle.report_text.specs.declared.status.Status.{Status}
-use Rattle.report_text.specs.declared.status.Status.TheVariants.{Done, Usage, Absent, BadCell, BadScript, ReadFault, WriteFault, TooLarge, NoMemory, BadOrder, Stuck, TooManyFindings, NotYet}
+use Rattle.report_text.specs.declared.status.Status.TheVariants.{Done, Usage, Absent, BadCell, BadScript, ReadFault, WriteFault, TooLarge, NoMemory, BadOrder, Stuck, TooManyFindings}
 
 -- how many bytes input files may have
 abbrev pub cell_limit : ℕ
@@ -207,7 +207,6 @@ IsInputStatus IsInput NoMemory = Unit {0}
 IsInputStatus IsInput (BadOrder place) = Unit {0}
 IsInputStatus IsInput (Stuck desk serial) = ⊥
 IsInputStatus IsInput TooManyFindings = Unit {0}
-IsInputStatus IsInput NotYet = ⊥
 
 -- one of these names
 abbrev pub IsAmong : List (List ℕ) → List ℕ → Type 0

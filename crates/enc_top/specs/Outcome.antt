@@ -8,16 +8,16 @@ use Rattle.file_spec.specs.EncodedCell.{encoded_cell}
 use Rattle.history_spec.specs.ReportText.{final_cell}
 use Rattle.s57_types.specs.declared.cell.Cell.{Cell}
 use Rattle.history_spec.specs.Sessions.{script_of}
-use Rattle.text_spec.specs.OrderLine.{IsOrder}
+use Rattle.text_spec.specs.OrderLine.{IsOrder, order_line}
 use Rattle.text_spec.specs.ScriptLines.{is_shared}
 use Rattle.text_spec.specs.declared.command.Command.{Command}
 use Rattle.room_laws.specs.Orders.{quotas_of}
 use Rattle.enc_top.specs.Inputs.{CellIs, IsInputOf, IsReached, IsRoomRun, IsRunOf, OrderIs, OutputIs, ScriptsAre, drill_answer}
-use Rattle.enc_top.specs.Output.{Adds, AddsFront, IsBegun}
+use Rattle.enc_top.specs.Output.{Adds, AddsFrom, AddsFront, IsBegun}
 use Rattle.enc_top.specs.Task.{Task, check_task, make_task, task_of}
 use Rattle.enc_top.specs.Words.{Form, check_form, replay_form, room_form, make_form, drill_form, no_form, form_of}
 use Rattle.report_text.specs.declared.status.Status.{Status}
-use Rattle.report_text.specs.declared.status.Status.TheVariants.{Done, Usage, Absent, BadCell, BadScript, ReadFault, WriteFault, TooLarge, NoMemory, BadOrder, Stuck, TooManyFindings, NotYet}
+use Rattle.report_text.specs.declared.status.Status.TheVariants.{Done, Usage, Absent, BadCell, BadScript, ReadFault, WriteFault, TooLarge, NoMemory, BadOrder, Stuck, TooManyFindings}
 use Rattle.enc_top.specs.declared.work.Work.{Work}
 
 -- what the outside shows, at one moment: the files, how often reads and writes of files failed, what was put, and how often puts failed
@@ -142,7 +142,6 @@ IsCauseOf sticks form before after (TooLarge name) = IsInputOf form name × IsRe
 IsCauseOf sticks form before after NoMemory = IsBuilt form × IsSilent before after
 IsCauseOf sticks form before after (BadOrder place) = IsRefused form before after (BadOrder place)
 IsCauseOf sticks form before after TooManyFindings = IsRefused form before after TooManyFindings
-IsCauseOf sticks form before after NotYet = ⊥
 IsCauseOf sticks form before after (Stuck desk serial) = sticks × IsSilent before after × IsStuckAt form before.files desk serial
 
 abbrev pub IsCause : Type 0 → List (List ℕ) → Outside → Outside → Status → Type 0
@@ -174,14 +173,15 @@ pub record IsOutReadBack (cell out order : List ℕ) (scripts : List (List ℕ))
   pub there : new out ≡ Some bytes
   pub decoded : decoded_cell bytes ≡ Ok (final_cell start commands sessions)
 
--- the same of sessions in threads, in the order that the report prints
-pub record IsRoomReadBack (cell out : List ℕ) (scripts : List (List ℕ)) (old new : Files) : Type 0 where
+-- the same of sessions in threads, in the order whose line begins the report that was put
+pub record IsRoomReadBack (cell out : List ℕ) (scripts : List (List ℕ)) (before after : Outside) (old new : Files) : Type 0 where
   pub start : Cell
   pub cell_is : CellIs cell old (Ok start)
   pub commands : List (List Command)
   pub scripts_are : ScriptsAre scripts old (Ok commands)
   pub sessions : List ℕ
   pub order : IsOrder (quotas_of commands) sessions
+  pub line : Told (AddsFrom (order_line sessions)) before.written after.written
   pub bytes : List ℕ
   pub there : new out ≡ Some bytes
   pub decoded : decoded_cell bytes ≡ Ok (final_cell start commands sessions)
@@ -192,14 +192,14 @@ pub record IsMadeReadBack (n : ℕ) (out : List ℕ) (new : Files) : Type 0 wher
   pub there : new out ≡ Some bytes
   pub decoded : decoded_cell bytes ≡ Ok (generated_cell n)
 
-abbrev pub IsFormReadBack : Form → Files → Files → Type 0
-IsFormReadBack (replay_form cell out order scripts) old new = IsOutReadBack cell out order scripts old new
-IsFormReadBack (room_form cell out scripts) old new = IsRoomReadBack cell out scripts old new
-IsFormReadBack (make_form n out) old new = IsMadeReadBack n out new
-IsFormReadBack other old new = Unit {0}
+abbrev pub IsFormReadBack : Form → Outside → Outside → Files → Files → Type 0
+IsFormReadBack (replay_form cell out order scripts) before after old new = IsOutReadBack cell out order scripts old new
+IsFormReadBack (room_form cell out scripts) before after old new = IsRoomReadBack cell out scripts before after old new
+IsFormReadBack (make_form n out) before after old new = IsMadeReadBack n out new
+IsFormReadBack other before after old new = Unit {0}
 
 abbrev pub IsReadBackFrom : List (List ℕ) → Outside → Outside → Status → Type 0
-IsReadBackFrom words before after status = status ≡ Done → Told (IsFormReadBack (form_of words)) before.files after.files
+IsReadBackFrom words before after status = status ≡ Done → Told (IsFormReadBack (form_of words) before after) before.files after.files
 
 -- the work that a form asks for, or the status at which it ends
 abbrev pub IsAskedBy : Type 0 → Form → Option Files → ℕ → ℕ → Result Work Status → Type 0

@@ -1,10 +1,15 @@
 -- Writing a text whole, and a file.
+use mathlib.Core.List.{IsPrefix}
 use Rattle.std.specs.Prelude.{◌≡◌, ◌≢◌, ◌⊎◌, ℕ, List, ◌++◌, Some, take}
 use Rattle.enc_outside.specs.Files.{Files, MayEmpty}
 
 -- all bytes were added
 abbrev pub Adds : List ℕ → List ℕ → List ℕ → Type 0
 Adds bytes old new = new ≡ old ++ bytes
+
+-- a text was added that begins so
+abbrev pub AddsFrom : List ℕ → List ℕ → List ℕ → Type 0
+AddsFrom front old new = (text : List ℕ) × Adds text old new × IsPrefix front text
 
 -- some first bytes were added
 abbrev pub AddsFront : List ℕ → List ℕ → List ℕ → Type 0

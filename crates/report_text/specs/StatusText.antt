@@ -3,7 +3,7 @@ use Rattle.std.specs.Prelude.{ℕ, List, [], ◌∷◌, codes}
 use Rattle.std.specs.Fmt.{decimal}
 use Rattle.text_spec.specs.Lines.{line}
 use Rattle.report_text.specs.declared.status.Status.{Status}
-use Rattle.report_text.specs.declared.status.Status.TheVariants.{Done, Usage, Absent, BadCell, BadScript, ReadFault, WriteFault, TooLarge, NoMemory, BadOrder, Stuck, TooManyFindings, NotYet}
+use Rattle.report_text.specs.declared.status.Status.TheVariants.{Done, Usage, Absent, BadCell, BadScript, ReadFault, WriteFault, TooLarge, NoMemory, BadOrder, Stuck, TooManyFindings}
 
 -- the exit status; 1 is left to the runtime
 abbrev pub status_number : Status → ℕ
@@ -19,7 +19,6 @@ status_number NoMemory = 9
 status_number (BadOrder place) = 10
 status_number (Stuck desk serial) = 11
 status_number TooManyFindings = 12
-status_number NotYet = 13
 
 -- the line on the error output, or nothing where all is done
 abbrev pub status_line : Status → List ℕ
@@ -35,4 +34,3 @@ status_line NoMemory = line (codes "enc_cell: no memory") []
 status_line (BadOrder place) = line (codes "enc_cell: bad order") (codes "place" ∷ decimal place ∷ [])
 status_line (Stuck desk serial) = line (codes "enc_cell: stuck") (codes "desk" ∷ decimal desk ∷ codes "serial" ∷ decimal serial ∷ [])
 status_line TooManyFindings = line (codes "enc_cell: too many findings") []
-status_line NotYet = line (codes "enc_cell: not yet") []

@@ -35,8 +35,6 @@ pub enum Status {
     Stuck(u32, u32),
     /// The cell has too many findings.
     TooManyFindings,
-    /// The form or the file isn't built yet.
-    NotYet,
 }
 
 impl Status {
@@ -57,7 +55,6 @@ impl Status {
             Status::BadOrder(_) => 10,
             Status::Stuck(..) => 11,
             Status::TooManyFindings => 12,
-            Status::NotYet => 13,
         }
     }
 }
@@ -101,7 +98,6 @@ fn push_status(out: &mut Vec<u8>, status: &Status) -> Result<(), AllocError>
         Status::BadOrder(place) => push_bad_order(out, *place),
         Status::Stuck(desk, serial) => push_stuck(out, *desk, *serial),
         Status::TooManyFindings => push_text(out, "enc_cell: too many findings\n"),
-        Status::NotYet => push_text(out, "enc_cell: not yet\n"),
     }
 }
 
