@@ -1,5 +1,5 @@
 -- The cause of each status, from what the files ask for and what was put.
-use Rattle.std.proofs.Common.{◌≡◌, ◌⊎◌, inl, inr, ℕ, List, Option, Some, Result, Ok, Err, refl, sym, ◌∙◌, subst}
+use Rattle.std.proofs.Common.{◌≡◌, ◌⊎◌, inl, inr, ℕ, List, Option, Some, Result, Ok, Err, refl, sym, subst}
 use Rattle.std.specs.Prelude.{IfSome}
 use Rattle.enc_outside.specs.Files.{Files}
 use Rattle.enc_top.specs.Inputs.{IsInputOf, OutputIs}
@@ -49,7 +49,6 @@ asked_of form before after files answer smooth asked = of_told before.files file
 
 none_asked : (form : Form) (files : Files) → form ≡ no_form → OutputIs form files (Err Usage)
 none_asked form files is = subst (λ (f : Form). OutputIs f files (Err Usage)) (sym is) refl
-
 
 no_cut : (task : Task) (before after : Outside) (files : Files) → IsSmooth before after files → IsCut task before after → ⊥
 no_cut task before after files smooth (inl text) = smooth.puts text.rose

@@ -1,6 +1,6 @@
 -- Good input files leave no refusal, and what is left in OUT is read back.
 use mathlib.Core.List.{IsPrefix}
-use Rattle.std.proofs.Common.{◌≡◌, ◌⊎◌, inl, inr, ℕ, ◌+◌, ◌<◌, ◌≤◌, ◌^◌, Bool, true, false, List, [], ◌∷◌, length, map, Option, Some, None, Ok, Err, codes, cond, refl, sym, ap, ◌∙◌, subst, arith}
+use Rattle.std.proofs.Common.{◌≡◌, ◌⊎◌, inl, inr, ℕ, ◌+◌, ◌<◌, ◌≤◌, ◌^◌, Bool, true, false, List, [], ◌∷◌, length, Option, Some, None, Ok, Err, codes, cond, refl, sym, ap, subst, arith}
 use Rattle.std.specs.Prelude.{count_by, nat_lt, slice_index_or}
 use Rattle.std.proofs.lemmas.Bool.Decides.{nat_tests}
 use Rattle.std.proofs.lemmas.List.{length-map}
@@ -16,7 +16,7 @@ use Rattle.text_spec.specs.declared.command.Command.{Command}
 use Rattle.order_text.proofs.OrderLines.{order_of-line}
 use Rattle.enc_top.specs.Complete.{AreGood, AreGoodScripts, IsComplete, IsGoodCell, IsGoodOrder, IsGoodScript, IsThere}
 use Rattle.room_laws.specs.Orders.{quotas_of}
-use Rattle.enc_top.specs.Inputs.{AreScripts, CellIs, FileIs, OrderIs, OutputIs, RoomIs, ScriptIs, ScriptsAre, cell_limit, drill_answer, order_in, order_limit, script_limit}
+use Rattle.enc_top.specs.Inputs.{CellIs, FileIs, OrderIs, OutputIs, RoomIs, ScriptIs, ScriptsAre, cell_limit, drill_answer, order_in, order_limit, script_limit}
 use Rattle.enc_top.specs.Outcome.{AreWritten, IsCause, IsCauseOf, IsExact, IsExpected, IsFormReadBack, IsMadeReadBack, IsMakeOf, IsOutReadBack, IsReadBackFrom, IsReplayOf, IsRoomOf, IsRoomReadBack, Outside}
 use Rattle.enc_top.specs.Output.{Adds, AddsFrom}
 use Rattle.enc_top.specs.Task.{Task, check_task, drill_task, make_task, run_task}

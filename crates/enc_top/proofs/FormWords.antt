@@ -3,7 +3,7 @@ use Rattle.std.proofs.Common.{◌≡◌, ℕ, ◌-◌, ◌<◌, ◌≤◌, take,
 use Rattle.std.specs.Prelude.{codes, nat_le}
 use Rattle.std.proofs.lemmas.Bool.Decides.{nat_tests}
 use Rattle.std.proofs.lemmas.List.{length-drop, length-map}
-use Rattle.enc_top.specs.Words.{begins_with_room, check_among, check_form, drill_among, drill_of, form_of, is_between, is_word, make_among, make_of, no_form, number_up_to, replay_among, replay_form, room_among, room_form}
+use Rattle.enc_top.specs.Words.{begins_with_room, check_among, check_form, drill_among, drill_of, form_of, is_between, is_word, make_among, make_of, no_form, number_up_to, replay_among, replay_form, room_form}
 use Rattle.enc_top.proofs.WordLists.{two_words}
 
 -- the words behind the first ones

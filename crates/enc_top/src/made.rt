@@ -44,8 +44,9 @@ fn made_work(alloc: Global, size: u32, out: &str) -> Result<Work, AllocError>
     let cell = make_cell(alloc, size)?;
     writable_cell_is_read_back(&cell);
     let bytes = write_cell(alloc, &cell)?;
+    let size = bytes.as_slice().len();
     let mut text = Vec::new(alloc);
-    push_made(alloc, &cell, bytes.len(), &mut text)?;
+    push_made(alloc, &cell, size, &mut text)?;
     let name = String::from_str(alloc, out)?;
     Ok(Work {
         text,

@@ -1,4 +1,4 @@
-use Rattle.std.proofs.Common.{◌≡◌, Some, length, map, sym, ap, ◌∙◌, string_bytes, arith}
+use Rattle.std.proofs.Common.{◌≡◌, length, map, rules, sym, ap, ◌∙◌, string_bytes, arith}
 use Rattle.enc_top.specs.Words.{drill_among, drill_form, drill_of, number_up_to}
 use Rattle.enc_top.proofs.FormWords.{fewer_drilled, more_drilled, two_drilled}
 use Rattle.enc_top.proofs.GeneratedWork.{asked_drill}
@@ -8,8 +8,8 @@ use Rattle.enc_top.proofs.made.drill.Goals.{in_default-via-then-others-lt2, in_d
 pub returns-in_default : goal.returns-in_default
 returns-in_default c = λ files before after.
     elim c.in_default.branch [
-      | in_default-via-then-others-lt2 w ↦ fewer_drilled c.args.others.now (omega arith)
-      | in_default-via-else-others-lt2+else-others-lt3 w ↦ more_drilled c.args.others.now (omega arith)
+      | in_default-via-then-others-lt2 w ↦ fewer_drilled c.args.others.now (search rules)
+      | in_default-via-else-others-lt2+else-others-lt3 w ↦ more_drilled c.args.others.now (grind (arith, rules))
     ]
 
 pub returns-in_default-number_up_to : goal.returns-in_default-number_up_to

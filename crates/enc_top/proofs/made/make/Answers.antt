@@ -1,4 +1,5 @@
-use Rattle.std.proofs.Common.{◌≡◌, length, map, sym, ap, ◌∙◌, string_bytes, arith}
+use Rattle.std.proofs.lemmas.Bool.Decides.{nat_tests}
+use Rattle.std.proofs.Common.{◌≡◌, length, map, rules, sym, ap, ◌∙◌, string_bytes, arith}
 use Rattle.std.proofs.lemmas.Result.{err_from_is_err_and}
 use Rattle.enc_top.specs.Words.{make_among, make_form, make_of, number_up_to}
 use Rattle.enc_top.proofs.FormWords.{fewer_made, more_made, two_made}
@@ -9,8 +10,8 @@ use Rattle.enc_top.proofs.made.make.Goals.{in_default-via-then-others-lt2, in_de
 pub returns-in_default : goal.returns-in_default
 returns-in_default c = λ files before after.
     elim c.in_default.branch [
-      | in_default-via-then-others-lt2 w ↦ fewer_made c.args.others.now (omega arith)
-      | in_default-via-else-others-lt2+else-others-lt3 w ↦ more_made c.args.others.now (omega arith)
+      | in_default-via-then-others-lt2 w ↦ fewer_made c.args.others.now (grind (arith, nat_tests, rules))
+      | in_default-via-else-others-lt2+else-others-lt3 w ↦ more_made c.args.others.now (search rules)
     ]
 
 pub returns-in_default-number_up_to : goal.returns-in_default-number_up_to

@@ -1,4 +1,4 @@
-use Rattle.std.proofs.Common.{◌-◌, length, take, map, drop, string_bytes, sym, ap, ◌∙◌, subst}
+use Rattle.std.proofs.Common.{◌-◌, length, take, drop, sym, ap, ◌∙◌, subst}
 use Rattle.std.specs.Prelude.{codes}
 use Rattle.enc_top.specs.Outcome.{IsAskedBy}
 use Rattle.enc_top.specs.Words.{is_word}

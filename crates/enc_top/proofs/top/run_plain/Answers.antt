@@ -1,8 +1,8 @@
-use Rattle.std.proofs.Common.{map, refl, string_bytes}
-use Rattle.enc_top.specs.Outcome.{outside}
+use Rattle.std.proofs.Common.{map, refl, rules, string_bytes}
+use Rattle.enc_top.specs.Outcome.{IsCause, outside}
 use Rattle.enc_top.specs.Words.{form_of}
 use Rattle.enc_top.proofs.Causes.{exact_from_cause, refused_cause}
-use Rattle.enc_top.proofs.Completed.{complete_from_exact}
+use Rattle.enc_top.proofs.Completed.{complete_from_exact, read_back_from_cause}
 use Rattle.enc_top.proofs.top.run_plain.Goals as goal
 
 pub returns-in-Err-clause-complete : goal.returns-in-Err-clause-complete
@@ -20,3 +20,18 @@ returns-in-Err-clause-complete g c =
     complete_from_exact ⊥ words before after c.in-Err.status
     (exact_from_cause ⊥ words before after c.in-Err.status
     (refused_cause ⊥ (form_of words) before after c.in-Err.status (record { written = refl; files = c.in-Err.ensures.files }) c.in-Err.ensures.asked))
+
+pub returns-in-Ok-clause-read_back : goal.returns-in-Ok-clause-read_back
+returns-in-Ok-clause-read_back g c =
+    let words = map string_bytes c.args.words.now in
+    let files = g.H.Shelf.files in
+    let read_faults = g.H.Shelf.read_faults in
+    let write_faults = g.H.Shelf.write_faults in
+    let written = g.O.Sink.written in
+    let faults = g.O.Sink.faults in
+    let old = c.args.shelf.now in
+    let new = c.finish.new.shelf in
+    let before = outside (files old) (read_faults old) (write_faults old) (written c.args.out.now) (faults c.args.out.now) in
+    let after = outside (files new) (read_faults new) (write_faults new) (written c.finish.new.out) (faults c.finish.new.out) in
+    let cause : IsCause ⊥ words before after c.finish.result = search rules in
+    read_back_from_cause ⊥ words before after c.finish.result cause
