@@ -1,0 +1,4 @@
+pub mod Reached
+pub mod Rounds
+pub mod EditedCells
+pub mod Laws

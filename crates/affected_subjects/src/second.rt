@@ -1,0 +1,95 @@
+//! The second round: each record of the first one with those that may touch it.
+
+ghost use Rattle.std.specs.Prelude.{◌≡◌, OnOk};
+ghost use Rattle.cell_spec.specs.declared.key.Subject.TheVariants.{Rec};
+ghost use Rattle.rule_spec.specs.Affected.{pair_of as spec_pair_of};
+ghost use Rattle.rule_spec.specs.Findings.{is_below as spec_is_below};
+ghost use Rattle.affected_subjects.specs.Rounds.{add_all, add_each, add_pairs as spec_add_pairs, mated};
+
+use crate::once::add;
+use cell_spec::{Subject, orders_are_by_parts};
+use indexmap::IndexSet;
+use s57_types::RecName;
+use std::alloc::{AllocError, Global};
+use tile_index::{TileIndex, TilePlan};
+
+/// Whether a name is below another.
+pub(crate) fn is_below(name: RecName, other: RecName) -> bool
+    ensures { result ≡ spec_is_below name other }
+{
+    orders_are_by_parts();
+    name.cmp(&other).is_lt()
+}
+
+// Two names as a pair, the lesser first.
+fn pair_of(name: RecName, other: RecName) -> Subject
+    ensures { result ≡ spec_pair_of name other }
+{
+    if is_below(name, other) {
+        Subject::Pair(name, other)
+    } else {
+        Subject::Pair(other, name)
+    }
+}
+
+// Adds the pairs of a record with its mates.
+fn add_pairs(
+    set: &mut IndexSet<Subject>,
+    name: RecName,
+    mates: &[RecName],
+) -> Result<(), AllocError>
+    ensures { OnOk result (set.new.keys ≡ spec_add_pairs name set.old.keys mates.now) }
+{
+    for mate in mates {
+        add(set, pair_of(name, *mate))?;
+    }
+    Ok(())
+}
+
+// Adds the pairs of a record with its mates before, then with those after.
+fn add_mates(
+    alloc: Global,
+    set: &mut IndexSet<Subject>,
+    tiles: &TileIndex,
+    plan: &TilePlan,
+    name: RecName,
+) -> Result<(), AllocError>
+    ensures { OnOk result (set.new.keys ≡ add_all set.old.keys (mated tiles.now plan.now (Rec name))) }
+{
+    let before = tiles.mates(alloc, name)?;
+    add_pairs(set, name, before.as_slice())?;
+    let after = tiles.mates_after(alloc, plan, name)?;
+    add_pairs(set, name, after.as_slice())
+}
+
+// Adds the pairs of a subject, if it is a record.
+fn add_pairs_of(
+    alloc: Global,
+    set: &mut IndexSet<Subject>,
+    tiles: &TileIndex,
+    plan: &TilePlan,
+    subject: Subject,
+) -> Result<(), AllocError>
+    ensures { OnOk result (set.new.keys ≡ add_all set.old.keys (mated tiles.now plan.now subject)) }
+{
+    match subject {
+        Subject::Rec(name) => add_mates(alloc, set, tiles, plan, name),
+        Subject::Side(_) | Subject::Pair(..) | Subject::Ident(_) => Ok(()),
+    }
+}
+
+/// Adds the pairs of the records of the first round, one record after the other.
+pub(crate) fn second_round(
+    alloc: Global,
+    set: &mut IndexSet<Subject>,
+    first: &[Subject],
+    tiles: &TileIndex,
+    plan: &TilePlan,
+) -> Result<(), AllocError>
+    ensures { OnOk result (set.new.keys ≡ add_each (mated tiles.now plan.now) set.old.keys first.now) }
+{
+    for subject in first {
+        add_pairs_of(alloc, set, tiles, plan, *subject)?;
+    }
+    Ok(())
+}
