@@ -9,4 +9,4 @@ mod record;
 pub use area::{AREA, is_group1_area};
 pub use line::{Numbered, Segment, numbered, same_point, segments_of};
 pub use lookup::{listed_record, name_of, number};
-pub use record::{is_chain_part, is_edge_name};
+pub use record::is_edge_name;
