@@ -8,9 +8,9 @@ ghost use Rattle.affected_subjects.specs.Rounds.{add_all, first_of, looked_at};
 
 use crate::once::add;
 use cell_spec::{Key, Subject};
+use check_words::is_edge_name;
 use depend_map::DependMap;
 use indexmap::IndexSet;
-use plain_lookups::is_edge_name;
 use s57_types::RecName;
 use std::alloc::{AllocError, Global};
 

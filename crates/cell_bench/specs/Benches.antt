@@ -34,7 +34,7 @@ abbrev pub load_refusal_of : FindingRefusal → LoadRefusal
 load_refusal_of finding.TooMany = load.FindingsFull
 load_refusal_of finding.NoMemory = load.NoMemory
 
--- a cell isn't loaded where it has more findings than the limit, or where memory is wanting
+-- a cell isn't loaded where it has more findings than the limit, or where memory runs out
 abbrev pub IsLoadRefusal : Cell → LoadRefusal → Type 0
 IsLoadRefusal c load.FindingsFull = finding_limit < finding_total c
 IsLoadRefusal c load.NoMemory = Unit {0}
@@ -44,7 +44,7 @@ pub record IsPlanned (c : Cell) (edits : List Edit) (planned : Cell) : Type 0 wh
   pub cell_is : planned ≡ apply_edits edits c
   pub none : state_refusal c edits ≡ None
 
--- edits aren't planned where the cell doesn't take them, or where memory is wanting
+-- edits aren't planned where the cell doesn't take them, or where memory runs out
 abbrev pub IsPlanRefusal : Cell → List Edit → PlanRefusal → Type 0
 IsPlanRefusal c edits (plan.State why) = state_refusal c edits ≡ Some why
 IsPlanRefusal c edits plan.NoMemory = Unit {0}

@@ -7,8 +7,8 @@ ghost use Rattle.cell_spec.specs.Lookup.{name_of as spec_name_of};
 ghost use Rattle.cell_spec.specs.Names.{is_of_kind as spec_is_of_kind};
 
 use cell_spec::Edit;
+use check_words::name_of;
 use edit_sets::EditSet;
-use plain_lookups::name_of;
 use s57_types::{Cell, Duplicate, Head, Kind, Rec, RecName, Recs};
 use std::alloc::{AllocError, Global};
 
@@ -113,7 +113,7 @@ fn edited_head(alloc: Global, head: &Head, set: &EditSet) -> Result<Head, AllocE
 /// The cell that edits leave: a replaced record keeps its place, a list closes up where a record is deleted, the additions of
 /// its kind go last, in the order of the edits, and the head gets the values of the edit of it.
 ///
-/// An `Err` is want of memory.
+/// An `Err` means out of memory.
 #[tactic(auto, unfolding(cell_spec::specs::Edits::apply_edits))]
 pub fn apply_edits(alloc: Global, cell: &Cell, set: &EditSet) -> Result<Cell, AllocError>
     ensures { IfOk result (λ edited. edited ≡ spec_apply_edits set.now.edits cell.now) }

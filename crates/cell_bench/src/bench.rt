@@ -42,7 +42,7 @@ impl Model for Bench {
 impl Bench {
     /// The bench of a writable cell, with the look-ups that finding its findings takes. None are counted yet.
     ///
-    /// An `Err` says that the cell has more findings than the limit, or is want of memory.
+    /// An `Err` says that the cell has more findings than the limit, or means out of memory.
     pub fn load<L: Ledger>(
         alloc: Global,
         cell: Cell,
@@ -105,7 +105,7 @@ impl Bench {
         self.count
     }
 
-    /// A copy of the cell, for export and for texts. An `Err` is want of memory.
+    /// A copy of the cell, for export and for texts. An `Err` means out of memory.
     pub fn to_cell(&self, alloc: Global) -> Result<Cell, AllocError>
         ensures { IfOk result (λ cell. cell ≡ self.now) }
     {

@@ -32,7 +32,7 @@ impl Bench {
     /// The bench after edits, with all the memory that installing it takes. No rows can be ready yet, and no keys stale; nor
     /// are look-ups counted.
     ///
-    /// An `Err` tells why the cell doesn't take the edits, or is want of memory.
+    /// An `Err` tells why the cell doesn't take the edits, or means out of memory.
     pub fn plan<L: Ledger>(
         &self,
         alloc: Global,
@@ -58,7 +58,7 @@ impl Bench {
         }
     }
 
-    /// Takes the memory that installing a plan takes: none, since a plan has it. An `Err` is want of memory.
+    /// Takes the memory that installing a plan takes: none, since a plan has it. An `Err` means out of memory.
     pub fn reserve(&mut self, _alloc: Global, _plan: &BenchPlan) -> Result<(), AllocError>
         ensures { self.new ≡ self.old }
     {

@@ -11,7 +11,7 @@ use std::alloc::AllocError;
 pub enum LoadRefusal {
     /// It has more findings than the limit.
     FindingsFull,
-    /// Want of memory.
+    /// Out of memory.
     NoMemory,
 }
 
@@ -43,7 +43,7 @@ impl From<FindingRefusal> for LoadRefusal {
 pub enum PlanRefusal {
     /// The cell doesn't take them.
     State(StateRefusal),
-    /// Want of memory.
+    /// Out of memory.
     NoMemory,
 }
 

@@ -13,9 +13,9 @@ use crate::apply::apply_edits;
 use crate::count::{narrow, record_count};
 use cell_findings::{FindingRefusal, Findings, find_all};
 use cell_spec::Edit;
+use check_words::{listed_record, name_of};
 use edit_sets::EditSet;
 use history_spec::StateRefusal;
-use plain_lookups::{listed_record, name_of};
 use record_fit::identification_record_length;
 use s57_types::{Cell, Head, RecName};
 use std::alloc::{AllocError, Global};
@@ -121,7 +121,7 @@ fn judge_size(
 /// Tries a set of edits at a writable cell's level on the cell: the first edit that the cell doesn't take is told, or else the size of the edited
 /// cell.
 ///
-/// An `Err` is want of memory.
+/// An `Err` means out of memory.
 pub fn try_edits(alloc: Global, cell: &Cell, set: &EditSet) -> Result<Trial, AllocError>
     requires cell { IsWritable cell.now }
     requires level { set.now.nall ≡ cell.now.head.nall }

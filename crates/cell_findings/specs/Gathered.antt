@@ -9,7 +9,7 @@ pub record IsGathered (limit : ℕ) (all found : List SubjectFinding) : Type 0 w
   pub same : found ≡ all
   pub within : length all ≤ limit
 
--- why they weren't gathered: there are more than the limit, or memory is wanting
+-- why they weren't gathered: there are more than the limit, or memory runs out
 abbrev pub IsOver : ℕ → List SubjectFinding → FindingRefusal → Type 0
 IsOver limit all TooMany = limit < length all
 IsOver limit all NoMemory = Unit {0}

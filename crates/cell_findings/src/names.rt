@@ -9,7 +9,7 @@ ghost use Rattle.rule_spec.specs.Records.{is_edge_name as spec_edge_name};
 ghost use Rattle.cell_findings.specs.Judged.{identities_in as spec_identities_in, is_part_name as spec_part_name, names_in as spec_names_in};
 
 use cell_spec::{Names, ascending_names, distinct, orders_are_by_parts};
-use plain_lookups::{is_edge_name, name_of};
+use check_words::{is_edge_name, name_of};
 use s57_types::{Cell, Kind, Lnam, Rec, RecName};
 use std::alloc::{AllocError, Global};
 

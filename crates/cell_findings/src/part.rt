@@ -6,9 +6,9 @@ ghost use Rattle.rule_spec.specs.Records.{the_only};
 ghost use Rattle.cell_findings.specs.Extents.{IsPlaced, are_apart as spec_are_apart, names_of, segments_at as spec_segments_at};
 
 use chain_topo::{ListLook, Look, Steps, edge_line};
+use check_words::{Numbered, numbered, segments_of};
 use geometry_spec::{Box4, Point};
 use line_boxes::{are_disjoint, box_of_line};
-use plain_lookups::{Numbered, numbered, segments_of};
 use s57_types::{Kind, Rec, RecName};
 use std::alloc::{AllocError, Global};
 use std::sync::ledger::Ledger;

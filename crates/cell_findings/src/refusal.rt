@@ -9,7 +9,7 @@ use std::alloc::AllocError;
 pub enum FindingRefusal {
     /// There are more than the limit.
     TooMany,
-    /// Want of memory.
+    /// Out of memory.
     NoMemory,
 }
 

@@ -73,7 +73,7 @@ fn push_finding(out: &mut Vec<u8>, found: &SubjectFinding) -> Result<(), AllocEr
 
 /// Appends the lines of findings.
 ///
-/// An `Err` is want of memory, and leaves the text as it was.
+/// An `Err` means out of memory, and leaves the text as it was.
 pub fn push_findings(out: &mut Vec<u8>, findings: &[SubjectFinding]) -> Result<(), AllocError>
     ensures ok { OnOk result (out.new.items ≡ out.old.items ++ flat_map line_of findings.now) }
     ensures err { OnErr result (out.new.items ≡ out.old.items) }
@@ -127,7 +127,7 @@ fn push_total(out: &mut Vec<u8>, total: usize) -> Result<(), AllocError>
 /// Appends the part of a report that tells of a cell: how many records of each kind it has, and its findings, a line
 /// each.
 ///
-/// An `Err` is want of memory, and leaves the text as it was.
+/// An `Err` means out of memory, and leaves the text as it was.
 pub fn push_cell(out: &mut Vec<u8>, cell: &Cell, findings: &Findings) -> Result<(), AllocError>
     ensures ok { (rows : List (SpecSubject × List SpecFinding)) → findings.now ≡ findings_of_rows rows → OnOk result (out.new.items ≡ out.old.items ++ text_with cell.now rows) }
     ensures err { OnErr result (out.new.items ≡ out.old.items) }

@@ -168,7 +168,7 @@ fn areas(alloc: Global, n: u32) -> Result<Recs, AllocError>
 /// A cell of n rows of n squares of 40,000 integer coordinate units: their nodes and edges, a depth area (DEPARE) on each
 /// square, and one area of data coverage (M_COVR) on all.
 ///
-/// An `Err` is want of memory.
+/// An `Err` means out of memory.
 #[tactic(auto, unfolding(crate::specs::GeneratedCell::generated_cell), using(crate::proofs::Writable::generated_writable))]
 pub fn make_cell(alloc: Global, n: u32) -> Result<Cell, AllocError>
     requires some { 1 ≤ n }

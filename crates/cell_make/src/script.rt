@@ -115,7 +115,7 @@ fn commands_of(alloc: Global, n: u32, script: u32) -> Result<Vec<Command>, Alloc
 /// The scripts of k sessions, from 1 to 16, on the cell of n rows of n squares: ten rounds of a view, an edit and a commit
 /// each. Odd rounds move a node north and east by a few units, even rounds delete a depth area.
 ///
-/// An `Err` is want of memory.
+/// An `Err` means out of memory.
 #[tactic(auto, using(crate::proofs::Ranges::scripts_more))]
 pub fn make_scripts(alloc: Global, n: u32, k: u32) -> Result<Vec<Script>, AllocError>
     requires some { 1 ≤ n }

@@ -28,7 +28,7 @@ fn push_all<B: Look, L: Ledger>(
 
 /// The keys whose answers the edits can change, ascending, each once. It looks up the name of each edit.
 ///
-/// An `Err` is want of memory.
+/// An `Err` means out of memory.
 #[tactic(auto, unfolding(cell_spec::specs::Edits::touched_keys))]
 pub fn touched<B: Look, L: Ledger>(
     alloc: Global,

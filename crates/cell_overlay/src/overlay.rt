@@ -59,7 +59,7 @@ impl<'a, B: Look> Overlay<'a, B> {
     /// The look into the cell that the edits leave. It merges the lists of the keys that they touch, with one look-up for each edit and one
     /// for each touched key at most.
     ///
-    /// An `Err` is want of memory.
+    /// An `Err` means out of memory.
     pub fn make<L: Ledger>(
         alloc: Global,
         base: &'a B,

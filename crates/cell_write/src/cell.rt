@@ -134,7 +134,7 @@ fn put_all_records(alloc: Global, cell: &Cell, out: &mut Vec<u8>) -> Result<(), 
 /// isolated nodes, connected nodes, edges and features in the order of their lists. The counts of the data set structure
 /// information are taken anew from the records, and record numbers go on from 1, modulo 65,536.
 ///
-/// An `Err` is want of memory.
+/// An `Err` means out of memory.
 #[tactic(auto, unfolding(file_spec::specs::EncodedCell::encoded_cell))]
 pub fn write_cell(alloc: Global, cell: &Cell) -> Result<Vec<u8>, AllocError>
     requires { IsWritable cell.now }

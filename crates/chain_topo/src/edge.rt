@@ -137,7 +137,7 @@ fn line_of<B: Look, L: Ledger>(
 /// the other. There is none where the name isn't an edge's, where it hasn't exactly one beginning node and one end
 /// node, or where one of these isn't a connected node with exactly one position.
 ///
-/// It makes at most three look-ups. An `Err` is want of memory.
+/// It makes at most three look-ups. An `Err` means out of memory.
 #[tactic(auto, unfolding(rule_spec::specs::EdgePoints::edge_line_of))]
 pub fn edge_line<B: Look, L: Ledger>(
     alloc: Global,
@@ -157,7 +157,7 @@ pub fn edge_line<B: Look, L: Ledger>(
 
 /// The points of the edge of a name, latitude first, in integer coordinate units: those of its line.
 ///
-/// It makes at most three look-ups. An `Err` is want of memory.
+/// It makes at most three look-ups. An `Err` means out of memory.
 pub fn edge_points<B: Look, L: Ledger>(
     alloc: Global,
     look: &B,

@@ -52,7 +52,7 @@ impl<'a> Model for ListLook<'a> {
 impl<'a> ListLook<'a> {
     /// The look over a cell. It sorts the cell's records, pointers and identifiers.
     ///
-    /// An `Err` is want of memory.
+    /// An `Err` means out of memory.
     pub fn make(alloc: Global, cell: &'a Cell) -> Result<ListLook<'a>, AllocError>
         requires { IsReadable cell.now }
         ensures { IfOk result (λ look. look ≡ cell.now) }

@@ -24,8 +24,8 @@ use crate::part::Part;
 use crate::ring::ring_findings;
 use crate::sweep::{LineSweep, sweep_along};
 use cell_spec::Finding;
+use check_words::number;
 use near_records::NearRecords;
-use plain_lookups::number;
 use s57_types::{Feature, Kind, RecName, Spot};
 use std::alloc::{AllocError, Global};
 use std::collections::BTreeMap;
@@ -130,7 +130,7 @@ fn parts_of(
 /// primitive, name records of the cell and have their codes; where one of these isn't an edge with points, nothing is
 /// found. `near` holds what the cell answers to the feature's read set.
 ///
-/// An `Err` is want of memory.
+/// An `Err` means out of memory.
 pub fn area_findings(
     alloc: Global,
     near: &NearRecords,

@@ -8,7 +8,7 @@ ghost use Rattle.check_area.specs.Parts.{arc_of_part, exterior_count as spec_ext
 
 use crate::part::{Part, is_exterior, is_mixed, turns_wrongly};
 use cell_spec::Finding;
-use plain_lookups::number;
+use check_words::number;
 use ring_build::{Block, RingCut, cut};
 use rule_spec::{MIXED_RING, OPEN_RING, OUTER_COUNT, WRONG_TURN};
 use s57_types::RecName;
@@ -164,7 +164,7 @@ fn open_ring(alloc: Global, place: u32) -> Result<Vec<Finding>, AllocError>
 
 /// OpenRing, or what is found of the closed loops that the parts make one after the other.
 ///
-/// An `Err` is want of memory.
+/// An `Err` means out of memory.
 pub(crate) fn ring_findings(alloc: Global, parts: &[Part]) -> Result<Vec<Finding>, AllocError>
     ensures { IfOk result (λ findings. findings.items ≡ findings_of_parts parts.now) }
 {

@@ -13,8 +13,8 @@ ghost use Rattle.check_feature.specs.FeatureFindings.{boundary_findings, pointer
 
 use cell_spec::Finding;
 use check_area::area_findings;
+use check_words::AREA;
 use near_records::NearRecords;
-use plain_lookups::AREA;
 use s57_types::Feature;
 use std::alloc::{AllocError, Global};
 

@@ -26,7 +26,7 @@ use std::alloc::{AllocError, Global};
 /// is near. The kinds are PrimRefs, DanglingRef, BadCodes, OpenRing, MixedRing, OuterCount, WrongTurn, DanglingFeature,
 /// WrongGroup and BadLevel (S-57 Part 3, 2.4 and 7.6; Appendix B.1).
 ///
-/// An `Err` is want of memory.
+/// An `Err` means out of memory.
 pub fn feature_findings(
     alloc: Global,
     near: &NearRecords,

@@ -5,7 +5,7 @@ ghost use Rattle.rule_spec.specs.Findings.{finding};
 ghost use Rattle.rule_spec.specs.Rule.{found_if};
 
 use cell_spec::Finding;
-use plain_lookups::number;
+use check_words::number;
 use std::alloc::AllocError;
 
 /// Appends a finding without numbers where a test holds.

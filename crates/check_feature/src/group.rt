@@ -8,7 +8,7 @@ ghost use Rattle.rule_spec.specs.Findings.{finding};
 
 use crate::found::push_if;
 use cell_spec::Finding;
-use plain_lookups::is_group1_area;
+use check_words::is_group1_area;
 use rule_spec::WRONG_GROUP;
 use s57_types::Feature;
 use std::alloc::AllocError;

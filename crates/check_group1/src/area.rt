@@ -4,7 +4,7 @@ ghost use Rattle.std.specs.Prelude.{◌≡◌, ◌==◌};
 ghost use Rattle.std.specs.List.{list_any};
 ghost use Rattle.rule_spec.specs.Features.{is_coverage_area as covers, says_covered as covered};
 
-use plain_lookups::AREA;
+use check_words::AREA;
 use s57_types::{Attr, Feature};
 
 /// The object class M_COVR.

@@ -10,7 +10,7 @@ ghost use Rattle.s57_types.specs.declared.name.Lnam.{Lnam as SpecLnam};
 
 use cell_spec::{Finding, Findings, Key, Keys, Row, Subject, ascending_keys};
 use chain_topo::{Look, Steps};
-use plain_lookups::number;
+use check_words::number;
 use rule_spec::TWICE_FOID;
 use s57_types::{Lnam, RecName};
 use std::alloc::{AllocError, Global};
@@ -44,7 +44,7 @@ fn reads_of(alloc: Global, foid: Lnam) -> Result<Keys, AllocError>
 /// The findings about a feature object identifier, and their read set: its bearers. The kind is TwiceFoid, with the number
 /// of features that bear it. An identifier that no feature bears gives no finding.
 ///
-/// It makes at most four look-ups for each key of the read set. An `Err` is want of memory.
+/// It makes at most four look-ups for each key of the read set. An `Err` means out of memory.
 #[tactic(auto, unfolding(rule_spec::specs::Reads::read_set))]
 pub fn verdict_ident<B: Look, L: Ledger>(
     alloc: Global,

@@ -69,7 +69,7 @@ fn findings_of<B: Look, L: Ledger>(
 /// that no edge has gives no finding.
 ///
 /// It makes at most four look-ups for each key of the read set; each record that points to the edge is looked up once. An
-/// `Err` is want of memory.
+/// `Err` means out of memory.
 #[tactic(auto, using(crate::proofs::SideRows::some_side_key))]
 pub fn verdict_side<B: Look, L: Ledger>(
     alloc: Global,

@@ -12,7 +12,7 @@ use crate::area::is_coverage_area;
 use crate::referrer::{feature_at, features_of};
 use cell_spec::{Key, Ref};
 use chain_topo::{Look, Steps};
-use plain_lookups::{AREA, is_group1_area, number};
+use check_words::{AREA, is_group1_area, number};
 use rule_spec::{EdgeSideCounts, EdgeUse};
 use s57_types::{Feature, RecName, Spot};
 use std::alloc::{AllocError, Global};
@@ -110,7 +110,7 @@ fn coverage_count(ornt: u8, uses: &[EdgeUse]) -> usize
 
 /// How often Group 1 areas and coverage areas use an edge forward and in reverse: row by row.
 ///
-/// An `Err` is want of memory.
+/// An `Err` means out of memory.
 pub(crate) fn side_counts(uses: &[EdgeUse]) -> Result<EdgeSideCounts, AllocError>
     ensures { IfOk result (λ counts. counts ≡ counts_of uses.now) }
 {

@@ -9,10 +9,10 @@ ghost use Rattle.rule_spec.specs.Contacts.{is_on as spec_is_on, meet_at_one_of a
 ghost use Rattle.line_boxes.specs.LineBoxes.{line_box};
 ghost use Rattle.check_pairs.specs.SharedPlaces.{is_end_of as spec_is_end_of, place_if, shared_places as spec_shared_places, first_contact as spec_first_contact};
 
+use check_words::{Numbered, Segment, numbered, segments_of};
 use geo_exact::{meeting, on_segment};
 use geometry_spec::{Box4, MeetCase, Point};
 use line_boxes::{are_disjoint, box_of_line, box_of_segment};
-use plain_lookups::{Numbered, Segment, numbered, segments_of};
 use rule_spec::EdgeLine;
 use s57_types::RecName;
 use std::alloc::{AllocError, Global};

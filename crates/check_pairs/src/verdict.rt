@@ -46,7 +46,7 @@ fn pair_findings<B: Look, L: Ledger>(
 /// beginning or end node (S-57 Part 2, 2.2.1.2). Two nodes with one position each are at SamePlace. A node with one
 /// position is NodeOnEdge by the first segment of an edge whose ends don't name it.
 ///
-/// It makes at most four look-ups for each key of the read set. An `Err` is want of memory.
+/// It makes at most four look-ups for each key of the read set. An `Err` means out of memory.
 pub fn verdict_pair<B: Look, L: Ledger>(
     alloc: Global,
     look: &B,

@@ -4,7 +4,7 @@ use Rattle.std.specs.Prelude.{◌==◌, nat_lt}
 use Rattle.std.proofs.lemmas.List.{drop_more, map-append}
 use Rattle.std.proofs.lemmas.List.Concat.{flat_map-cons}
 use Rattle.line_boxes.proofs.ApartLines.{NeedsMeeting}
-use Rattle.plain_lookups.proofs.Appends.{find_hit, find_missed}
+use Rattle.check_words.proofs.Appends.{find_hit, find_missed}
 use Rattle.rule_spec.specs.Vectors.{Numbered, is_bad_meeting, meets_wrongly}
 use Rattle.check_record.specs.Blocks.{segments_in}
 use Rattle.check_record.specs.declared.blocks.Block.{Block}

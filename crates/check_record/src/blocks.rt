@@ -3,9 +3,9 @@
 ghost use Rattle.std.specs.Prelude.{◌≡◌, ◌++◌, All, IfOk, OnOk};
 ghost use Rattle.check_record.specs.Blocks.{IsBoxed, segments_in};
 
+use check_words::Numbered;
 use geometry_spec::Box4;
 use line_boxes::box_of_line;
-use plain_lookups::Numbered;
 use std::alloc::{AllocError, Global};
 
 /// How many segments a block has: about the root of the most that an edge has.

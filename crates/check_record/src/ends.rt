@@ -15,7 +15,7 @@ ghost use Rattle.check_record.specs.Nodes.{is_node_key, names_node, names_node_o
 
 use cell_spec::{Finding, Key};
 use chain_topo::{Look, Steps};
-use plain_lookups::number;
+use check_words::number;
 use rule_spec::{DANGLING_END, END_COUNT};
 use s57_types::{Kind, Rec, RecName, Vector};
 use std::alloc::{AllocError, Global};

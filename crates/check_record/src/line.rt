@@ -12,8 +12,8 @@ ghost use Rattle.rule_spec.specs.Vectors.{stacked_segment as spec_stacked_segmen
 
 use crate::self_meet::push_self_meet;
 use cell_spec::Finding;
+use check_words::{Segment, number, same_point, segments_of};
 use geometry_spec::Point;
-use plain_lookups::{Segment, number, same_point, segments_of};
 use rule_spec::{EdgeLine, STACKED};
 use std::alloc::{AllocError, Global};
 

@@ -9,10 +9,10 @@ ghost use Rattle.check_record.specs.Blocks.{IsBoxed, segments_in};
 use crate::blocks::{Block, blocks_of};
 use crate::line::stacked_segment;
 use cell_spec::Finding;
+use check_words::{Numbered, number, numbered, same_point, segments_of};
 use geo_exact::meeting;
 use geometry_spec::{MeetCase, Point};
 use line_boxes::{are_disjoint, box_of_segment};
-use plain_lookups::{Numbered, number, numbered, same_point, segments_of};
 use rule_spec::SELF_MEET;
 use std::alloc::{AllocError, Global};
 

@@ -79,7 +79,7 @@ fn bare_row(alloc: Global, name: RecName) -> Result<Row, AllocError>
 /// OpenRing, MixedRing, OuterCount, WrongTurn, DanglingFeature, WrongGroup and BadLevel. The head's name and a name that no
 /// record has give no finding, and their read set is the name.
 ///
-/// It makes at most four look-ups for each key of the read set. An `Err` is want of memory.
+/// It makes at most four look-ups for each key of the read set. An `Err` means out of memory.
 pub fn verdict_rec<B: Look, L: Ledger>(
     alloc: Global,
     look: &B,

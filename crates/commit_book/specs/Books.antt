@@ -99,7 +99,7 @@ pub record IsEntered (old : BookState) (desk : ℕ) (asked : Asked) (new : BookS
   pub reply_is : reply ≡ answer (history_of old) (event_asked asked)
   pub entries : new.entries ≡ old.entries ++ entry_of desk asked (brief_of reply) ∷ []
 
--- nothing is entered where there are as many entries as there may be, or where memory is wanting
+-- nothing is entered where there are as many entries as there may be, or where memory runs out
 abbrev pub IsBookRefusal : List Entry → BookRefusal → Type 0
 IsBookRefusal entries LogFull = length entries ≡ entry_limit
 IsBookRefusal entries NoMemory = Unit {0}

@@ -55,7 +55,7 @@ impl Chronicle for Book {
 impl Book {
     /// The book of a writable cell before its first entry, with the look-ups that finding its findings takes.
     ///
-    /// An `Err` says that the cell has more findings than the limit, or is want of memory.
+    /// An `Err` says that the cell has more findings than the limit, or means out of memory.
     pub fn make<L: Ledger>(
         alloc: Global,
         cell: Cell,
@@ -134,7 +134,7 @@ impl Book {
 
     /// Lets a desk see the newest state, and tells it the edit sets that were accepted after its base.
     ///
-    /// An `Err` says that there are as many entries as there may be, or is want of memory; nothing is changed then.
+    /// An `Err` says that there are as many entries as there may be, or means out of memory; nothing is changed then.
     pub fn view(&mut self, alloc: Global, desk: u32, base: u32) -> Result<Told, BookRefusal>
         requires { base ≤ length (history_of self.old).commits }
         ensures ok { IfOk result (λ told. IsEntered self.old desk Asked.View self.new told.reply) }

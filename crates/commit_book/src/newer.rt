@@ -58,7 +58,7 @@ fn first_clash(
 /// The answer where an accepted commit above the base edits what the set edits or guards: the one with the least number,
 /// counted from 1, and the least such name in it.
 ///
-/// An `Err` is want of memory.
+/// An `Err` means out of memory.
 pub(crate) fn newer_answer(
     alloc: Global,
     accepted: &[Accepted],

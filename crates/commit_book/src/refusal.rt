@@ -9,7 +9,7 @@ use std::alloc::AllocError;
 pub enum BookRefusal {
     /// It has as many entries as it may have.
     LogFull,
-    /// Want of memory.
+    /// Out of memory.
     NoMemory,
 }
 

@@ -95,7 +95,7 @@ impl DependMap {
         Readers::from(self.readers.rows_from(&(key, LEAST)), key)
     }
 
-    /// The map after some changes, one after the other. It takes all memory that they need, and an `Err` is want of it.
+    /// The map after some changes, one after the other. It takes all memory that they need, and an `Err` means that there isn't enough.
     pub fn plan(&self, alloc: Global, changes: &[ReadChange]) -> Result<ReadPlan, AllocError>
         ensures { IfOk result (λ plan. plan ≡ after_changes self.now changes.now) }
     {

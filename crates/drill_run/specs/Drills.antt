@@ -48,7 +48,7 @@ pub record IsDrilled (n sessions : ℕ) (drilled : Drilled) : Type 0 where
   pub few : finding_total (generated_cell n) ≤ finding_limit
   pub counts : drilled ≡ drill_counts n sessions
 
--- there is none where it has too many, or where memory is wanting
+-- there is none where it has too many, or where memory runs out
 abbrev pub IsDrillRefusal : ℕ → DrillRefusal → Type 0
 IsDrillRefusal n TooManyFindings = finding_limit < finding_total (generated_cell n)
 IsDrillRefusal n NoMemory = Unit {0}

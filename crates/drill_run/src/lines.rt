@@ -23,7 +23,7 @@ fn push_records(out: &mut Vec<u8>, cell: &Cell) -> Result<(), AllocError>
 
 /// Appends the line of a generated cell, whose file has so many bytes.
 ///
-/// An `Err` is want of memory, and leaves the text as it was.
+/// An `Err` means out of memory, and leaves the text as it was.
 pub fn push_made(
     alloc: Global,
     cell: &Cell,
@@ -43,7 +43,7 @@ pub fn push_made(
 
 /// Appends the line of a drill.
 ///
-/// An `Err` is want of memory, and leaves the text as it was.
+/// An `Err` means out of memory, and leaves the text as it was.
 pub fn push_drill(
     alloc: Global,
     size: u32,

@@ -18,7 +18,7 @@ use std::alloc::{AllocError, Global};
 pub enum DrillRefusal {
     /// The generated cell has more findings than the limit.
     TooManyFindings,
-    /// Want of memory.
+    /// Out of memory.
     NoMemory,
 }
 
@@ -50,7 +50,7 @@ fn run_in_turns(alloc: Global, book: Book, size: u32, sessions: u32) -> Result<D
 /// Runs the generated scripts of so many sessions, from 1 to 16, on the generated cell of so many rows of squares, from 1 to 100: the sessions
 /// in turn, one view or commit each, until all scripts are done.
 ///
-/// An `Err` says that the generated cell has more findings than the limit, or is want of memory.
+/// An `Err` says that the generated cell has more findings than the limit, or means out of memory.
 pub fn drill(alloc: Global, size: u32, sessions: u32) -> Result<Drilled, DrillRefusal>
     requires some { 1 ≤ size }
     requires few { size ≤ 100 }

@@ -34,7 +34,7 @@ impl<'a> Model for EditAnswers<'a> {
 impl<'a> EditAnswers<'a> {
     /// What the records of an edit set answer. It sorts their pointers and identifiers.
     ///
-    /// An `Err` is want of memory.
+    /// An `Err` means out of memory.
     pub fn make(alloc: Global, edits: &'a EditSet) -> Result<EditAnswers<'a>, AllocError>
         ensures { IfOk result (λ answers. answers ≡ edits.now) }
     {
@@ -51,7 +51,7 @@ impl<'a> EditAnswers<'a> {
 
     /// The pointers to a name after the edits, from those before them.
     ///
-    /// An `Err` is want of memory.
+    /// An `Err` means out of memory.
     pub fn pointers_after(
         &self,
         alloc: Global,
@@ -68,7 +68,7 @@ impl<'a> EditAnswers<'a> {
 
     /// The bearers of an identifier after the edits, from those before them.
     ///
-    /// An `Err` is want of memory.
+    /// An `Err` means out of memory.
     pub fn bearers_after(
         &self,
         alloc: Global,

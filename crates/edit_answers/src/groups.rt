@@ -31,7 +31,7 @@ impl<K: Ord, V> Model for Groups<K, V> {
 impl<K: Ord + Copy, V: Ord + Copy> Groups<K, V> {
     /// The pairs in ascending order, each once.
     ///
-    /// An `Err` is want of memory.
+    /// An `Err` means out of memory.
     pub(crate) fn make(alloc: Global, pairs: Vec<(K, V)>) -> Result<Groups<K, V>, AllocError>
         requires exact_keys { (a b : K) → K.cmp a b ≡ Equal → a ≡ b }
         requires exact_values { (a b : V) → V.cmp a b ≡ Equal → a ≡ b }

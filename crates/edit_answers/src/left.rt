@@ -36,7 +36,7 @@ pub(crate) fn left_records(alloc: Global, edits: &[Edit]) -> Result<Vec<&Rec>, A
 
 /// The pointers of records in groups by target.
 ///
-/// An `Err` is want of memory.
+/// An `Err` means out of memory.
 pub fn group_pointers(alloc: Global, records: &[&Rec]) -> Result<Groups<RecName, Ref>, AllocError>
     requires { All (λ (r : Bor SpecRec). HasFewPointers r.now) records.now }
     ensures { IfOk result (λ groups. ArePointersOf (map (λ (r : Bor SpecRec). r.now) records.now) groups) }
@@ -48,7 +48,7 @@ pub fn group_pointers(alloc: Global, records: &[&Rec]) -> Result<Groups<RecName,
 
 /// The names of features in groups by the identifier that they bear.
 ///
-/// An `Err` is want of memory.
+/// An `Err` means out of memory.
 pub fn group_identities(
     alloc: Global,
     records: &[&Rec],

@@ -25,7 +25,7 @@ fn add_records<'a>(list: &mut Vec<&'a Rec>, recs: &'a [Rec]) -> Result<(), Alloc
 
 /// All records of a cell, in file order.
 ///
-/// An `Err` is want of memory.
+/// An `Err` means out of memory.
 pub fn records_of(alloc: Global, cell: &Cell) -> Result<Vec<&Rec>, AllocError>
     ensures { IfOk result (λ list. map (λ r. r.now) list.items ≡ all_records cell.now) }
 {

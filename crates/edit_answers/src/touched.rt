@@ -34,7 +34,7 @@ fn push_spots(keys: &mut Vec<Key>, spots: &[Spot]) -> Result<(), AllocError>
 
 /// Appends the keys, beside its name, that a record is an answer to.
 ///
-/// An `Err` is want of memory.
+/// An `Err` means out of memory.
 pub fn push_answered(keys: &mut Vec<Key>, rec: &Rec) -> Result<(), AllocError>
     ensures { OnOk result (keys.new.items ≡ keys.old.items ++ keys_answered_by rec.now) }
 {
@@ -51,7 +51,7 @@ pub fn push_answered(keys: &mut Vec<Key>, rec: &Rec) -> Result<(), AllocError>
 
 /// Appends the keys that an edit touches where this record, or none, has its name before it.
 ///
-/// An `Err` is want of memory.
+/// An `Err` means out of memory.
 pub fn push_touched(keys: &mut Vec<Key>, old: Option<&Rec>, edit: &Edit) -> Result<(), AllocError>
     ensures { OnOk result (keys.new.items ≡ keys.old.items ++ keys_touched_by (option_copied old.entry) edit.now) }
 {

@@ -78,7 +78,7 @@ pub record IsSetOf (nall : ℕ) (edits : List Edit) (guards : List RecName) (set
   pub nall_is : set.nall ≡ nall
   pub no_fault : form_fault nall edits guards ≡ None
 
--- a refusal tells the fault, or is want of memory, which may come in place of a fault too
+-- a refusal tells the fault, or means out of memory, which may come in place of a fault too
 abbrev pub IsFormRefusal : ℕ → List Edit → List RecName → FormRefusal → Type 0
 IsFormRefusal nall edits guards (Fault fault) = form_fault nall edits guards ≡ Some fault
 IsFormRefusal nall edits guards NoMemory = Unit {0}

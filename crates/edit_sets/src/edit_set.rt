@@ -62,7 +62,7 @@ impl EditSet {
     /// The set of copies of these edits and guards at the level NALL. Guards may repeat, may be names of the edits and may be
     /// names of nothing.
     ///
-    /// An `Err` is the first fault of their form, or want of memory.
+    /// An `Err` is the first fault of their form, or out of memory.
     pub fn make(
         alloc: Global,
         edits: &[Edit],

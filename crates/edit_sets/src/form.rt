@@ -41,7 +41,7 @@ pub(crate) fn count_fault(edits: usize, guards: usize) -> Option<FormFault>
     None
 }
 
-/// The places of edits by their names. An `Err` is the first fault of an edit, or want of memory.
+/// The places of edits by their names. An `Err` is the first fault of an edit, or out of memory.
 pub(crate) fn places_of(alloc: Global, edits: &[Edit], nall: u8) -> Result<Places, FormRefusal>
     requires { length edits.now < 2 ^ 32 }
     ensures { MatchResult result (IsWithoutFault nall edits.now) (IsEditRefusal nall edits.now) }

@@ -93,7 +93,7 @@ impl MemShelf {
 
     /// Puts a file into the store, in place of one of the same name.
     ///
-    /// An `Err` is want of memory, and changes nothing.
+    /// An `Err` means out of memory, and changes nothing.
     pub fn place(&mut self, name: &str, bytes: &[u8]) -> Result<(), AllocError>
         ensures ok { OnOk result (Writes name.now bytes.now (mem_files self.old) (mem_files self.new)) }
         ensures err { OnErr result (SameFiles (mem_files self.old) (mem_files self.new)) }

@@ -38,7 +38,7 @@ same_err x y e = cc
 not_ok : (task : Task) (status : Status) → ◌≡◌ {A = Result Task Status} (Ok task) (Err status) → ⊥
 not_ok task status e = cc
 
--- a drill that ends with another status than want of memory ends with too many findings
+-- a drill that ends with another status than out of memory ends with too many findings
 full_drill : (n sessions : ℕ) (status : Status) → drill_answer n sessions ≡ Err status → TooManyFindings ≡ status
 full_drill n sessions status is = by (nat_lt finding_limit (finding_total (generated_cell n))) is
   where

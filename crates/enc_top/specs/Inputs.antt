@@ -182,7 +182,7 @@ IsReached (drill_form n sessions) files name = ⊥
 IsReached no_form files name = ⊥
 
 -- what a step's answer tells, with what it gave seen through a function: where the files are told, the relation of the step
--- holds of it; a fault of reading comes only with a risen count, and of a file that the step reaches; want of memory is free
+-- holds of it; a fault of reading comes only with a risen count, and of a file that the step reaches; out of memory is free
 abbrev pub Tells : {A B : Type 0} → (A → B) → (Files → Result B Status → Type 0) → (Files → List ℕ → Type 0) → Option Files → ℕ → ℕ → Result A Status → Type 0
 Tells seen Step Reached files before after (Ok a) = IfSome files (λ fs. Step fs (Ok (seen a)))
 Tells seen Step Reached files before after (Err (ReadFault name)) = Rose before after × IfSome files (λ fs. Reached fs name)
@@ -221,7 +221,7 @@ IsInputOf (make_form n out) name = ⊥
 IsInputOf (drill_form n sessions) name = ⊥
 IsInputOf no_form name = ⊥
 
--- an answer of a judging step: the expected one, or want of memory
+-- an answer of a judging step: the expected one, or out of memory
 abbrev pub IsJudged : {A B : Type 0} → (A → B) → Result B Status → Result A Status → Type 0
 IsJudged seen expected (Ok a) = expected ≡ Ok (seen a)
 IsJudged seen expected (Err status) = (expected ≡ Err status) ⊎ (status ≡ NoMemory)

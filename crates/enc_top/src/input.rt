@@ -15,7 +15,7 @@ pub enum InputRefusal {
     ReadFault,
     /// The file has more bytes than its limit.
     TooLarge,
-    /// Want of memory.
+    /// Out of memory.
     NoMemory,
 }
 

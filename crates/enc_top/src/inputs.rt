@@ -15,8 +15,8 @@ ghost use Rattle.enc_top.specs.Refused.{IsRefusal};
 
 use crate::input::{InputRefusal, read_file};
 use cell_bench::{Bench, FINDING_LIMIT, LoadRefusal};
-use cell_decode::ReadRefusal;
 use cell_findings::{FindingRefusal, Findings, find_all};
+use cell_read::ReadRefusal;
 use decode_laws::decoded_cell_is_writable;
 use enc_outside::Shelf;
 use order_text::{Order, OrderRefusal, order_lines_are_read, read_order};
@@ -90,7 +90,7 @@ fn decode(alloc: Global, bytes: &[u8]) -> Result<Cell, Status>
     ensures status { IfErr result (IsInputStatus (λ n. ⊥)) }
 {
     decoded_cell_is_writable();
-    match cell_decode::read_cell(alloc, bytes) {
+    match cell_read::read_cell(alloc, bytes) {
         Ok(cell) => Ok(cell),
         Err(ReadRefusal::Fault(fault)) => Err(Status::BadCell(fault)),
         Err(ReadRefusal::NoMemory) => Err(Status::NoMemory),

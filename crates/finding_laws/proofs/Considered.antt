@@ -30,8 +30,8 @@ use Rattle.rule_spec.specs.Candidates.{are_candidates, candidates_of}
 use Rattle.rule_spec.specs.Findings.{is_below, is_subject, subjects}
 use Rattle.rule_spec.specs.Reads.{read_set}
 use Rattle.rule_spec.specs.Records.{is_edge_name, vector_of}
-use Rattle.frame_laws.specs.FindingsFollowReads.{FindingsFollowReads}
-use Rattle.frame_laws.proofs.Lists.{each_weaker}
+use Rattle.read_laws.specs.FindingsFollowReads.{FindingsFollowReads}
+use Rattle.read_laws.proofs.Lists.{each_weaker}
 use Rattle.answer_laws.specs.EditedAnswers.{FindTheirRecords, UntouchedKeysKeepAnswers, is_touched}
 use Rattle.answer_laws.proofs.Among.{Among, among_map, found, in_back, in_front, passing}
 use Rattle.answer_laws.proofs.EditedNames.{no_head_after}

@@ -15,10 +15,10 @@ use Rattle.rule_spec.specs.Candidates.{are_candidates}
 use Rattle.rule_spec.specs.Findings.{findings_of_subject, is_below, is_subject}
 use Rattle.rule_spec.specs.Reads.{read_set, record_keys}
 use Rattle.rule_spec.specs.Records.{is_chain_part}
-use Rattle.frame_laws.specs.FindingsFollowReads.{FindingsFollowReads}
-use Rattle.frame_laws.proofs.Keys.{each_key_read}
-use Rattle.frame_laws.proofs.Lists.{each_joined}
-use Rattle.frame_laws.proofs.Pairs.{same_about_pair}
+use Rattle.read_laws.specs.FindingsFollowReads.{FindingsFollowReads}
+use Rattle.read_laws.proofs.Keys.{each_key_read}
+use Rattle.read_laws.proofs.Lists.{each_joined}
+use Rattle.read_laws.proofs.Pairs.{same_about_pair}
 use Rattle.answer_laws.specs.EditedAnswers.{FindTheirRecords, UntouchedKeysKeepAnswers}
 use Rattle.finding_laws.specs.Pairs.{FoundPairsAreCandidates}
 use Rattle.finding_laws.specs.Unaffected.{UnaffectedSubjectsKeepFindings}

@@ -22,11 +22,11 @@ use Rattle.rule_spec.specs.Candidates.{segments_named}
 use Rattle.rule_spec.specs.EdgePoints.{segments_of}
 use Rattle.rule_spec.specs.Findings.{is_subject}
 use Rattle.rule_spec.specs.Reads.{read_set, record_keys}
-use Rattle.frame_laws.specs.FindingsFollowReads.{FindingsFollowReads}
-use Rattle.frame_laws.proofs.EdgeLines.{same_line, same_position}
-use Rattle.frame_laws.proofs.Keys.{each_key_read}
-use Rattle.frame_laws.proofs.Lists.{each_weaker}
-use Rattle.frame_laws.proofs.Records.{HasAlikeRecord, alike_record}
+use Rattle.read_laws.specs.FindingsFollowReads.{FindingsFollowReads}
+use Rattle.read_laws.proofs.EdgeLines.{same_line, same_position}
+use Rattle.read_laws.proofs.Keys.{each_key_read}
+use Rattle.read_laws.proofs.Lists.{each_weaker}
+use Rattle.read_laws.proofs.Records.{HasAlikeRecord, alike_record}
 use Rattle.answer_laws.specs.EditedAnswers.{FindTheirRecords, UntouchedKeysKeepAnswers, is_touched}
 use Rattle.answer_laws.proofs.Tests.{any_same}
 use Rattle.finding_laws.specs.Unaffected.{UnaffectedRecordsKeepSegments, UnaffectedSinglesKeepReads}

@@ -13,7 +13,7 @@ use Rattle.std.proofs.lemmas.Map.Lookups.{CmpEqualImpliesEq}
 use Rattle.cell_spec.specs.Ascending.{ascending, put_in_order}
 use Rattle.cell_spec.proofs.Ascending.{holds, holds-put, holds-ascending, sorted-ascending, same_when_sorted}
 use Rattle.answer_laws.proofs.Among.{Among}
-use Rattle.frame_laws.proofs.Lists.{each_filtered}
+use Rattle.read_laws.proofs.Lists.{each_filtered}
 use Rattle.finding_laws.proofs.Lists.{among_held, held_among}
 use Rattle.finding_laws.proofs.Tests.{first_fails, second_fails}
 

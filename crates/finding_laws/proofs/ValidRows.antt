@@ -7,9 +7,9 @@ use Rattle.cell_spec.specs.declared.finding.Row.{Row}
 use Rattle.cell_spec.specs.Edits.{apply_edits}
 use Rattle.cell_spec.specs.Names.{same_key}
 use Rattle.rule_spec.specs.Reads.{read_set}
-use Rattle.frame_laws.specs.FindingsFollowReads.{FindingsFollowReads}
+use Rattle.read_laws.specs.FindingsFollowReads.{FindingsFollowReads}
 use Rattle.cell_spec.specs.AnswersAlike.{AnswerAlike}
-use Rattle.frame_laws.proofs.Lists.{each_weaker}
+use Rattle.read_laws.proofs.Lists.{each_weaker}
 use Rattle.answer_laws.specs.EditedAnswers.{EditedAnswersAreLocal}
 use Rattle.finding_laws.specs.Unaffected.{ValidRowsStayExact}
 use Rattle.finding_laws.proofs.KeptReads.{none_read}

@@ -4,7 +4,7 @@ ghost use Rattle.finding_laws.specs.Unaffected.{AffectedAreConsidered, AffectedL
 
 use crate::pair::found_pairs_are_candidates;
 use answer_laws::{edited_answers_are_local, untouched_keys_keep_answers};
-use frame_laws::findings_follow_reads;
+use read_laws::findings_follow_reads;
 
 /// The list of a cell's subjects holds exactly what is a subject of the cell.
 pub fn subjects_are_listed()

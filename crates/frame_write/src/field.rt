@@ -26,7 +26,7 @@ pub enum LeaderKind {
 pub enum WriteRefusal {
     /// The record would have more than 99,999 bytes.
     TooLong,
-    /// Want of memory.
+    /// Out of memory.
     NoMemory,
 }
 

@@ -4,7 +4,7 @@ use Rattle.geometry_spec.specs.Boxes.{are_disjoint}
 use Rattle.geometry_spec.specs.declared.segment.MeetCase.TheVariants.{Apart}
 use Rattle.geometry_spec.specs.declared.tile.Box4.{Box4}
 use Rattle.geometry_spec.proofs.DisjointBoxes.{apart_by_boxes}
-use Rattle.plain_lookups.proofs.Appends.{find_missed}
+use Rattle.check_words.proofs.Appends.{find_missed}
 use Rattle.rule_spec.specs.Vectors.{Numbered, each_with_each, meeting_of_segments}
 use Rattle.line_boxes.specs.LineBoxes.{box_of_segment, box_with, line_box, united}
 use Rattle.line_boxes.proofs.DisjointBoxes.{disjoint_next, either_way}

@@ -4,9 +4,9 @@ ghost use Rattle.std.specs.Prelude.{◌≡◌};
 ghost use Rattle.geometry_spec.specs.Boxes.{are_disjoint as spec_are_disjoint, are_disjoint_ranges};
 ghost use Rattle.line_boxes.specs.LineBoxes.{box_of_segment as spec_box_of_segment, box_with, line_box, united as spec_united};
 
+use check_words::Numbered;
 use geo_exact::box_of;
 use geometry_spec::Box4;
-use plain_lookups::Numbered;
 
 fn share_no_latitude(a: Box4, b: Box4) -> bool
     ensures { result ≡ are_disjoint_ranges a.south a.north b.south b.north }

@@ -1,7 +1,7 @@
 //! A generated cell of 3,454,558 bytes, read or written so many times over.
 
-use cell_decode::read_cell;
 use cell_make::make_cell;
+use cell_read::read_cell;
 use cell_write::write_cell;
 use s57_types::Cell;
 use std::alloc::{AllocError, Global};

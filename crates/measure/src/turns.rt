@@ -49,7 +49,7 @@ impl Deed<Numbers> for Enter {
     }
 }
 
-/// A thread's handle, and whether it met want of memory.
+/// A thread's handle, and whether it ran out of memory.
 #[derive(Drop)]
 struct Worker {
     seat: GateSeat<Numbers>,

@@ -80,7 +80,7 @@ fn ascending_copy(alloc: Global, keys: &[Key]) -> Result<Keys, AllocError>
 
 /// What the cell answers to the keys, each looked up once.
 ///
-/// An `Err` is want of memory.
+/// An `Err` means out of memory.
 pub fn gather<'a, B: Look, L: Ledger>(
     alloc: Global,
     look: &'a B,

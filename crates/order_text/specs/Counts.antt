@@ -9,7 +9,7 @@ use Rattle.order_text.specs.declared.order.OrderRefusal.TheVariants.{BadPlace, N
 abbrev pub AreCounts : List ℕ → List ℕ → Type 0
 AreCounts order used = (i : ℕ) → i < length used → slice_index used i ≡ count_by (λ other. other == i + 1) order
 
--- a refusal tells the first bad item, or is want of memory
+-- a refusal tells the first bad item, or means out of memory
 abbrev pub IsItemRefusal : List ℕ → List (List ℕ) → OrderRefusal → Type 0
 IsItemRefusal quotas words (BadPlace place) = first_bad_item quotas words ≡ Some place
 IsItemRefusal quotas words NoMemory = Unit {0}
@@ -21,7 +21,7 @@ pub record AreTaken (quotas : List ℕ) (words : List (List ℕ)) (order used : 
   pub counts : AreCounts order used
   pub as_many : length used ≡ length quotas
 
--- a refusal tells the first bad place, or is want of memory
+-- a refusal tells the first bad place, or means out of memory
 abbrev pub IsOrderRefusal : List ℕ → List ℕ → OrderRefusal → Type 0
 IsOrderRefusal quotas text (BadPlace place) = order_of quotas text ≡ Err place
 IsOrderRefusal quotas text NoMemory = Unit {0}

@@ -18,7 +18,7 @@ pub enum OrderRefusal {
     /// The first bad place: 0 where the text doesn't begin with `order`, else the place of an item from 1, or one more
     /// than there are items.
     BadPlace(u32),
-    /// Want of memory.
+    /// Out of memory.
     NoMemory,
 }
 
@@ -42,7 +42,7 @@ fn is_ended(behind: &[u8], items: usize, quotas: &[u32], used: &[u32]) -> bool
 
 /// The order that a text is, where each session has so many shared commands.
 ///
-/// An `Err` is its first bad place, or want of memory.
+/// An `Err` is its first bad place, or out of memory.
 pub fn read_order(alloc: Global, bytes: &[u8], quotas: &[u32]) -> Result<Order, OrderRefusal>
     requires short { length bytes.now < 2 ^ 32 }
     requires few { length quotas.now < 2 ^ 32 }

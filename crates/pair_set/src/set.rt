@@ -67,7 +67,7 @@ impl<A: Ord + Copy + Drop, B: Ord + Copy + Drop> PairSet<A, B> {
         self.rows.get(&(first, second)).is_some()
     }
 
-    /// Puts a pair. An `Err` is want of memory.
+    /// Puts a pair. An `Err` means out of memory.
     pub fn put(&mut self, alloc: Global, first: A, second: B) -> Result<(), AllocError>
         ensures { OnOk result ((a : A) (b : B) →
             has_pair A.cmp B.cmp self.new a b ≡ (same_pair A.cmp B.cmp first second a b || has_pair A.cmp B.cmp self.old a b)) }
@@ -122,7 +122,7 @@ impl<A: Ord + Copy + Drop, B: Ord + Copy + Drop> PairSet<A, B> {
     }
 
     /// Puts new firsts of a second, which ascend, in place of its old ones. Each that is lost or gained is taken or put by itself. Only
-    /// one and the same tie in the orders of both parts. An `Err` is want of memory.
+    /// one and the same tie in the orders of both parts. An `Err` means out of memory.
     pub fn replace(
         &mut self,
         alloc: Global,

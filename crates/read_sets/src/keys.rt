@@ -12,7 +12,7 @@ use std::alloc::AllocError;
 
 /// Appends the names of the records that an edge's ends name (VRPT, S-57 Part 3, 7.7.1.4), in their order.
 ///
-/// An `Err` is want of memory.
+/// An `Err` means out of memory.
 pub fn push_end_keys(keys: &mut Vec<Key>, edge: &Vector) -> Result<(), AllocError>
     ensures { OnOk result (keys.new.items ≡ keys.old.items ++ end_keys edge.now) }
 {
@@ -25,7 +25,7 @@ pub fn push_end_keys(keys: &mut Vec<Key>, edge: &Vector) -> Result<(), AllocErro
 /// Appends what the findings about a node or an edge depend on, where `vector` is the record that a cell has under
 /// `name`: the name, and for an edge the names of the records that its ends name.
 ///
-/// An `Err` is want of memory.
+/// An `Err` means out of memory.
 pub fn push_vector_keys(
     keys: &mut Vec<Key>,
     name: RecName,

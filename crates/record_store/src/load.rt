@@ -21,7 +21,7 @@ use std::alloc::{AllocError, Global};
 impl RecordStore {
     /// The store of a writable cell.
     ///
-    /// An `Err` is want of memory.
+    /// An `Err` means out of memory.
     pub fn load(alloc: Global, cell: Cell) -> Result<RecordStore, AllocError>
         requires { IsWritable cell }
         ensures { IfOk result (λ store. store ≡ cell) }

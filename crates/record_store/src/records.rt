@@ -16,8 +16,8 @@ use crate::file_lists::{FileList, FileLists};
 use crate::walk::Walk;
 use answer_laws::edits_add_up;
 use cell_spec::{Edit, orders_are_by_parts};
+use check_words::name_of;
 use edit_answers::edits_leave_their_records;
-use plain_lookups::name_of;
 use s57_types::{Cell, Duplicate, Head, HeadEdit, Kind, Rec, RecName, Recs};
 use shared_table::{Shared, SharedTable};
 use std::alloc::{AllocError, Global};
@@ -78,7 +78,7 @@ impl Records {
 
     /// The records of a writable cell.
     ///
-    /// An `Err` is want of memory.
+    /// An `Err` means out of memory.
     pub(crate) fn load(alloc: Global, cell: Cell) -> Result<Records, AllocError>
         requires { IsWritable cell }
         ensures { IfOk result (λ records. records ≡ cell) }
@@ -118,7 +118,7 @@ impl Records {
 
     /// The records after an edit, which finds what it needs.
     ///
-    /// An `Err` is want of memory.
+    /// An `Err` means out of memory.
     pub(crate) fn edited(self, alloc: Global, edit: &Edit) -> Result<Records, AllocError>
         requires { FindTheirRecords (edit.now ∷ []) self }
         ensures { IfOk result (λ records. records ≡ apply_edits (edit.now ∷ []) self) }
@@ -218,7 +218,7 @@ impl Records {
 
     /// The records after edits that find what they need.
     ///
-    /// An `Err` is want of memory.
+    /// An `Err` means out of memory.
     pub(crate) fn after(self, alloc: Global, edits: &[Edit]) -> Result<Records, AllocError>
         requires { FindTheirRecords edits.now self }
         ensures { IfOk result (λ records. records ≡ apply_edits edits.now self) }
@@ -256,7 +256,7 @@ impl Records {
 
     /// A copy of the cell.
     ///
-    /// An `Err` is want of memory.
+    /// An `Err` means out of memory.
     pub(crate) fn to_cell(&self, alloc: Global) -> Result<Cell, AllocError>
         ensures { IfOk result (λ cell. cell ≡ self.now) }
     {

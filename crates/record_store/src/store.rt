@@ -66,7 +66,7 @@ impl RecordStore {
 
     /// A copy of the cell.
     ///
-    /// An `Err` is want of memory.
+    /// An `Err` means out of memory.
     pub fn to_cell(&self, alloc: Global) -> Result<Cell, AllocError>
         ensures { IfOk result (λ cell. cell ≡ self.now) }
     {
@@ -107,7 +107,7 @@ impl RecordStore {
         }
     }
 
-    /// The store after edits. It takes all memory that they need, and an `Err` is want of it.
+    /// The store after edits. It takes all memory that they need, and an `Err` means that there isn't enough.
     pub fn plan(&self, alloc: Global, edits: &EditSet) -> Result<StorePlan, AllocError>
         requires level { edits.now.nall ≡ self.now.head.nall }
         requires taken { is_applicable edits.now.edits self.now ≡ true }

@@ -20,7 +20,7 @@ fn flat_findings(alloc: Global, bench: &Bench) -> Result<Findings, AllocError>
 
 /// Appends the cell's part of a report: the numbers of its records of each kind, and all its findings.
 ///
-/// An `Err` is want of memory, and leaves the text as it was.
+/// An `Err` means out of memory, and leaves the text as it was.
 pub fn print_findings(alloc: Global, bench: &Bench, out: &mut Vec<u8>) -> Result<(), AllocError>
     ensures ok { OnOk result (out.new.items ≡ out.old.items ++ cell_text bench.now) }
     ensures err { OnErr result (out.new.items ≡ out.old.items) }

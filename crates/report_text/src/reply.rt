@@ -133,7 +133,7 @@ pub(crate) fn push_state(
 
 /// Appends the line of an answer.
 ///
-/// An `Err` is want of memory, and leaves the text as it was.
+/// An `Err` means out of memory, and leaves the text as it was.
 pub(crate) fn push_reply(out: &mut Vec<u8>, reply: &Reply) -> Result<(), AllocError>
     ensures ok { OnOk result (out.new.items ≡ out.old.items ++ reply_line reply.now) }
     ensures err { OnErr result (out.new.items ≡ out.old.items) }

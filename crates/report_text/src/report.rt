@@ -51,7 +51,7 @@ fn push_history(alloc: Global, out: &mut Vec<u8>, book: &Book) -> Result<(), All
 /// Appends the report of a log and of the lines of its sessions: the order of the entries, each session's lines, the accepted commits
 /// with their edits, and the cell that is left with its findings.
 ///
-/// An `Err` is want of memory, and leaves the text as it was.
+/// An `Err` means out of memory, and leaves the text as it was.
 pub fn print_report(
     alloc: Global,
     book: &Book,

@@ -27,7 +27,7 @@ pub enum Status {
     WriteFault,
     /// An input file has more bytes than its limit.
     TooLarge(Text),
-    /// Want of memory.
+    /// Out of memory.
     NoMemory,
     /// The order file doesn't fit the scripts: the first bad place.
     BadOrder(u32),
@@ -71,7 +71,7 @@ impl From<AllocError> for Status {
 
 /// Appends the line of a status, with its line feed, or nothing where all is done.
 ///
-/// An `Err` is want of memory, and leaves the text as it was.
+/// An `Err` means out of memory, and leaves the text as it was.
 pub fn print_status(alloc: Global, status: &Status, out: &mut Vec<u8>) -> Result<(), AllocError>
     ensures ok { OnOk result (out.new.items ≡ out.old.items ++ status_line status.now) }
     ensures err { OnErr result (out.new.items ≡ out.old.items) }

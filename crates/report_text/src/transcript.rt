@@ -12,7 +12,7 @@ use std::alloc::{AllocError, Global};
 use std::marker::Model;
 use text_lines::{push_bytes, push_number, push_text};
 
-/// The lines of a session, one command's after the other's. It is seen as its bytes. An `Err` of a call is want of memory, and leaves the
+/// The lines of a session, one command's after the other's. It is seen as its bytes. An `Err` of a call means out of memory, and leaves the
 /// lines as they were.
 #[derive(Debug, Drop)]
 pub struct Transcript {

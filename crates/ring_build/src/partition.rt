@@ -32,7 +32,7 @@ fn loop_length(ends: &[(RecName, RecName)]) -> Option<usize>
 /// Cuts a boundary, given as the start node and the end node of each piece, into closed loops: each end is the next
 /// start, the last end is the first start, and no earlier end is (S-57 Appendix B.1, 3.8).
 ///
-/// An `Err` is want of memory.
+/// An `Err` means out of memory.
 pub fn cut(alloc: Global, ends: &[(RecName, RecName)]) -> Result<RingCut, AllocError>
     requires { length ends.now < 4294967296 }
     ensures exact { IfOk result (λ found. IsOnlyCut ends.now found) }

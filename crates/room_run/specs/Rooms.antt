@@ -87,7 +87,7 @@ pub record IsHeld (c : Cell) (scripts : List (List Command)) (held : Held) : Typ
   pub entries : AreInterleaved c scripts held.book.entries
   pub lines : AreTranscripts c held.book.entries 1 scripts held.transcripts.items
 
--- a run ends without a report only where a rendezvous gave up before a view or commit of a session, or where memory is wanting
+-- a run ends without a report only where a rendezvous gave up before a view or commit of a session, or where memory runs out
 abbrev pub IsRunEnd : Type 0 → List (List Command) → RunEnd → Type 0
 IsRunEnd sticks scripts (end.Stuck stuck) =
     sticks × (1 ≤ stuck.desk) × (stuck.desk ≤ length scripts) × (1 ≤ stuck.serial) × (stuck.serial ≤ count_by is_shared (script_of scripts stuck.desk))

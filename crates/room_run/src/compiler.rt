@@ -22,7 +22,7 @@ pub enum Ended {
     Done,
     /// A rendezvous gave up before one of its views and commits.
     Stuck(Stuck),
-    /// Want of memory.
+    /// Out of memory.
     NoMemory,
     /// The log had as many entries as it may have.
     Full,

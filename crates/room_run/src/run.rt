@@ -29,7 +29,7 @@ pub struct Held {
 pub enum RunEnd {
     /// A rendezvous gave up: the first session that was stuck, and its view or commit.
     Stuck(Stuck),
-    /// Want of memory.
+    /// Out of memory.
     NoMemory,
 }
 
@@ -132,7 +132,7 @@ fn run_all<R: Threads + Wait + Sync, M: Meet + Sync>(
 /// Runs scripts on the cell of a new workroom, each in a thread of its own at a desk of its own. The log's entries are those of the
 /// sessions, each session's in its own order, and each session's lines are right beside them.
 ///
-/// An `Err` tells the session that was stuck, or is want of memory.
+/// An `Err` tells the session that was stuck, or means out of memory.
 pub fn run_sessions<R: Threads + Wait + Sync, M: Meet + Sync>(
     rt: &R,
     alloc: Global,

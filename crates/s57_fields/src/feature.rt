@@ -58,7 +58,7 @@ pub fn read_frid(_alloc: Global, bytes: &[u8]) -> Result<Frid, FieldRefusal>
 
 /// Appends the identifier of a feature record, the field FRID.
 ///
-/// An `Err` is want of memory, and leaves the bytes as they were.
+/// An `Err` means out of memory, and leaves the bytes as they were.
 pub fn write_frid(alloc: Global, value: &Frid, out: &mut Vec<u8>) -> Result<(), AllocError>
     ensures ok { OnOk result (out.new.items ≡ out.old.items ++ field_bytes (frid_row value.now)) }
     ensures err { OnErr result (out.new.items ≡ out.old.items) }
@@ -107,7 +107,7 @@ pub fn read_foid(_alloc: Global, bytes: &[u8]) -> Result<Lnam, FieldRefusal>
 
 /// Appends the identifier of a feature object, the field FOID.
 ///
-/// An `Err` is want of memory, and leaves the bytes as they were.
+/// An `Err` means out of memory, and leaves the bytes as they were.
 pub fn write_foid(alloc: Global, value: &Lnam, out: &mut Vec<u8>) -> Result<(), AllocError>
     ensures ok { OnOk result (out.new.items ≡ out.old.items ++ field_bytes (foid_row value.now)) }
     ensures err { OnErr result (out.new.items ≡ out.old.items) }
@@ -180,7 +180,7 @@ pub fn read_attf(alloc: Global, bytes: &[u8]) -> Result<Attrs, FieldRefusal>
 
 /// Appends the attributes of a feature record, the field ATTF.
 ///
-/// An `Err` is want of memory, and leaves the bytes as they were.
+/// An `Err` means out of memory, and leaves the bytes as they were.
 pub fn write_attf(alloc: Global, value: &Attrs, out: &mut Vec<u8>) -> Result<(), AllocError>
     ensures ok { OnOk result (out.new.items ≡ out.old.items ++ rows_bytes 0 (attribute_row 0) value.now) }
     ensures err { OnErr result (out.new.items ≡ out.old.items) }
@@ -198,7 +198,7 @@ pub fn read_natf(alloc: Global, nall: u8, bytes: &[u8]) -> Result<Attrs, FieldRe
 
 /// Appends the national attributes of a feature record, the field NATF, at the lexical level NALL.
 ///
-/// An `Err` is want of memory, and leaves the bytes as they were.
+/// An `Err` means out of memory, and leaves the bytes as they were.
 pub fn write_natf(
     alloc: Global,
     nall: u8,
@@ -275,7 +275,7 @@ pub fn read_ffpt(alloc: Global, bytes: &[u8]) -> Result<Partners, FieldRefusal>
 
 /// Appends the pointers of a feature record to feature objects, the field FFPT.
 ///
-/// An `Err` is want of memory, and leaves the bytes as they were.
+/// An `Err` means out of memory, and leaves the bytes as they were.
 pub fn write_ffpt(alloc: Global, value: &Partners, out: &mut Vec<u8>) -> Result<(), AllocError>
     ensures ok { OnOk result (out.new.items ≡ out.old.items ++ rows_bytes 0 partner_row value.now) }
     ensures err { OnErr result (out.new.items ≡ out.old.items) }
@@ -366,7 +366,7 @@ pub fn read_fspt(alloc: Global, bytes: &[u8]) -> Result<Places, FieldRefusal>
 
 /// Appends the pointers of a feature record to vector records, the field FSPT.
 ///
-/// An `Err` is want of memory, and leaves the bytes as they were.
+/// An `Err` means out of memory, and leaves the bytes as they were.
 pub fn write_fspt(alloc: Global, value: &Places, out: &mut Vec<u8>) -> Result<(), AllocError>
     ensures ok { OnOk result (out.new.items ≡ out.old.items ++ rows_bytes 0 place_row value.now) }
     ensures err { OnErr result (out.new.items ≡ out.old.items) }

@@ -62,7 +62,7 @@ pub fn read_dssi(_alloc: Global, bytes: &[u8]) -> Result<Dssi, FieldRefusal>
 
 /// Appends the data set structure information, the field DSSI.
 ///
-/// An `Err` is want of memory, and leaves the bytes as they were.
+/// An `Err` means out of memory, and leaves the bytes as they were.
 pub fn write_dssi(alloc: Global, value: &Dssi, out: &mut Vec<u8>) -> Result<(), AllocError>
     ensures ok { OnOk result (out.new.items ≡ out.old.items ++ field_bytes (dssi_row value.now)) }
     ensures err { OnErr result (out.new.items ≡ out.old.items) }
@@ -166,7 +166,7 @@ pub fn read_dspm(alloc: Global, bytes: &[u8]) -> Result<Dspm, FieldRefusal>
 
 /// Appends the data set parameters, the field DSPM.
 ///
-/// An `Err` is want of memory, and leaves the bytes as they were.
+/// An `Err` means out of memory, and leaves the bytes as they were.
 pub fn write_dspm(alloc: Global, value: &Dspm, out: &mut Vec<u8>) -> Result<(), AllocError>
     ensures ok { OnOk result (out.new.items ≡ out.old.items ++ field_bytes (dspm_row value.now)) }
     ensures err { OnErr result (out.new.items ≡ out.old.items) }
@@ -364,7 +364,7 @@ pub fn read_dsid(alloc: Global, bytes: &[u8]) -> Result<Dsid, FieldRefusal>
 
 /// Appends the data set identification, the field DSID.
 ///
-/// An `Err` is want of memory, and leaves the bytes as they were.
+/// An `Err` means out of memory, and leaves the bytes as they were.
 pub fn write_dsid(alloc: Global, value: &Dsid, out: &mut Vec<u8>) -> Result<(), AllocError>
     ensures ok { OnOk result (out.new.items ≡ out.old.items ++ field_bytes (dsid_row value.now)) }
     ensures err { OnErr result (out.new.items ≡ out.old.items) }

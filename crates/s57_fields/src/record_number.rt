@@ -34,7 +34,7 @@ pub fn read_0001(_alloc: Global, bytes: &[u8]) -> Result<u16, FieldRefusal>
 
 /// Appends the record number, the field 0001.
 ///
-/// An `Err` is want of memory, and leaves the bytes as they were.
+/// An `Err` means out of memory, and leaves the bytes as they were.
 pub fn write_0001(alloc: Global, value: &u16, out: &mut Vec<u8>) -> Result<(), AllocError>
     ensures ok { OnOk result (out.new.items ≡ out.old.items ++ field_bytes (number_row value.now)) }
     ensures err { OnErr result (out.new.items ≡ out.old.items) }

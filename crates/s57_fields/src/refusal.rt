@@ -13,7 +13,7 @@ pub enum FieldRefusal {
     BadField,
     /// A control byte of the format stands in a text.
     BadText,
-    /// Want of memory.
+    /// Out of memory.
     NoMemory,
 }
 

@@ -74,7 +74,7 @@ pub fn read_vrid(_alloc: Global, bytes: &[u8]) -> Result<Vrid, FieldRefusal>
 
 /// Appends the identifier of a vector record, the field VRID.
 ///
-/// An `Err` is want of memory, and leaves the bytes as they were.
+/// An `Err` means out of memory, and leaves the bytes as they were.
 pub fn write_vrid(alloc: Global, value: &Vrid, out: &mut Vec<u8>) -> Result<(), AllocError>
     ensures ok { OnOk result (out.new.items ≡ out.old.items ++ field_bytes (vrid_row value.now)) }
     ensures err { OnErr result (out.new.items ≡ out.old.items) }
@@ -98,7 +98,7 @@ pub fn read_attv(alloc: Global, bytes: &[u8]) -> Result<Attrs, FieldRefusal>
 
 /// Appends the attributes of a vector record, the field ATTV.
 ///
-/// An `Err` is want of memory, and leaves the bytes as they were.
+/// An `Err` means out of memory, and leaves the bytes as they were.
 pub fn write_attv(alloc: Global, value: &Attrs, out: &mut Vec<u8>) -> Result<(), AllocError>
     ensures ok { OnOk result (out.new.items ≡ out.old.items ++ rows_bytes 0 (attribute_row 0) value.now) }
     ensures err { OnErr result (out.new.items ≡ out.old.items) }
@@ -193,7 +193,7 @@ pub fn read_vrpt(alloc: Global, bytes: &[u8]) -> Result<Ends, FieldRefusal>
 
 /// Appends the pointers of a vector record, the field VRPT.
 ///
-/// An `Err` is want of memory, and leaves the bytes as they were.
+/// An `Err` means out of memory, and leaves the bytes as they were.
 pub fn write_vrpt(alloc: Global, value: &Ends, out: &mut Vec<u8>) -> Result<(), AllocError>
     ensures ok { OnOk result (out.new.items ≡ out.old.items ++ rows_bytes 0 end_row value.now) }
     ensures err { OnErr result (out.new.items ≡ out.old.items) }
@@ -252,7 +252,7 @@ pub fn read_sg2d(alloc: Global, bytes: &[u8]) -> Result<Plane, FieldRefusal>
 
 /// Appends the 2-D coordinates of a vector record, the field SG2D.
 ///
-/// An `Err` is want of memory, and leaves the bytes as they were.
+/// An `Err` means out of memory, and leaves the bytes as they were.
 pub fn write_sg2d(alloc: Global, value: &Plane, out: &mut Vec<u8>) -> Result<(), AllocError>
     ensures ok { OnOk result (out.new.items ≡ out.old.items ++ rows_bytes 0 plane_row value.now) }
     ensures err { OnErr result (out.new.items ≡ out.old.items) }
@@ -312,7 +312,7 @@ pub fn read_sg3d(alloc: Global, bytes: &[u8]) -> Result<Deep, FieldRefusal>
 
 /// Appends the soundings of a vector record, the field SG3D.
 ///
-/// An `Err` is want of memory, and leaves the bytes as they were.
+/// An `Err` means out of memory, and leaves the bytes as they were.
 pub fn write_sg3d(alloc: Global, value: &Deep, out: &mut Vec<u8>) -> Result<(), AllocError>
     ensures ok { OnOk result (out.new.items ≡ out.old.items ++ rows_bytes 0 deep_row value.now) }
     ensures err { OnErr result (out.new.items ≡ out.old.items) }

@@ -8,7 +8,7 @@ use crate::items::Items;
 use crate::record::{Attr, Feature, Partner, Rec, Vector};
 use std::alloc::{AllocError, Global};
 
-/// A value that can be made twice. An `Err` is want of memory.
+/// A value that can be made twice. An `Err` means out of memory.
 pub trait Duplicate {
     /// A second value, equal to this one.
     fn copy(&self, alloc: Global) -> Result<Self, AllocError>

@@ -46,7 +46,7 @@ impl Head {
 
     /// The head with the six values of an edit. All else stays.
     ///
-    /// An `Err` is want of memory.
+    /// An `Err` means out of memory.
     pub fn edited(&self, alloc: Global, edit: &HeadEdit) -> Result<Head, AllocError>
         ensures { IfOk result (λ head. head ≡ edited_head edit.now self.now) }
     {

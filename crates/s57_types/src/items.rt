@@ -40,7 +40,7 @@ impl<T> Items<T> {
 
     /// A list of copies of these items.
     ///
-    /// An `Err` is want of memory.
+    /// An `Err` means out of memory.
     pub fn copy_of(alloc: Global, items: &[T]) -> Result<Items<T>, AllocError>
     where
         T: Duplicate + Drop,
@@ -62,7 +62,7 @@ impl<T> Items<T> {
 
     /// Appends an item.
     ///
-    /// An `Err` is want of memory.
+    /// An `Err` means out of memory.
     pub fn push(&mut self, item: T) -> Result<(), AllocError>
     where
         T: Drop,

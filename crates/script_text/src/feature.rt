@@ -37,7 +37,7 @@ fn take_item(alloc: Global, word: &[u8], items: &mut FeatureItems) -> Result<(),
 
 /// The lists that items stand for, each item behind a space.
 ///
-/// An `Err` is want of memory.
+/// An `Err` means out of memory.
 fn items_of(alloc: Global, text: &[u8]) -> Result<FeatureItems, AllocError>
     ensures { IfOk result (λ items. AreFeatureItemsOf text.now items) }
 {
@@ -71,7 +71,7 @@ fn identity_of_words(words: &[u8]) -> (Lnam, &[u8])
 
 /// The feature record that words stand for.
 ///
-/// An `Err` is want of memory.
+/// An `Err` means out of memory.
 pub fn feature_of(alloc: Global, words: &[u8]) -> Result<Feature, AllocError>
     ensures width { IfOk result IsFeatureOfWidth }
     ensures found { (feature : Feature) → IsFeatureOfWidth feature → words.now ≡ spaced_words (feature_words feature) → IfOk result (λ read. read ≡ feature) }

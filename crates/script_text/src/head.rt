@@ -28,7 +28,7 @@ fn next_value(words: &[u8]) -> (&[u8], &[u8])
 
 /// The date that a part of a word stands for. A text of another length than eight bytes gives zeros.
 ///
-/// An `Err` is want of memory.
+/// An `Err` means out of memory.
 fn date_of(alloc: Global, part: &[u8]) -> Result<[u8; 8], AllocError>
     ensures width { IfOk result IsTextOfWidth }
     ensures length { IfOk result (λ date. length date ≡ 8) }
@@ -51,7 +51,7 @@ fn level_of(word: &[u8]) -> Level
 
 /// The new values of a head that words stand for, the first of which is its kind.
 ///
-/// An `Err` is want of memory.
+/// An `Err` means out of memory.
 pub fn head_edit_of(alloc: Global, words: &[u8]) -> Result<HeadEdit, AllocError>
     ensures width { IfOk result IsHeadEditOfWidth }
     ensures found { (edit : HeadEdit) → IsHeadEditOfWidth edit → words.now ≡ spaced_words (codes "head" ∷ head_words edit) → IfOk result (λ read. read ≡ edit) }

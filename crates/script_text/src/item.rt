@@ -28,7 +28,7 @@ fn behind_letter(letter: u8, word: &[u8]) -> Option<&[u8]>
 
 /// The text behind a colon.
 ///
-/// An `Err` is want of memory.
+/// An `Err` means out of memory.
 fn text_behind(alloc: Global, parts: &[u8]) -> Result<Text, AllocError>
     ensures width { IfOk result IsTextOfWidth }
     ensures found { (value : List ℕ) → IsTextOfWidth value → parts.now ≡ 58 ∷ text_word value → IfOk result (λ text. text ≡ value) }
@@ -41,7 +41,7 @@ fn text_behind(alloc: Global, parts: &[u8]) -> Result<Text, AllocError>
 
 /// The attribute that an item stands for.
 ///
-/// An `Err` is want of memory.
+/// An `Err` means out of memory.
 fn attribute_of(alloc: Global, parts: &[u8]) -> Result<Attr, AllocError>
     ensures width { IfOk result IsAttributeOfWidth }
     ensures found { (attr : Attr) → IsAttributeOfWidth attr → attribute_item [] attr ≡ parts.now → IfOk result (λ read. read ≡ attr) }
@@ -101,7 +101,7 @@ fn sounding_of(parts: &[u8]) -> (i32, i32, i32)
 
 /// The pointer to a feature that an item stands for.
 ///
-/// An `Err` is want of memory.
+/// An `Err` means out of memory.
 fn partner_of(alloc: Global, parts: &[u8]) -> Result<Partner, AllocError>
     ensures width { IfOk result IsPartnerOfWidth }
     ensures found { (partner : Partner) → IsPartnerOfWidth partner → partner_item partner ≡ codes "f" ++ parts.now → IfOk result (λ read. read ≡ partner) }

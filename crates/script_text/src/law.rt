@@ -24,7 +24,7 @@ pub fn a_text_has_one_reading()
 
 /// What the written line of an edit is read as: that edit.
 ///
-/// An `Err` is want of memory.
+/// An `Err` means out of memory.
 pub fn read_written(alloc: Global, edit: &Edit) -> Result<Option<Command>, AllocError>
     requires sort { has_line edit.now ≡ true }
     requires width { IsEditOfWidth edit.now }

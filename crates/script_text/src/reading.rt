@@ -28,7 +28,7 @@ use text_spec::Command;
 
 /// The command that words stand for, the others behind spaces. Words that stand for none give some command.
 ///
-/// An `Err` is want of memory.
+/// An `Err` means out of memory.
 fn command_of(alloc: Global, first: &[u8], others: &[u8]) -> Result<Command, AllocError>
     ensures width { IfOk result (λ command. can_stand_lem command ≡ true → IsCommand command) }
     ensures found { (command : Command) → IsCommand command → first.now ≡ first_word command
@@ -62,7 +62,7 @@ fn number_of_words(words: &[u8]) -> u32
 
 /// The edit that words stand for.
 ///
-/// An `Err` is want of memory.
+/// An `Err` means out of memory.
 fn edit_of(alloc: Global, first: &[u8], others: &[u8]) -> Result<Edit, AllocError>
     ensures width { IfOk result (λ edit. has_line edit ≡ true → IsCommand (Command.Push edit)) }
     ensures found { (edit : Edit) → IsCommand (Command.Push edit) → first.now ≡ first_word (Command.Push edit)
@@ -79,7 +79,7 @@ fn edit_of(alloc: Global, first: &[u8], others: &[u8]) -> Result<Edit, AllocErro
 
 /// The edit that the words behind `set` stand for: of the head, or of another record.
 ///
-/// An `Err` is want of memory.
+/// An `Err` means out of memory.
 fn set_of(alloc: Global, words: &[u8]) -> Result<Edit, AllocError>
     ensures width { IfOk result (λ edit. has_line edit ≡ true → IsCommand (Command.Push edit)) }
     ensures found { (edit : Edit) → IsCommand (Command.Push edit) → first_word (Command.Push edit) ≡ codes "set"
@@ -93,7 +93,7 @@ fn set_of(alloc: Global, words: &[u8]) -> Result<Edit, AllocError>
 
 /// The record that words stand for.
 ///
-/// An `Err` is want of memory.
+/// An `Err` means out of memory.
 fn record_of(alloc: Global, words: &[u8]) -> Result<Rec, AllocError>
     ensures width { IfOk result IsRecordOfWidth }
     ensures found { (rec : Rec) → IsRecordOfWidth rec → record_has_line rec ≡ true → words.now ≡ spaced_words (record_words rec) → IfOk result (λ read. read ≡ rec) }
@@ -106,7 +106,7 @@ fn record_of(alloc: Global, words: &[u8]) -> Result<Rec, AllocError>
 
 /// The command that a line is of, if it is of a command, and some command else.
 ///
-/// An `Err` is want of memory.
+/// An `Err` means out of memory.
 fn guess(alloc: Global, line: &[u8]) -> Result<Command, AllocError>
     ensures width { IfOk result (λ command. can_stand_lem command ≡ true → IsCommand command) }
     ensures found { (command : Command) → IsCommand command → command_line command ≡ line.now → IfOk result (λ read. read ≡ command) }
@@ -122,7 +122,7 @@ fn guess(alloc: Global, line: &[u8]) -> Result<Command, AllocError>
 
 /// Whether a command may stand in a script and has this line.
 ///
-/// An `Err` is want of memory.
+/// An `Err` means out of memory.
 fn has_this_line(alloc: Global, command: &Command, line: &[u8]) -> Result<bool, AllocError>
     ensures { IfOk result (λ same. IsTrue same ↔ HasLine line.now command.now) }
 {
@@ -136,7 +136,7 @@ fn has_this_line(alloc: Global, command: &Command, line: &[u8]) -> Result<bool, 
 
 /// The command that has this line, the line feed included, if there is one.
 ///
-/// An `Err` is want of memory.
+/// An `Err` means out of memory.
 pub fn read_command(alloc: Global, line: &[u8]) -> Result<Option<Command>, AllocError>
     ensures { IfOk result (IsReadOf line.now) }
 {
@@ -237,7 +237,7 @@ fn take_line<'a>(
     Ok(rest)
 }
 
-/// Why a text wasn't read: its first fault, or want of memory.
+/// Why a text wasn't read: its first fault, or out of memory.
 #[derive(Clone, Copy)]
 pub(crate) enum FirstRefusal {
     Fault { line: usize, code: u8 },
@@ -277,7 +277,7 @@ pub(crate) fn read_lines(alloc: Global, bytes: &[u8]) -> Result<Script, FirstRef
 /// The script that a text is: a line for each command, and lines that are passed over, which are empty or begin with a
 /// number sign.
 ///
-/// An `Err` is the first fault, or want of memory.
+/// An `Err` is the first fault, or out of memory.
 pub fn read_script(alloc: Global, bytes: &[u8]) -> Result<Script, ScriptRefusal>
     requires { length bytes.now < 2 ^ 32 }
     ensures { MatchResult result (λ script. IsOnlyReading bytes.now (Ok script)) (IsScriptRefusal bytes.now) }

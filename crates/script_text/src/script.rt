@@ -40,7 +40,7 @@ impl Script {
 
     /// Appends a command.
     ///
-    /// An `Err` is want of memory.
+    /// An `Err` means out of memory.
     pub(crate) fn push(&mut self, command: Command) -> Result<(), AllocError>
         requires { length self.old < command_limit }
         ensures { OnOk result (self.new ≡ self.old ++ command ∷ []) }

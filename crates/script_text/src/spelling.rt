@@ -101,7 +101,7 @@ pub fn can_stand(command: &Command) -> bool
 
 /// Appends the line of a command.
 ///
-/// An `Err` is want of memory.
+/// An `Err` means out of memory.
 pub fn push_line(alloc: Global, command: &Command, line: &mut Vec<u8>) -> Result<(), AllocError>
     requires { can_stand_lem command.now ≡ true }
     ensures { OnOk result (line.new.items ≡ line.old.items ++ command_line command.now) }

@@ -46,7 +46,7 @@ fn next_byte(text: &[u8]) -> (u8, &[u8])
 
 /// The text that a part of a word stands for.
 ///
-/// An `Err` is want of memory.
+/// An `Err` means out of memory.
 pub fn text_of(alloc: Global, part: &[u8]) -> Result<Text, AllocError>
     ensures width { IfOk result IsTextOfWidth }
     ensures found { (value : List ℕ) → IsTextOfWidth value → part.now ≡ text_word value → IfOk result (λ text. text ≡ value) }

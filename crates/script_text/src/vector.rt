@@ -39,7 +39,7 @@ fn take_item(alloc: Global, word: &[u8], items: &mut VectorItems) -> Result<(), 
 
 /// The lists that items stand for, each item behind a space.
 ///
-/// An `Err` is want of memory.
+/// An `Err` means out of memory.
 fn items_of(alloc: Global, text: &[u8]) -> Result<VectorItems, AllocError>
     ensures { IfOk result (λ items. AreVectorItemsOf text.now items) }
 {
@@ -60,7 +60,7 @@ fn items_of(alloc: Global, text: &[u8]) -> Result<VectorItems, AllocError>
 
 /// The vector record that words stand for.
 ///
-/// An `Err` is want of memory.
+/// An `Err` means out of memory.
 pub fn vector_of(alloc: Global, words: &[u8]) -> Result<Vector, AllocError>
     ensures width { IfOk result IsVectorOfWidth }
     ensures found { (vector : Vector) → IsVectorOfWidth vector → words.now ≡ spaced_words (vector_words vector) → IfOk result (λ read. read ≡ vector) }

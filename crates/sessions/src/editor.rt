@@ -31,7 +31,7 @@ pub(crate) struct Editor {
     bench: Bench,
 }
 
-/// The answer of a log. A log that isn't full refuses for want of memory alone.
+/// The answer of a log. A log that isn't full refuses only out of memory.
 fn reply_of(answered: Result<Answered, BookRefusal>) -> Result<Reply, AllocError>
     requires { IfErr answered (λ why. why ≡ BookRefusal.NoMemory) }
     ensures { IfOk result (IsReplyOf answered) }
@@ -115,7 +115,7 @@ impl Editor {
     /// Does the session's commands up to its next one that all sessions see, and that one: it is asked of the log under the session's
     /// number, and its answer taken in.
     ///
-    /// An `Err` is want of memory.
+    /// An `Err` means out of memory.
     pub(crate) fn serve<L: Ledger>(
         &mut self,
         alloc: Global,
@@ -139,7 +139,7 @@ impl Editor {
 
     /// Does the commands that are left, none of which all sessions see, and gives the session's lines.
     ///
-    /// An `Err` is want of memory.
+    /// An `Err` means out of memory.
     pub(crate) fn end(self, alloc: Global) -> Result<Transcript, AllocError>
         ensures { (c : Cell) (entries : List Entry) (number : ℕ) → IsEditor c entries number self
             → length (entries_of number entries) ≡ count_by is_shared self.session.script → IfOk result (IsEndedAs c entries number self.session.script) }

@@ -59,7 +59,7 @@ fn push_guard(
 
 /// Does a command that no other session sees, on a bench of the cell after the session's base.
 ///
-/// An `Err` is want of memory, and leaves the draft and the lines as they were.
+/// An `Err` means out of memory, and leaves the draft and the lines as they were.
 pub(crate) fn do_local(
     alloc: Global,
     draft: &mut Draft,

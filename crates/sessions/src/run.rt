@@ -37,7 +37,7 @@ fn load_counted<L: Ledger>(alloc: Global, cell: Cell, blank: Blank) -> Result<Be
 
 /// The bench of a writable cell.
 ///
-/// An `Err` says that the cell has more findings than the limit, or is want of memory.
+/// An `Err` says that the cell has more findings than the limit, or means out of memory.
 pub fn load_bench(alloc: Global, cell: Cell) -> Result<Bench, LoadRefusal>
     requires { IsWritable cell }
     ensures { MatchResult result (IsLoaded cell) (IsLoadRefusal cell) }
@@ -106,7 +106,7 @@ fn end_all(alloc: Global, editors: Vec<Editor>) -> Result<Vec<Transcript>, Alloc
 /// Runs scripts on the cell of an opened log by one thread, in an order: each number is that of a script, counted from 1, and stands there
 /// as often as the script has views and commits. A session works on its own copy of the cell, which is that of its base.
 ///
-/// An `Err` is want of memory.
+/// An `Err` means out of memory.
 pub fn replay(
     alloc: Global,
     book: Book,

@@ -119,7 +119,7 @@ impl Session {
     /// Does the commands up to the next one that all sessions see, and answers that one, or none at the end of the script. `bench` is of the
     /// cell after the session's base.
     ///
-    /// An `Err` is want of memory: the commands before are done.
+    /// An `Err` means out of memory: the commands before are done.
     pub fn advance(
         &mut self,
         alloc: Global,
@@ -149,7 +149,7 @@ impl Session {
 
     /// Takes in the answer to the command that all see. A commit empties the draft, whatever the answer.
     ///
-    /// An `Err` is want of memory, and leaves the session as it was.
+    /// An `Err` means out of memory, and leaves the session as it was.
     pub fn told(&mut self, alloc: Global, shared: Shared, reply: &Reply) -> Result<(), AllocError>
         requires { IsNext self.old (Some shared) }
         ensures script { self.new.script ≡ self.old.script }

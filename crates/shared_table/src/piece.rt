@@ -39,7 +39,7 @@ pub(crate) trait Piece<K: Ord, V>: Drop {
         ensures { IsRunAt (rows self.now) place result.now };
 }
 
-/// Rows in ascending order of their keys, as they are changed. An `Err` is want of memory, and leaves the rows as they were.
+/// Rows in ascending order of their keys, as they are changed. An `Err` means out of memory, and leaves the rows as they were.
 pub(crate) trait ChangingPiece<K: Ord, V>: Piece<K, V> {
     /// No rows.
     fn make(alloc: Global) -> Self

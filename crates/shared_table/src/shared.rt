@@ -23,7 +23,7 @@ impl<T: Drop> Model for Shared<T> {
 }
 
 impl<T: Drop> Shared<T> {
-    /// The value, to be shared. An `Err` is want of memory.
+    /// The value, to be shared. An `Err` means out of memory.
     pub fn make(alloc: Global, value: T) -> Result<Shared<T>, AllocError>
         ensures { IfOk result (λ shared. shared ≡ value) }
     {

@@ -19,7 +19,7 @@ use std::sync::Arc;
 type Root<K, V> = Layer<K, V, Layer<K, V, Layer<K, V, Layer<K, V, Run<K, V>>>>>;
 
 /// A sorted table, seen as its rows in ascending order of their keys. A copy is a count and shares all pieces, and a change of one of
-/// the two leaves the other as it is. An `Err` is want of memory, and leaves the table as it was.
+/// the two leaves the other as it is. An `Err` means out of memory, and leaves the table as it was.
 #[derive(Drop)]
 pub struct SharedTable<K: Ord + Drop, V: Drop> {
     root: Option<Arc<Root<K, V>, Global>>,

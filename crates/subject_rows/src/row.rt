@@ -16,7 +16,7 @@ use std::sync::ledger::Ledger;
 /// The row of a record, a side, an identifier, or a pair of the cell: its findings, ascending by kind and numbers, and its
 /// read set, ascending. A record, a side or an identifier that the cell lacks has no finding.
 ///
-/// It makes at most four look-ups for each key of the read set. An `Err` is want of memory.
+/// It makes at most four look-ups for each key of the read set. An `Err` means out of memory.
 pub fn row_of<B: Look, L: Ledger>(
     alloc: Global,
     look: &B,

@@ -16,7 +16,7 @@ use std::alloc::{AllocError, Global};
 
 /// Appends the line of an edit, or nothing. A record has a name of its own sort, and only an edit of the head names the head.
 ///
-/// An `Err` is want of memory.
+/// An `Err` means out of memory.
 pub fn write_edit(alloc: Global, edit: &Edit, out: &mut Vec<u8>) -> Result<(), AllocError>
     requires { has_line edit.now ≡ true }
     ensures ok { OnOk result (out.new.items ≡ out.old.items ++ edit_line edit.now) }

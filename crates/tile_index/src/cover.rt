@@ -15,10 +15,10 @@ ghost use Rattle.tile_index.specs.Tilings.{Tile as SpecTile, covers, has_some_ti
 
 use crate::range::{Tile, is_oversized, push_tiles};
 use cell_spec::distinct;
+use check_words::{Segment, numbered, segments_of};
 use geo_exact::{box_of, tiles_of};
 use geometry_spec::{Box4, Point, TileRange, tiles_are_floors};
 use line_boxes::box_of_line;
-use plain_lookups::{Segment, numbered, segments_of};
 use s57_types::{Kind, RecName};
 use std::alloc::{AllocError, Global};
 use std::marker::Model;

@@ -74,7 +74,7 @@ impl TileIndex {
     }
 
     /// The names that may touch this one, ascending: all others where one of its ranges is oversized, else those that share a tile with
-    /// it and the oversized ones. A name that isn't kept has none. An `Err` is want of memory.
+    /// it and the oversized ones. A name that isn't kept has none. An `Err` means out of memory.
     pub fn mates(&self, alloc: Global, name: RecName) -> Result<Names, AllocError>
         ensures { IfOk result (λ names. names ≡ mates_in self.now name) }
     {
@@ -108,7 +108,7 @@ impl TileIndex {
         self.kept.get(&name)?.extent()
     }
 
-    /// The index after some changes, one after the other. It takes all memory that they need, and an `Err` is want of it.
+    /// The index after some changes, one after the other. It takes all memory that they need, and an `Err` means that there isn't enough.
     pub fn plan(&self, alloc: Global, changes: &[TileChange]) -> Result<TilePlan, AllocError>
         ensures { IfOk result (λ plan. plan ≡ after_changes self.now changes.now) }
     {

@@ -79,7 +79,7 @@ pub record IsLeftBehind (old : DeskState) (asked : Asked) (new : DeskState) : Ty
   pub base : old.base ≤ new.base
   pub behind : IsAbove new.base reply
 
--- why a desk gets no answer: the log is full and nothing was entered, or memory is wanting
+-- why a desk gets no answer: the log is full and nothing was entered, or memory runs out
 abbrev pub IsRoomRefusal : DeskState → Asked → DeskState → RoomRefusal → Type 0
 IsRoomRefusal old asked new LogFull = IsUnasked old new × (length new.seen ≡ entry_limit)
 IsRoomRefusal old asked new (NoMemory false) = IsUnasked old new

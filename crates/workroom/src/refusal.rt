@@ -9,7 +9,7 @@ use std::alloc::AllocError;
 pub enum DeskRefusal {
     /// There are as many desks as there may be.
     NoDesk,
-    /// Want of memory.
+    /// Out of memory.
     NoMemory,
 }
 
@@ -28,7 +28,7 @@ impl From<AllocError> for DeskRefusal {
 pub enum RoomRefusal {
     /// The log has as many entries as it may have; nothing was entered.
     LogFull,
-    /// Want of memory. Where `entered` is true the answer stands in the log, and the desk's copy of the cell didn't come up to it; the
+    /// Out of memory. Where `entered` is true the answer stands in the log, and the desk's copy of the cell didn't come up to it; the
     /// desk's next view goes on from there. Where it is false nothing was entered.
     NoMemory { entered: bool },
 }

@@ -48,7 +48,7 @@ impl Model for Workroom {
 impl Workroom {
     /// The workroom of a writable cell, without desks, with the look-ups that finding its findings takes.
     ///
-    /// An `Err` says that the cell has more findings than the limit, or is want of memory.
+    /// An `Err` says that the cell has more findings than the limit, or means out of memory.
     pub fn make<L: Ledger>(
         alloc: Global,
         cell: Cell,
@@ -61,7 +61,7 @@ impl Workroom {
         Ok(Workroom::of_bench(alloc, bench)?)
     }
 
-    /// The workroom of a bench, without desks. An `Err` is want of memory.
+    /// The workroom of a bench, without desks. An `Err` means out of memory.
     pub fn of_bench(alloc: Global, bench: Bench) -> Result<Workroom, AllocError>
         ensures { IfOk result (IsNewRoom bench) }
     {
@@ -78,7 +78,7 @@ impl Workroom {
 
     /// A new desk, with the next number from 1 on and base 0.
     ///
-    /// An `Err` says that 16 desks were made, or is want of memory; no number is used up then.
+    /// An `Err` says that 16 desks were made, or means out of memory; no number is used up then.
     pub fn desk(&mut self, alloc: Global) -> Result<Desk, DeskRefusal>
         ensures ok { IfOk result (λ desk. desk ≡ new_desk self.old) }
         ensures more { OnOk result (self.new ≡ record self.old { desks = self.old.desks + 1 }) }
@@ -95,7 +95,7 @@ impl Workroom {
 
     /// Lets a desk see the newest state: its base becomes the number that is told, and its copy the cell after it.
     ///
-    /// An `Err` says that the log has as many entries as it may have, or is want of memory, with the entry made or not.
+    /// An `Err` says that the log has as many entries as it may have, or means out of memory, with the entry made or not.
     pub fn view<R: Wait>(
         &self,
         rt: &R,

@@ -1,6 +1,6 @@
 //! Areas of Group 1.
 
-use plain_lookups::is_group1_area;
+use check_words::is_group1_area;
 use s57_types::{Attrs, Feature, Items, Kind, Lnam, Partners, RecName};
 use std::alloc::Global;
 use std::test::Fail;

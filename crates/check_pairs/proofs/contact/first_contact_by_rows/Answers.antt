@@ -1,6 +1,6 @@
 use Rattle.std.proofs.Common.{sym, ◌∙◌}
 use Rattle.rule_spec.specs.Contacts.{have_illegal_contact}
-use Rattle.plain_lookups.proofs.Appends.{row_hit, row_missed}
+use Rattle.check_words.proofs.Appends.{row_hit, row_missed}
 use Rattle.check_pairs.proofs.contact.first_contact_by_rows.Goals as goal
 
 pub returns-in-Some : goal.returns-in-Some

@@ -1,6 +1,6 @@
 use Rattle.std.proofs.Common.{sym, ◌∙◌, length}
 use Rattle.rule_spec.specs.Vectors.{meets_wrongly}
-use Rattle.plain_lookups.proofs.Appends.{row_hit, row_missed}
+use Rattle.check_words.proofs.Appends.{row_hit, row_missed}
 use Rattle.check_record.proofs.BlockRows.{row_at}
 use Rattle.check_record.proofs.self_meet.first_wrong_meeting.Goals as goal
 

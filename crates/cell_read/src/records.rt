@@ -1,0 +1,106 @@
+//! Vector and feature records (S-57 Part 3, 7.6 and 7.7).
+
+ghost use Rattle.std.specs.Prelude.{◌≡◌};
+ghost use Rattle.file_spec.specs.DecodedCell.{vector_record, feature_record};
+ghost use Rattle.cell_read.specs.Gives.{GivesRecord};
+ghost use Rattle.cell_read.specs.RecordsFrom.{vector_from, feature_from, record_said};
+
+use crate::fields::read_fields;
+use crate::refusal::RecordRefusal;
+use crate::tags::record_type;
+use crate::values::FieldValues;
+use file_spec::{RecordFault, RecordType};
+use iso_frame::Frame;
+use s57_types::{Feature, Kind, Rec, RecName, Vector};
+use std::alloc::Global;
+
+/// The update instruction RUIN of a record that is inserted.
+const INSERTED: u8 = 1;
+
+fn vector_from(values: FieldValues) -> Result<Rec, RecordFault>
+    ensures { result ≡ vector_from values }
+{
+    let Some(vrid) = values.vrid else {
+        return Err(RecordFault::MissingField);
+    };
+    if vrid.ruin != INSERTED {
+        return Err(RecordFault::NotBase);
+    }
+    Ok(Rec::V(Vector {
+        name: vrid.name,
+        rver: vrid.rver,
+        attrs: values.attv,
+        ends: values.ends,
+        plane: values.plane,
+        deep: values.deep,
+    }))
+}
+
+fn feature_from(values: FieldValues) -> Result<Rec, RecordFault>
+    ensures { result ≡ feature_from values }
+{
+    let (Some(frid), Some(foid)) = (values.frid, values.foid) else {
+        return Err(RecordFault::MissingField);
+    };
+    if frid.ruin != INSERTED {
+        return Err(RecordFault::NotBase);
+    }
+    let name = RecName {
+        kind: Kind::Fe,
+        id: frid.rcid,
+    };
+    Ok(Rec::F(Feature {
+        name,
+        prim: frid.prim,
+        grup: frid.grup,
+        objl: frid.objl,
+        rver: frid.rver,
+        foid,
+        attf: values.attf,
+        natf: values.natf,
+        partners: values.partners,
+        places: values.places,
+    }))
+}
+
+/// A vector record, or its first fault.
+fn read_vector(alloc: Global, frame: &Frame<'_>) -> Result<Rec, RecordRefusal>
+    ensures { GivesRecord result (vector_record frame.now.fields) }
+{
+    let values = match read_fields(alloc, 0, RecordType::Vector, frame) {
+        Ok(values) => values,
+        Err(refusal) => return Err(refusal),
+    };
+    match vector_from(values) {
+        Ok(vector) => Ok(vector),
+        Err(fault) => Err(RecordRefusal::Fault(fault)),
+    }
+}
+
+/// A feature record, or its first fault; national attributes are at the level NALL.
+fn read_feature(alloc: Global, nall: u8, frame: &Frame<'_>) -> Result<Rec, RecordRefusal>
+    ensures { GivesRecord result (feature_record nall frame.now.fields) }
+{
+    let values = match read_fields(alloc, nall, RecordType::Feature, frame) {
+        Ok(values) => values,
+        Err(refusal) => return Err(refusal),
+    };
+    match feature_from(values) {
+        Ok(feature) => Ok(feature),
+        Err(fault) => Err(RecordRefusal::Fault(fault)),
+    }
+}
+
+/// A vector or feature record by itself, or its first fault. No head record may stand in its place.
+pub fn read_record(alloc: Global, nall: u8, frame: &Frame<'_>) -> Result<Rec, RecordRefusal>
+    ensures { GivesRecord result (record_said nall frame.now.fields) }
+{
+    match record_type(frame) {
+        Ok(RecordType::GeneralInformation | RecordType::GeographicReference) => {
+            Err(RecordRefusal::Fault(RecordFault::HeadOrder))
+        }
+        Ok(RecordType::Vector) => read_vector(alloc, frame),
+        Ok(RecordType::Feature) => read_feature(alloc, nall, frame),
+        Err(fault) => Err(RecordRefusal::Fault(fault)),
+    }
+}

@@ -1,5 +1,0 @@
-use Rattle.frame_laws.proofs.AscendingSubjects.{findings_ascend}
-use Rattle.frame_laws.proofs.law.findings_ascend.Goals as goal
-
-pub returns : goal.returns
-returns c = findings_ascend

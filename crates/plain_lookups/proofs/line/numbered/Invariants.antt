@@ -1,6 +1,0 @@
-use Rattle.std.proofs.Common.{◌≡◌, ◌++◌, ◌+◌, drop}
-use Rattle.std.specs.List.{enumerate_from}
-use Rattle.plain_lookups.proofs.line.numbered.Given as goal
-
-abbrev pub invariant-loop-k : goal.invariant-loop-k
-invariant-loop-k l = l.list.items ++ enumerate_from (l.k + 1) (drop l.k l.segments) ≡ enumerate_from 1 l.segments
