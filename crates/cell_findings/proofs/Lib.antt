@@ -8,4 +8,5 @@ pub mod Judged
 pub mod AllFindings
 pub mod Gathering
 pub mod Extents
+pub mod PassedOver
 mod Unplaced

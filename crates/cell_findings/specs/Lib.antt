@@ -3,3 +3,4 @@ pub mod AllFindings
 pub mod Judged
 pub mod Gathered
 pub mod Extents
+pub mod Ahead

@@ -1,6 +1,7 @@
 //! The findings of a chart cell and their text.
 #![tactic(auto)]
 
+mod ahead;
 mod findings;
 mod gather;
 mod list;

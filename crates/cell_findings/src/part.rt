@@ -3,8 +3,10 @@
 ghost use Rattle.std.specs.Prelude.{◌≡◌, All, IfOk};
 ghost use Rattle.rule_spec.specs.EdgePoints.{edge_line_of, node_position};
 ghost use Rattle.rule_spec.specs.Records.{the_only};
+ghost use Rattle.cell_findings.specs.Ahead.{AreAhead};
 ghost use Rattle.cell_findings.specs.Extents.{IsPlaced, are_apart as spec_are_apart, names_of, segments_at as spec_segments_at};
 
+use crate::ahead::with_ahead;
 use chain_topo::{ListLook, Look, Steps, edge_line};
 use check_words::{Numbered, numbered, segments_of};
 use geometry_spec::{Box4, Point};
@@ -13,11 +15,13 @@ use s57_types::{Kind, Rec, RecName};
 use std::alloc::{AllocError, Global};
 use std::sync::ledger::Ledger;
 
-/// A connected node or an edge by its name, with the least box around its points, if it has points.
+/// A connected node or an edge by its name, with the least box around its points, if it has points, and the least box around it and
+/// those next to it.
 #[derive(Clone, Copy)]
 pub(crate) struct Part {
     pub(crate) name: RecName,
     pub(crate) around: Option<Box4>,
+    pub(crate) ahead: Option<Box4>,
 }
 
 fn only_point(points: &[Point]) -> Option<Point>
@@ -76,11 +80,12 @@ fn part_at<L: Ledger>(
     Ok(Part {
         name,
         around: box_of_line(&segments),
+        ahead: None,
     })
 }
 
-/// The connected nodes and edges of some names, in their order.
-pub(crate) fn parts_of<L: Ledger>(
+/// The connected nodes and edges of some names, in their order, each with the box around its own points alone.
+fn placed_parts<L: Ledger>(
     alloc: Global,
     look: &ListLook,
     names: &[RecName],
@@ -96,11 +101,27 @@ pub(crate) fn parts_of<L: Ledger>(
     Ok(parts)
 }
 
-/// Whether two of them have no point in common, since their boxes have none.
-pub(crate) fn are_apart(a: Part, b: Part) -> bool
-    ensures { result ≡ spec_are_apart a.around b.around }
+/// The connected nodes and edges of some names, in their order.
+pub(crate) fn parts_of<L: Ledger>(
+    alloc: Global,
+    look: &ListLook,
+    names: &[RecName],
+    steps: &mut Steps<L>,
+) -> Result<Vec<Part>, AllocError>
+    ensures names { IfOk result (λ parts. names_of parts.items ≡ names.now) }
+    ensures placed { IfOk result (λ parts. All (IsPlaced look.now) parts.items) }
+    ensures ahead { IfOk result (λ parts. AreAhead parts.items) }
 {
-    match (a.around, b.around) {
+    let placed = placed_parts(alloc, look, names, steps)?;
+    let parts = with_ahead(alloc, &placed)?;
+    Ok(parts)
+}
+
+/// Whether two boxes have no point in common.
+pub(crate) fn are_apart(a: Option<Box4>, b: Option<Box4>) -> bool
+    ensures { result ≡ spec_are_apart a b }
+{
+    match (a, b) {
         (Some(around), Some(other)) => are_disjoint(around, other),
         _ => true,
     }

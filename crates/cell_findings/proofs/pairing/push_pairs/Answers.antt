@@ -6,14 +6,16 @@ use Rattle.cell_spec.specs.declared.key.Subject.{Subject}
 use Rattle.cell_spec.specs.declared.key.Subject.TheVariants.{Pair}
 use Rattle.rule_spec.specs.Findings.{is_subject}
 use Rattle.cell_findings.specs.declared.part.Part.{Part}
+use Rattle.cell_findings.specs.Ahead.{AreAhead}
 use Rattle.cell_findings.specs.Extents.{names_of}
 use Rattle.cell_findings.specs.Gathered.{IsGathered}
 use Rattle.cell_findings.specs.Judged.{pairs_among, subject_findings}
 use Rattle.cell_findings.proofs.Gathering.{all_before, all_behind, all_of_map, firsts_more, gathered_more, gathered_within, over_more, pairs_more}
+use Rattle.cell_findings.proofs.PassedOver.{ahead_behind}
 use Rattle.cell_findings.proofs.pairing.push_pairs.Goals as goal
 
 abbrev default : Part
-default = record { name = record { kind = Vi; id = 0 }; around = None }
+default = record { name = record { kind = Vi; id = 0 }; around = None; ahead = None }
 
 pub push_pairs_of-requires-clause-subjects : goal.push_pairs_of-requires-clause-subjects
 push_pairs_of-requires-clause-subjects g c =
@@ -26,6 +28,10 @@ push_pairs_of-requires-clause-subjects g c =
     subst (All (λ (b : Part). are (Pair x b.name))) (sym c.split_at.ensures.back)
     (all_of_map (λ n. are (Pair x n)) (λ (b : Part). b.name) rest
     (all_of_map are (Pair x) (names_of rest) (all_before are (map (Pair x) (names_of rest)) (pairs_among (names_of rest)) all)))
+
+pub push_pairs_of-requires-clause-ahead : goal.push_pairs_of-requires-clause-ahead
+push_pairs_of-requires-clause-ahead g c =
+    subst AreAhead (sym c.split_at.ensures.back) (ahead_behind (c.loop-k.k + 1) c.args.parts.now c.requires.ahead)
 
 pub loop-k-preserved : goal.loop-k-preserved
 loop-k-preserved g c =
