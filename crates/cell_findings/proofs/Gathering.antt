@@ -10,9 +10,9 @@ use Rattle.cell_findings.specs.declared.list.SubjectFinding.{SubjectFinding}
 use Rattle.cell_findings.specs.declared.refusal.FindingRefusal.{FindingRefusal}
 use Rattle.cell_findings.specs.declared.refusal.FindingRefusal.TheVariants.{TooMany, NoMemory}
 use Rattle.cell_findings.specs.Gathered.{IsGathered, IsOver}
-use Rattle.cell_findings.specs.declared.part.Part.{Part}
-use Rattle.cell_findings.specs.Extents.{names_of}
-use Rattle.cell_findings.specs.Judged.{pairs_among}
+use Rattle.box_tree.specs.Leaves.{names_meeting}
+use Rattle.box_tree.specs.declared.leaf.Leaf.{Leaf}
+use Rattle.cell_findings.specs.Near.{near_pairs}
 
 -- a step goes on to the rest
 pub gathered_more : (limit : ℕ) (before row rest all found : List SubjectFinding) → before ++ (row ++ rest) ≡ all → IsGathered limit (before ++ row) found → found ++ rest ≡ all
@@ -35,17 +35,21 @@ over_more limit before row rest all TooMany left over =
     omega (arith, parts, sum, over)
 over_more limit before row rest all NoMemory left over = tt
 
--- ---- pairs of parts, by their first one after the other
-pub pairs_more : (parts : List Part) (k : ℕ) (d : Part) → k < length parts
-    → pairs_among (names_of (drop k parts)) ≡ map (Pair (get_or parts k d).name) (names_of (drop (k + 1) parts)) ++ pairs_among (names_of (drop (k + 1) parts))
-pairs_more parts k d within = at_drop_more (λ ps. pairs_among (names_of ps)) parts k d within
+-- ---- pairs of leaves, by their first one after the other
+pub pairs_more : (leaves : List Leaf) (k : ℕ) (d : Leaf) → k < length leaves
+    → near_pairs (drop k leaves)
+    ≡ map (Pair (get_or leaves k d).name) (names_meeting (get_or leaves k d).around (drop (k + 1) leaves)) ++ near_pairs (drop (k + 1) leaves)
+pairs_more leaves k d within = at_drop_more near_pairs leaves k d within
 
-pub firsts_more : (findings : Subject → List SubjectFinding) (parts : List Part) (k : ℕ) (d : Part) (before all : List SubjectFinding) → k < length parts
-    → before ++ flat_map findings (pairs_among (names_of (drop k parts))) ≡ all
-    → before ++ (flat_map findings (map (Pair (get_or parts k d).name) (names_of (drop (k + 1) parts))) ++ flat_map findings (pairs_among (names_of (drop (k + 1) parts)))) ≡ all
-firsts_more findings parts k d before all within left =
-    ap (λ fs. before ++ fs) (sym (flat_map-append findings (map (Pair (get_or parts k d).name) (names_of (drop (k + 1) parts))) (pairs_among (names_of (drop (k + 1) parts)))))
-    ∙ ap (λ ss. before ++ flat_map findings ss) (sym (pairs_more parts k d within))
+pub firsts_more : (findings : Subject → List SubjectFinding) (leaves : List Leaf) (k : ℕ) (d : Leaf) (before all : List SubjectFinding) → k < length leaves
+    → before ++ flat_map findings (near_pairs (drop k leaves)) ≡ all
+    → before ++ (flat_map findings (map (Pair (get_or leaves k d).name) (names_meeting (get_or leaves k d).around (drop (k + 1) leaves)))
+    ++ flat_map findings (near_pairs (drop (k + 1) leaves))) ≡ all
+firsts_more findings leaves k d before all within left =
+    ap (λ fs. before ++ fs)
+    (sym (flat_map-append findings (map (Pair (get_or leaves k d).name) (names_meeting (get_or leaves k d).around (drop (k + 1) leaves)))
+    (near_pairs (drop (k + 1) leaves))))
+    ∙ ap (λ ss. before ++ flat_map findings ss) (sym (pairs_more leaves k d within))
     ∙ left
 
 pub all_before : {X : Type 0} (P : X → Type 0) (xs ys : List X) → All P (xs ++ ys) → All P xs

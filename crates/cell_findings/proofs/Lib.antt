@@ -7,6 +7,8 @@ pub mod Identities
 pub mod Judged
 pub mod AllFindings
 pub mod Gathering
-pub mod Extents
-pub mod PassedOver
-mod Unplaced
+pub mod NearPairs
+pub mod NearNames
+pub mod Unnamed
+pub mod SegmentsAt
+pub mod Coverings

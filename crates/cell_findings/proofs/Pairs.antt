@@ -72,7 +72,7 @@ has_by : (x b y : RecName) (more tie : Bool) → is_eq (name_order b y) ≡ tie 
 has_by x b y more true is h k e = subst (λ z. name_order x z ≡ Less) (sym (exact_names b y (tied (name_order b y) is))) h
 has_by x b y more false is h k e = k e
 
-has_above : (x b : RecName) (xs : List RecName) → AreAbove x xs → has b xs ≡ true → name_order x b ≡ Less
+pub has_above : (x b : RecName) (xs : List RecName) → AreAbove x xs → has b xs ≡ true → name_order x b ≡ Less
 has_above x b [] h e = cc
 has_above x b (y ∷ ys) h e = has_by x b y (has b ys) (is_eq (name_order b y)) refl h.0 (has_above x b ys h.1) e
 

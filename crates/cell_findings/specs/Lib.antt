@@ -2,5 +2,5 @@ pub mod Rows
 pub mod AllFindings
 pub mod Judged
 pub mod Gathered
-pub mod Extents
-pub mod Ahead
+pub mod Points
+pub mod Near

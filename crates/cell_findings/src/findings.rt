@@ -2,6 +2,8 @@
 
 ghost use Rattle.std.specs.Prelude.{◌≡◌, ◌<◌, ◌≤◌, ◌++◌, All, IsTrue, MatchResult, length, map};
 ghost use Rattle.std.specs.List.{flat_map};
+ghost use Rattle.std.specs.List.Sorted.{IsStrictlySortedBy};
+ghost use Rattle.cell_spec.specs.Names.{name_order};
 ghost use Rattle.cell_spec.specs.Writable.{IsWritable};
 ghost use Rattle.cell_spec.specs.declared.key.Subject.{Subject as SpecSubject};
 ghost use Rattle.cell_spec.specs.declared.key.Subject.TheVariants.{Ident as SubjectIdent};
@@ -13,7 +15,6 @@ ghost use Rattle.cell_findings.specs.Judged.{judged_subjects, part_pairs, record
 use crate::list::{Findings, SubjectFinding};
 use crate::names::{edge_names, identities_in, names_in, part_names};
 use crate::pairing::push_pairs;
-use crate::part::parts_of;
 use crate::refusal::FindingRefusal;
 use crate::single::{push_identities, push_records, push_sides};
 use chain_topo::{ListLook, Steps};
@@ -51,11 +52,11 @@ fn push_pairs_and_identities<L: Ledger>(
     steps: &mut Steps<L>,
 ) -> Result<(), FindingRefusal>
     requires subjects { All (λ (s : SpecSubject). IsTrue (is_subject look.now s)) (part_pairs names.now) }
+    requires ascending { IsStrictlySortedBy name_order names.now }
     requires within { length gathered.old.items ≤ limit }
     ensures { MatchResult result (λ _. IsGathered limit (gathered.old.items ++ flat_map (subject_findings look.now) (part_pairs names.now ++ map SubjectIdent identities.now)) gathered.new.items) (IsOver limit (gathered.old.items ++ flat_map (subject_findings look.now) (part_pairs names.now ++ map SubjectIdent identities.now))) }
 {
-    let chain_names = part_names(alloc, names)?;
-    let parts = parts_of(alloc, look, &chain_names, steps)?;
+    let parts = part_names(alloc, names)?;
     push_pairs(alloc, gathered, look, &parts, limit, steps)?;
     push_identities(alloc, gathered, look, identities, limit, steps)
 }

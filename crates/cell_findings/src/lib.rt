@@ -1,7 +1,6 @@
 //! The findings of a chart cell and their text.
 #![tactic(auto)]
 
-mod ahead;
 mod findings;
 mod gather;
 mod list;
@@ -11,8 +10,10 @@ mod part;
 mod refusal;
 mod single;
 mod text;
+mod tiles;
 
 pub use findings::find_all;
 pub use list::{Findings, SubjectFinding};
 pub use refusal::FindingRefusal;
 pub use text::{push_cell, push_findings};
+pub use tiles::tiles_of;

@@ -1,28 +1,48 @@
 //! Findings that are gathered about each two connected nodes or edges.
 
-ghost use Rattle.std.specs.Prelude.{◌≡◌, ◌≤◌, ◌++◌, IsTrue, MatchResult, All, length, map};
+ghost use Rattle.std.specs.Prelude.{◌≡◌, ◌≤◌, ◌++◌, All, IfOk, IsPermutation, IsTrue, MatchResult, length, map};
 ghost use Rattle.std.specs.List.{flat_map};
+ghost use Rattle.std.specs.List.Sorted.{IsStrictlySortedBy};
+ghost use Rattle.s57_types.specs.declared.name.RecName.{RecName as SpecRecName};
+ghost use Rattle.cell_spec.specs.Names.{name_order};
 ghost use Rattle.cell_spec.specs.declared.key.Subject.{Subject as SpecSubject};
 ghost use Rattle.cell_spec.specs.declared.key.Subject.TheVariants.{Pair as SubjectPair};
-ghost use Rattle.rule_spec.specs.Findings.{is_subject};
-ghost use Rattle.cell_findings.specs.declared.part.Part.{Part as SpecPart};
-ghost use Rattle.cell_findings.specs.Ahead.{AreAhead};
-ghost use Rattle.cell_findings.specs.Extents.{IsPlaced, names_of};
+ghost use Rattle.rule_spec.specs.Findings.{is_below as spec_is_below, is_subject};
 ghost use Rattle.cell_findings.specs.Gathered.{IsGathered, IsOver};
 ghost use Rattle.cell_findings.specs.Judged.{pairs_among, subject_findings};
+ghost use Rattle.cell_findings.specs.Near.{leaf_names, names_near as spec_names_near, near_pairs};
 
-use crate::ahead::behind_block;
 use crate::gather::push_row;
 use crate::list::SubjectFinding;
-use crate::part::{Part, are_apart};
+use crate::part::leaves_of;
 use crate::refusal::FindingRefusal;
+use box_tree::{BoxTree, Leaf};
+use cell_spec::{Names, ascending_names, orders_are_by_parts};
 use chain_topo::{ListLook, Steps};
 use check_pairs::verdict_pair;
+use finding_laws::apart_pairs_are_clean;
 use s57_types::RecName;
-use std::alloc::Global;
+use std::alloc::{AllocError, Global};
 use std::sync::ledger::Ledger;
 
-fn push_judged_pair<L: Ledger>(
+fn is_below(name: RecName, other: RecName) -> bool
+    ensures { result ≡ spec_is_below name other }
+{
+    orders_are_by_parts();
+    name.cmp(&other).is_lt()
+}
+
+/// The names above a leaf's own whose boxes meet its box, ascending.
+fn names_near(alloc: Global, tree: &BoxTree, leaf: Leaf) -> Result<Names, AllocError>
+    ensures { IfOk result (λ names. names ≡ spec_names_near leaf tree.now) }
+{
+    let mut names = Vec::new(alloc);
+    tree.push_meeting(&mut names, leaf.around)?;
+    names.retain(|name| is_below(leaf.name, *name));
+    Ok(ascending_names(names))
+}
+
+fn push_pair<L: Ledger>(
     alloc: Global,
     gathered: &mut Vec<SubjectFinding>,
     look: &ListLook,
@@ -31,91 +51,88 @@ fn push_judged_pair<L: Ledger>(
     steps: &mut Steps<L>,
 ) -> Result<(), FindingRefusal>
     requires { IsTrue (is_subject look.now (SubjectPair pair.0 pair.1)) }
-    ensures { MatchResult result (λ _. IsGathered limit (gathered.old.items ++ subject_findings look.now (SubjectPair pair.0 pair.1)) gathered.new.items) (IsOver limit (gathered.old.items ++ subject_findings look.now (SubjectPair pair.0 pair.1))) }
+    ensures { MatchResult result
+        (λ _. IsGathered limit (gathered.old.items ++ subject_findings look.now (SubjectPair pair.0 pair.1)) gathered.new.items)
+        (IsOver limit (gathered.old.items ++ subject_findings look.now (SubjectPair pair.0 pair.1))) }
 {
     let row = verdict_pair(alloc, look, pair.0, pair.1, steps)?;
     push_row(gathered, &row, limit)
 }
 
-/// Appends the findings about a pair. Two whose boxes are disjoint have none, and aren't looked at.
-fn push_pair<L: Ledger>(
+/// Appends the findings about the pairs of one with others.
+fn push_pairs_with<L: Ledger>(
     alloc: Global,
     gathered: &mut Vec<SubjectFinding>,
     look: &ListLook,
-    pair: (Part, Part),
+    name: RecName,
+    others: &[RecName],
     limit: usize,
     steps: &mut Steps<L>,
 ) -> Result<(), FindingRefusal>
-    requires subject { IsTrue (is_subject look.now (SubjectPair pair.0.name pair.1.name)) }
-    requires first_placed { IsPlaced look.now pair.0 }
-    requires second_placed { IsPlaced look.now pair.1 }
+    requires subjects { All (λ (other : SpecRecName). IsTrue (is_subject look.now (SubjectPair name other))) others.now }
     requires within { length gathered.old.items ≤ limit }
-    ensures { MatchResult result (λ _. IsGathered limit (gathered.old.items ++ subject_findings look.now (SubjectPair pair.0.name pair.1.name)) gathered.new.items) (IsOver limit (gathered.old.items ++ subject_findings look.now (SubjectPair pair.0.name pair.1.name))) }
+    ensures { MatchResult result
+        (λ _. IsGathered limit (gathered.old.items ++ flat_map (subject_findings look.now) (map (SubjectPair name) others.now)) gathered.new.items)
+        (IsOver limit (gathered.old.items ++ flat_map (subject_findings look.now) (map (SubjectPair name) others.now))) }
 {
-    if are_apart(pair.0.around, pair.1.around) {
-        return Ok(());
-    }
-    push_judged_pair(
-        alloc,
-        gathered,
-        look,
-        (pair.0.name, pair.1.name),
-        limit,
-        steps,
-    )
-}
-
-/// Appends the findings about the pairs of one with others; there are none where it has no point. Those next to each other whose boxes are
-/// all disjoint from its own are passed over at once.
-fn push_pairs_of<L: Ledger>(
-    alloc: Global,
-    gathered: &mut Vec<SubjectFinding>,
-    look: &ListLook,
-    first: Part,
-    others: &[Part],
-    limit: usize,
-    steps: &mut Steps<L>,
-) -> Result<(), FindingRefusal>
-    requires subjects { All (λ (other : SpecPart). IsTrue (is_subject look.now (SubjectPair first.name other.name))) others.now }
-    requires first_placed { IsPlaced look.now first }
-    requires placed { All (IsPlaced look.now) others.now }
-    requires ahead { AreAhead others.now }
-    requires within { length gathered.old.items ≤ limit }
-    ensures { MatchResult result (λ _. IsGathered limit (gathered.old.items ++ flat_map (subject_findings look.now) (map (SubjectPair first.name) (names_of others.now))) gathered.new.items) (IsOver limit (gathered.old.items ++ flat_map (subject_findings look.now) (map (SubjectPair first.name) (names_of others.now)))) }
-{
-    let Some(_) = first.around else {
-        return Ok(());
-    };
-    let mut rest = others;
-    while let [other, behind @ ..] = rest {
-        if are_apart(first.around, other.ahead) {
-            rest = behind_block(rest);
-        } else {
-            push_pair(alloc, gathered, look, (first, *other), limit, steps)?;
-            rest = behind;
-        }
+    for other in others {
+        push_pair(alloc, gathered, look, (name, *other), limit, steps)?;
     }
     Ok(())
 }
 
-/// Appends the findings about each two of some connected nodes and edges.
+/// Appends the findings about each two leaves whose boxes meet. The tree has the same leaves.
+fn push_near_pairs<L: Ledger>(
+    alloc: Global,
+    gathered: &mut Vec<SubjectFinding>,
+    look: &ListLook,
+    leaves: &[Leaf],
+    tree: &BoxTree,
+    limit: usize,
+    steps: &mut Steps<L>,
+) -> Result<(), FindingRefusal>
+    requires subjects { All (λ (s : SpecSubject). IsTrue (is_subject look.now s)) (near_pairs leaves.now) }
+    requires ascending { IsStrictlySortedBy name_order (leaf_names leaves.now) }
+    requires same { IsPermutation leaves.now tree.now }
+    requires within { length gathered.old.items ≤ limit }
+    ensures { MatchResult result
+        (λ _. IsGathered limit (gathered.old.items ++ flat_map (subject_findings look.now) (near_pairs leaves.now)) gathered.new.items)
+        (IsOver limit (gathered.old.items ++ flat_map (subject_findings look.now) (near_pairs leaves.now))) }
+{
+    for leaf in leaves {
+        let others = names_near(alloc, tree, *leaf)?;
+        push_pairs_with(
+            alloc,
+            gathered,
+            look,
+            leaf.name,
+            others.as_slice(),
+            limit,
+            steps,
+        )?;
+    }
+    Ok(())
+}
+
+/// Appends the findings about each two of some connected nodes and edges, whose names ascend. Two whose boxes are disjoint
+/// have none, and aren't looked at.
 pub(crate) fn push_pairs<L: Ledger>(
     alloc: Global,
     gathered: &mut Vec<SubjectFinding>,
     look: &ListLook,
-    parts: &[Part],
+    names: &[RecName],
     limit: usize,
     steps: &mut Steps<L>,
 ) -> Result<(), FindingRefusal>
-    requires subjects { All (λ (s : SpecSubject). IsTrue (is_subject look.now s)) (pairs_among (names_of parts.now)) }
-    requires placed { All (IsPlaced look.now) parts.now }
-    requires ahead { AreAhead parts.now }
+    requires subjects { All (λ (s : SpecSubject). IsTrue (is_subject look.now s)) (pairs_among names.now) }
+    requires ascending { IsStrictlySortedBy name_order names.now }
     requires within { length gathered.old.items ≤ limit }
-    ensures { MatchResult result (λ _. IsGathered limit (gathered.old.items ++ flat_map (subject_findings look.now) (pairs_among (names_of parts.now))) gathered.new.items) (IsOver limit (gathered.old.items ++ flat_map (subject_findings look.now) (pairs_among (names_of parts.now)))) }
+    ensures { MatchResult result
+        (λ _. IsGathered limit (gathered.old.items ++ flat_map (subject_findings look.now) (pairs_among names.now)) gathered.new.items)
+        (IsOver limit (gathered.old.items ++ flat_map (subject_findings look.now) (pairs_among names.now))) }
 {
-    for (k, first) in parts.iter().enumerate() {
-        let (_, others) = parts.split_at(k + 1);
-        push_pairs_of(alloc, gathered, look, *first, others, limit, steps)?;
-    }
-    Ok(())
+    apart_pairs_are_clean();
+    let leaves = leaves_of(alloc, look, names, steps)?;
+    let tree = BoxTree::make(alloc, leaves.to_vec(alloc)?)?;
+    push_near_pairs(alloc, gathered, look, &leaves, &tree, limit, steps)
 }

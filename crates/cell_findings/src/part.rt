@@ -1,28 +1,22 @@
-//! Connected nodes and edges with their extents.
+//! Connected nodes and edges with the boxes around them.
 
-ghost use Rattle.std.specs.Prelude.{◌≡◌, All, IfOk};
-ghost use Rattle.rule_spec.specs.EdgePoints.{edge_line_of, node_position};
+ghost use Rattle.std.specs.Prelude.{◌≡◌, ◌++◌, IfOk, OnOk, map, option_to_list};
+ghost use Rattle.std.specs.List.{flat_map};
+ghost use Rattle.geometry_spec.specs.Points.{Point as SpecPoint};
+ghost use Rattle.rule_spec.specs.EdgePoints.{node_position};
 ghost use Rattle.rule_spec.specs.Records.{the_only};
-ghost use Rattle.cell_findings.specs.Ahead.{AreAhead};
-ghost use Rattle.cell_findings.specs.Extents.{IsPlaced, are_apart as spec_are_apart, names_of, segments_at as spec_segments_at};
+ghost use Rattle.finding_laws.specs.Pairs.{extent_of};
+ghost use Rattle.cell_findings.specs.Near.{leaves_at, leaves_in};
+ghost use Rattle.cell_findings.specs.Points.{segments_at as spec_segments_at, segments_between};
 
-use crate::ahead::with_ahead;
-use chain_topo::{ListLook, Look, Steps, edge_line};
-use check_words::{Numbered, numbered, segments_of};
+use box_tree::Leaf;
+use chain_topo::{ListLook, Look, Steps, edge_points};
+use check_words::{Segment, numbered, segments_of};
 use geometry_spec::{Box4, Point};
-use line_boxes::{are_disjoint, box_of_line};
+use line_boxes::box_of_line;
 use s57_types::{Kind, Rec, RecName};
 use std::alloc::{AllocError, Global};
 use std::sync::ledger::Ledger;
-
-/// A connected node or an edge by its name, with the least box around its points, if it has points, and the least box around it and
-/// those next to it.
-#[derive(Clone, Copy)]
-pub(crate) struct Part {
-    pub(crate) name: RecName,
-    pub(crate) around: Option<Box4>,
-    pub(crate) ahead: Option<Box4>,
-}
 
 fn only_point(points: &[Point]) -> Option<Point>
     ensures { result ≡ the_only points.now }
@@ -34,8 +28,12 @@ fn only_point(points: &[Point]) -> Option<Point>
 }
 
 /// The position of a connected node that has exactly one.
-fn position_at<L: Ledger>(look: &ListLook, name: RecName, steps: &mut Steps<L>) -> Option<Point>
-    ensures { result ≡ node_position look.now name }
+pub(crate) fn position_at<B: Look, L: Ledger>(
+    look: &B,
+    name: RecName,
+    steps: &mut Steps<L>,
+) -> Option<Point>
+    ensures { result ≡ node_position (B.cell look.now) name }
 {
     match look.get(name, steps) {
         Some(Rec::V(part)) => {
@@ -49,80 +47,87 @@ fn position_at<L: Ledger>(look: &ListLook, name: RecName, steps: &mut Steps<L>) 
     }
 }
 
+/// The segment from a point to it, if there is a point.
+fn segment_at(alloc: Global, place: Option<Point>) -> Result<Vec<Segment>, AllocError>
+    ensures { IfOk result (λ segments. segments.items ≡ map (λ (p : SpecPoint). (p, p)) (option_to_list place)) }
+{
+    match place {
+        Some(place) => Ok(vec![in alloc; (place, place)]?),
+        None => Ok(Vec::new(alloc)),
+    }
+}
+
+/// The segments between the points of an edge, if it has a line.
+fn edge_segments<L: Ledger>(
+    alloc: Global,
+    look: &ListLook,
+    name: RecName,
+    steps: &mut Steps<L>,
+) -> Result<Vec<Segment>, AllocError>
+    ensures { IfOk result (λ segments. segments.items ≡ segments_between look.now name) }
+{
+    match edge_points(alloc, look, name, steps)? {
+        Some(points) => segments_of(alloc, points.as_slice()),
+        None => Ok(Vec::new(alloc)),
+    }
+}
+
 fn segments_at<L: Ledger>(
     alloc: Global,
     look: &ListLook,
     name: RecName,
     steps: &mut Steps<L>,
-) -> Result<Vec<Numbered>, AllocError>
-    ensures { IfOk result (λ list. list.items ≡ spec_segments_at (edge_line_of look.now name) (node_position look.now name)) }
+) -> Result<Vec<Segment>, AllocError>
+    ensures { IfOk result (λ segments. segments.items ≡ spec_segments_at look.now name) }
 {
-    if let Some(line) = edge_line(alloc, look, name, steps)? {
-        let segments = segments_of(alloc, line.points.as_slice())?;
-        return numbered(alloc, &segments);
-    }
-    match position_at(look, name, steps) {
-        Some(place) => Ok(vec![in alloc; (1, (place, place))]?),
-        None => Ok(Vec::new(alloc)),
+    match name.kind {
+        Kind::Vc => segment_at(alloc, position_at(look, name, steps)),
+        Kind::Ve => edge_segments(alloc, look, name, steps),
+        _ => Ok(Vec::new(alloc)),
     }
 }
 
-fn part_at<L: Ledger>(
+fn extent_at<L: Ledger>(
     alloc: Global,
     look: &ListLook,
     name: RecName,
     steps: &mut Steps<L>,
-) -> Result<Part, AllocError>
-    ensures name { IfOk result (λ part. part.name ≡ name) }
-    ensures placed { IfOk result (λ part. IsPlaced look.now part) }
+) -> Result<Option<Box4>, AllocError>
+    ensures { IfOk result (λ extent. extent ≡ extent_of look.now name) }
 {
     let segments = segments_at(alloc, look, name, steps)?;
-    Ok(Part {
-        name,
-        around: box_of_line(&segments),
-        ahead: None,
-    })
+    let segments = numbered(alloc, &segments)?;
+    Ok(box_of_line(&segments))
 }
 
-/// The connected nodes and edges of some names, in their order, each with the box around its own points alone.
-fn placed_parts<L: Ledger>(
+fn push_leaf<L: Ledger>(
+    alloc: Global,
+    leaves: &mut Vec<Leaf>,
+    look: &ListLook,
+    name: RecName,
+    steps: &mut Steps<L>,
+) -> Result<(), AllocError>
+    ensures { OnOk result (leaves.new.items ≡ leaves.old.items ++ leaves_at look.now name) }
+{
+    if let Some(around) = extent_at(alloc, look, name, steps)? {
+        leaves.push(Leaf { name, around })?;
+    }
+    Ok(())
+}
+
+/// The connected nodes and edges of some names, in their order, each with the least box around its points. Those without a
+/// point are left out.
+pub(crate) fn leaves_of<L: Ledger>(
     alloc: Global,
     look: &ListLook,
     names: &[RecName],
     steps: &mut Steps<L>,
-) -> Result<Vec<Part>, AllocError>
-    ensures names { IfOk result (λ parts. names_of parts.items ≡ names.now) }
-    ensures placed { IfOk result (λ parts. All (IsPlaced look.now) parts.items) }
+) -> Result<Vec<Leaf>, AllocError>
+    ensures { IfOk result (λ leaves. leaves.items ≡ leaves_in look.now names.now) }
 {
-    let mut parts = Vec::new(alloc);
+    let mut leaves = Vec::new(alloc);
     for name in names {
-        parts.push(part_at(alloc, look, *name, steps)?)?;
+        push_leaf(alloc, &mut leaves, look, *name, steps)?;
     }
-    Ok(parts)
-}
-
-/// The connected nodes and edges of some names, in their order.
-pub(crate) fn parts_of<L: Ledger>(
-    alloc: Global,
-    look: &ListLook,
-    names: &[RecName],
-    steps: &mut Steps<L>,
-) -> Result<Vec<Part>, AllocError>
-    ensures names { IfOk result (λ parts. names_of parts.items ≡ names.now) }
-    ensures placed { IfOk result (λ parts. All (IsPlaced look.now) parts.items) }
-    ensures ahead { IfOk result (λ parts. AreAhead parts.items) }
-{
-    let placed = placed_parts(alloc, look, names, steps)?;
-    let parts = with_ahead(alloc, &placed)?;
-    Ok(parts)
-}
-
-/// Whether two boxes have no point in common.
-pub(crate) fn are_apart(a: Option<Box4>, b: Option<Box4>) -> bool
-    ensures { result ≡ spec_are_apart a b }
-{
-    match (a, b) {
-        (Some(around), Some(other)) => are_disjoint(around, other),
-        _ => true,
-    }
+    Ok(leaves)
 }

@@ -27,7 +27,8 @@ pub fn are_disjoint(a: Box4, b: Box4) -> bool
     share_no_latitude(a, b) || share_no_longitude(a, b)
 }
 
-fn united(a: Box4, b: Box4) -> Box4
+/// The least box that holds two boxes.
+pub fn united(a: Box4, b: Box4) -> Box4
     ensures { result ≡ spec_united a b }
 {
     Box4 {

@@ -6,4 +6,4 @@
 
 mod boxes;
 
-pub use boxes::{are_disjoint, box_of_line, box_of_segment};
+pub use boxes::{are_disjoint, box_of_line, box_of_segment, united};

@@ -1,9 +1,13 @@
 use Rattle.std.proofs.Common.{◌++◌, [], ◌∙◌, IsTrue, map, subst, sym}
 use Rattle.std.specs.List.{All, flat_map}
+use Rattle.std.specs.List.Sorted.{IsStrictlySortedBy}
 use Rattle.std.proofs.lemmas.List.Concat.{flat_map-append}
 use Rattle.std.proofs.lemmas.Result.{err_from_is_err_and}
 use Rattle.cell_spec.specs.declared.key.Subject.TheVariants.{Ident}
-use Rattle.rule_spec.specs.Findings.{is_subject}
+use Rattle.cell_spec.specs.Names.{name_order}
+use Rattle.cell_spec.proofs.Ascending.{sorted-ascending}
+use Rattle.cell_spec.proofs.Orders.{total_names}
+use Rattle.rule_spec.specs.Findings.{is_subject, record_names}
 use Rattle.cell_findings.specs.Gathered.{IsOver}
 use Rattle.cell_findings.specs.Judged.{identities_in, names_in, part_pairs, records_and_sides, subject_findings}
 use Rattle.cell_findings.proofs.Gathering.{over_more}
@@ -15,6 +19,11 @@ push_pairs_and_identities-requires-clause-subjects g c =
     subst (λ ns. All (λ s. IsTrue (is_subject c.in_ok-look.look s)) (part_pairs ns)) (sym (c.as_slice-names.ensures ∙ c.in_ok-names.ensures))
     (subst (λ cell. All (λ s. IsTrue (is_subject cell s)) (part_pairs (names_in c.args.cell.now))) (sym c.in_ok-look.ensures)
     (pairs_are_subjects c.args.cell.now c.requires.writable))
+
+pub push_pairs_and_identities-requires-clause-ascending : goal.push_pairs_and_identities-requires-clause-ascending
+push_pairs_and_identities-requires-clause-ascending g c =
+    subst (IsStrictlySortedBy name_order) (sym (c.as_slice-names.ensures ∙ c.in_ok-names.ensures))
+    (sorted-ascending name_order total_names (record_names c.args.cell.now))
 
 pub returns-in_err-push_records_and_sides : goal.returns-in_err-push_records_and_sides
 returns-in_err-push_records_and_sides g c =

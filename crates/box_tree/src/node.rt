@@ -1,0 +1,59 @@
+//! Leaves in halves, each two of which have a box around them.
+
+ghost use Rattle.std.specs.Prelude.{◌≡◌, ◌++◌, IfOk, OnOk};
+ghost use Rattle.box_tree.specs.Leaves.{names_meeting};
+ghost use Rattle.box_tree.specs.Nodes.{AreHeld, leaves_of};
+
+use crate::leaf::{Leaf, box_with, push_names};
+use geometry_spec::Box4;
+use line_boxes::are_disjoint;
+use s57_types::RecName;
+use std::alloc::{AllocError, Global};
+
+/// How many leaves are looked at one by one.
+const FEW: usize = 8;
+
+/// Leaves in their order: a few, or two halves with the box around both.
+#[derive(Drop)]
+pub(crate) enum Node {
+    Few(Vec<Leaf>),
+    Halves(Box4, Box<Node>, Box<Node>),
+}
+
+impl Node {
+    /// Leaves in this order.
+    pub(crate) fn of_leaves(alloc: Global, leaves: &[Leaf]) -> Result<Node, AllocError>
+        ensures leaves { IfOk result (λ node. leaves_of node ≡ leaves.now) }
+        ensures held { IfOk result (λ node. AreHeld node) }
+    {
+        if leaves.len() <= FEW {
+            return Ok(Node::Few(leaves.to_vec(alloc)?));
+        }
+        let around = box_with(leaves[0].around, leaves);
+        let (front, back) = leaves.split_at(leaves.len() / 2);
+        let front = Box::new(alloc, Node::of_leaves(alloc, front)?)?;
+        let back = Box::new(alloc, Node::of_leaves(alloc, back)?)?;
+        Ok(Node::Halves(around, front, back))
+    }
+
+    /// Appends the names of those leaves whose boxes meet a box.
+    pub(crate) fn push_meeting(
+        &self,
+        out: &mut Vec<RecName>,
+        around: Box4,
+    ) -> Result<(), AllocError>
+        requires { AreHeld self.now }
+        ensures { OnOk result (out.new.items ≡ out.old.items ++ names_meeting around (leaves_of self.now)) }
+    {
+        match self {
+            Node::Few(leaves) => push_names(out, around, leaves),
+            Node::Halves(holder, front, back) => {
+                if are_disjoint(around, *holder) {
+                    return Ok(());
+                }
+                front.push_meeting(out, around)?;
+                back.push_meeting(out, around)
+            }
+        }
+    }
+}
