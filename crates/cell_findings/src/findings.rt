@@ -34,7 +34,9 @@ fn push_records_and_sides<L: Ledger>(
     steps: &mut Steps<L>,
 ) -> Result<(), FindingRefusal>
     requires { length gathered.old.items ≤ limit }
-    ensures { MatchResult result (λ _. IsGathered limit (gathered.old.items ++ flat_map (subject_findings look.now) (records_and_sides names.now)) gathered.new.items) (IsOver limit (gathered.old.items ++ flat_map (subject_findings look.now) (records_and_sides names.now))) }
+    ensures { MatchResult result
+        (λ _. IsGathered limit (gathered.old.items ++ flat_map (subject_findings look.now) (records_and_sides names.now)) gathered.new.items)
+        (IsOver limit (gathered.old.items ++ flat_map (subject_findings look.now) (records_and_sides names.now))) }
 {
     let edges = edge_names(alloc, names)?;
     push_records(alloc, gathered, look, names, limit, steps)?;
@@ -54,7 +56,10 @@ fn push_pairs_and_identities<L: Ledger>(
     requires subjects { All (λ (s : SpecSubject). IsTrue (is_subject look.now s)) (part_pairs names.now) }
     requires ascending { IsStrictlySortedBy name_order names.now }
     requires within { length gathered.old.items ≤ limit }
-    ensures { MatchResult result (λ _. IsGathered limit (gathered.old.items ++ flat_map (subject_findings look.now) (part_pairs names.now ++ map SubjectIdent identities.now)) gathered.new.items) (IsOver limit (gathered.old.items ++ flat_map (subject_findings look.now) (part_pairs names.now ++ map SubjectIdent identities.now))) }
+    ensures { MatchResult result
+        (λ _. IsGathered limit (gathered.old.items ++ flat_map (subject_findings look.now) (part_pairs names.now ++ map SubjectIdent identities.now))
+        gathered.new.items)
+        (IsOver limit (gathered.old.items ++ flat_map (subject_findings look.now) (part_pairs names.now ++ map SubjectIdent identities.now))) }
 {
     let parts = part_names(alloc, names)?;
     push_pairs(alloc, gathered, look, &parts, limit, steps)?;
@@ -72,7 +77,9 @@ fn gather<L: Ledger>(
     requires name { blank.name ≡ L.name }
     requires parts { blank.parts ≡ L.parts }
     requires some_part { 0 < L.parts }
-    ensures { MatchResult result (λ found. IsGathered limit (flat_map (subject_findings cell.now) (judged_subjects cell.now)) found.items) (IsOver limit (flat_map (subject_findings cell.now) (judged_subjects cell.now))) }
+    ensures { MatchResult result
+        (λ found. IsGathered limit (flat_map (subject_findings cell.now) (judged_subjects cell.now)) found.items)
+        (IsOver limit (flat_map (subject_findings cell.now) (judged_subjects cell.now))) }
 {
     let look = ListLook::make(alloc, cell)?;
     let names = names_in(alloc, cell)?;
