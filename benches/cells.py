@@ -106,6 +106,22 @@ def far_apart(number):
     return tuple(number * step % 2_000_000_000 - 1_000_000_000 for step in (7919, 104729))
 
 
+def moved_node(rows, turn, session=0, sessions=1):
+    """The line that moves a node of a generated cell a little: another one each turn, of those that the session has to itself."""
+    nodes = (rows + 1) ** 2
+    number = session + sessions * (turn * 7_919 % (nodes // sessions))
+    row, column = divmod(number, rows + 1)
+    return f"set vc {number + 1} 2 p={40_000 * row + turn % 50},{40_000 * column + turn % 37}\n"
+
+
+def doubled_area(rows, turn):
+    """A second depth area, of number 20,000, on a square of a generated cell."""
+    row, column = divmod(turn * 7_919 % rows**2, rows)
+    south, west = 1 + row * rows + column, 1 + rows * (rows + 1) + row * (rows + 1) + column
+    pointers = ((west, 1), (south + rows, 1), (west + 1, 2), (south, 2))
+    return "fe 20000 1 3 1 42 1 20000 1" + "".join(f" s=ve:{edge}:{way}:1:255" for edge, way in pointers) + "\n"
+
+
 def write_cell(name, records):
     with open(f"{folder}/{name}", "wb") as file:
         file.write(head + b"".join(records))
@@ -140,14 +156,26 @@ for count in (724, 240_000):
 write_text("ADDED", "".join(f"add vc {k} 1 p=0,0\n" for k in range(1_000, 5_096)) + "commit\n")
 # one node of the ring moved in each of 2,000 commits, and the cell viewed before each
 write_text("MOVES", "".join(f"set vc {k % 500 + 1} 2 p={k},{k}\nview\ncommit\n" for k in range(2_000)))
-# 50,000 commands, and 1,048,576 bytes
 # 1,600 commits shared out among so many sessions: each moves a node by one unit, so that the ring stays a ring in whatever order they come
 for sessions in (1, 2, 4, 8, 16):
     for session in range(sessions):
         moves = range(session, 1_600, sessions)
         commits = (f"set vc {k % 500 + 1} 2 p={k % 500 + 1},{k % 500 + 1 + k // 500 % 2}\nview\ncommit\n" for k in moves)
         write_text(f"PART_{sessions}_{session + 1}", "".join(commits))
+# 50,000 commands, and 1,048,576 bytes
 write_text("DELETIONS", 50_000 * "del vc 4294967295\n")
 write_text("EDGES", "".join("add ve 1 1" + points * " p=-500000,400000" + "\n" for points in [*20 * [3_000], 1_667]) + "#end.\n")
-for count in (0, 1, 4_000):
+# scripts for the cells that `make` generates: nothing, and commits that are all accepted
+write_text("NONE", "")
+for rows in (25, 50, 100):
+    write_text(f"MOVED_{rows}", "".join(f"{moved_node(rows, k)}commit\n" for k in range(5_000)))
+write_text("FEATURES", "".join(f"add {doubled_area(100, k)}commit\ndel fe 20000\ncommit\n" for k in range(2_500)))
+write_text("HEADS", "".join(f"set head edtn=1 updn={k} uadt=20260101 isdt=20260101 aall=0 comt=\ncommit\n" for k in range(1, 101)))
+write_text("LARGE", 3 * ("".join(moved_node(100, k) for k in range(4_000)) + "commit\n"))
+# 8,000 commits shared out among so many sessions, each of which has nodes of its own
+for sessions in (1, 4, 8, 16):
+    for session in range(sessions):
+        commits = (f"{moved_node(100, k, session, sessions)}commit\n" for k in range(8_000 // sessions))
+        write_text(f"SHARE_{sessions}_{session + 1}", "".join(commits))
+for count in (0, 1, 3, 100, 4_000, 5_000):
     write_text(f"ORDER_{count}", "order" + count * " 1" + "\n")

@@ -1,13 +1,20 @@
-# What run.sh is made of. It sets `benches`, this folder, `work`, a folder for what is built and timed, `case_name` and `runs`.
+# What run.sh is made of. It sets `benches`, this folder, `work`, a folder for what is built and timed, `case_name`, `runs`, and `other`, a program
+# to be timed beside `enc_cell`, or nothing.
 top=$(dirname "$benches")
 minimal=$top/crates/enc_cell/data/minimal.000
 TIMEFORMAT='%3U %3R'
 
 # builds `enc_cell`, and writes the files of its runs
 build_program() {
+    local size
     "$top/enc_cell" check "$minimal" >"$work/log"
     cp "$top/crates/enc_cell/out/enc_cell" "$work/program"
     python3 "$benches/cells.py" "$minimal" "$work"
+    for size in 25 50 100; do
+        "$work/program" make "$size" "$work/MADE_$size" >"$work/log"
+    done
+    programs=(program)
+    [ -z "$other" ] || { cp "$other" "$work/other"; programs+=(other); }
 }
 
 build_measure() {
@@ -125,4 +132,36 @@ memory_row() {
         printf ' %10s %-6s' "$(megabytes "$work/plain" "$(plain_work "$name" "$measured")" "$size")" "$name"
     done
     echo
+}
+
+# one run of a program with so many commits, each of which it is to accept
+run_commits() {
+    local name=$1 count=$2
+    shift 2
+    one_run "main.$name" "$work/$name" "$@"
+    [ "$(grep -c '^commit accepted' "$work/output")" = "$count" ] || { echo "$name $*: not every commit was accepted" >&2; exit 1; }
+}
+
+# what a commit costs a program, in microseconds: of the processor (column 1) or by the clock (2)
+cost() {
+    awk -v all="$(time_of "main.$1" "$2" 1)" -v none="$(time_of "base.$1" "$2" 1)" -v count="$3" 'BEGIN { printf "%.1f", (all - none) * 1e6 / count }'
+}
+
+# rows of what a commit costs: runs with so many, which take turns with runs of an empty script, and those of the other program with these
+commit_rows() {
+    local count=$1 name none=(NONE)
+    shift
+    [ "$1" = room ] || none=(ORDER_0 NONE)
+    rm -f "$work"/main.* "$work"/base.*
+    for _ in $(seq "$runs"); do
+        for name in "${programs[@]}"; do
+            one_run "base.$name" "$work/$name" "$1" "$2" OUT "${none[@]}"
+            run_commits "$name" "$count" "$@"
+        done
+    done
+    for name in "${programs[@]}"; do
+        printf '%-30s %-8s without commits %5.0f ms, %5.0f ms by the clock; a commit %8s us, %8s us by the clock; %5d MB\n' "$1 $2 ${!#}" "$name" \
+            "$(time_of "base.$name" 1 1)e3" "$(time_of "base.$name" 2 1)e3" "$(cost "$name" 1 "$count")" "$(cost "$name" 2 "$count")" \
+            "$(megabytes "$work/$name" "$@")"
+    done
 }

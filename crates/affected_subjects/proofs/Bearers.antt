@@ -45,6 +45,7 @@ module _ (edits : List Edit) (c : Cell) (keys : List Key) (borne : List (Lnam ×
         value_of-with_row identity_order total_identities borne l k (after l)
         ∙ ap (λ b. cond b (Some (after l)) (value_of identity_order borne k)) (identities_flip l k)
         ∙ ap (λ o. cond hit (Some (after l)) o) (known.bearers_are k)
-        ∙ put_by hit (list_any (same_key (Foid k)) keys) (after l) (after k) (λ same. ap after (sym (exact_identities k l ((Equal-is (identity_order k l)).0 same))))
+        ∙ put_by hit (list_any (same_key (Foid k)) keys) (after l) (after k)
+        (λ same. ap after (sym (exact_identities k l ((Equal-is (identity_order k l)).0 same))))
         ∙ ap (λ b. cond b (Some (after k)) None) (sym (list_any-append (same_key (Foid k)) keys (Foid l ∷ [])));
   }

@@ -21,7 +21,8 @@ module _ (edits : List Edit) (c : Cell) (reads : List (Subject × List Key)) (ar
       each_in_turn (looked_at reads) [] (touched_keys edits c)
       ∙ (λ i. add_all [] (flat_map (λ k. readers c reads are k i ++ named_by k) (touched_keys edits c)))
 
-  module _ (mates : MatesAreCandidates) (before after : List (RecName × Covering)) (covers : IsCoveringsOf c before) (covered : IsCoveringsOf (apply_edits edits c) after) where
+  module _ (mates : MatesAreCandidates) (before after : List (RecName × Covering)) (covers : IsCoveringsOf c before)
+      (covered : IsCoveringsOf (apply_edits edits c) after) where
     mated_is : (s : Subject) → mated before after s ≡ pairs_with (change_by edits c) s
     mated_is (Rec n) = λ i. map (pair_of n) (mates c before covers n i) ++ map (pair_of n) (mates (apply_edits edits c) after covered n i)
     mated_is (Side n) = refl

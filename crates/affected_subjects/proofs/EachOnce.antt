@@ -18,7 +18,8 @@ use Rattle.indexmap.specs.IndexSet.{insert_key}
 use Rattle.affected_subjects.specs.Rounds.{add_all, add_each, add_pairs}
 
 -- ---- filters one after the other
-both_by : {X : Type 0} (x : X) (p : X → Bool) (rest : List X) (first : Bool) → cond (first && p x) (x ∷ filter p rest) (filter p rest) ≡ filter p (cond first (x ∷ rest) rest)
+both_by : {X : Type 0} (x : X) (p : X → Bool) (rest : List X) (first : Bool) → cond (first && p x) (x ∷ filter p rest) (filter p rest) ≡
+    filter p (cond first (x ∷ rest) rest)
 both_by x p rest true = refl
 both_by x p rest false = refl
 
@@ -98,7 +99,8 @@ more_before there s others =
 added_by : (there : List Subject) (s : Subject) (ss : List Subject) (at : Bool) → is_there s there ≡ at
     → ((now : List Subject) → add_all now ss ≡ now ++ new_ones now (each_once ss))
     → add_all (cond at there (there ++ s ∷ [])) ss
-    ≡ there ++ cond (not at) (s ∷ new_ones there (filter (λ t. not (same_subject s t)) (each_once ss))) (new_ones there (filter (λ t. not (same_subject s t)) (each_once ss)))
+    ≡ there ++ cond (not at) (s ∷ new_ones there (filter (λ t. not (same_subject s t)) (each_once ss)))
+    (new_ones there (filter (λ t. not (same_subject s t)) (each_once ss)))
 added_by there s ss true is rest = rest there ∙ ap (λ those. there ++ those) (sym (no_more there s (each_once ss) is))
 added_by there s ss false is rest =
     rest (there ++ s ∷ []) ∙ append_assoc there (s ∷ []) (new_ones (there ++ s ∷ []) (each_once ss))
@@ -116,7 +118,8 @@ pub add-append : (there xs ys : List Subject) → add_all there (xs ++ ys) ≡ a
 add-append there [] ys = refl
 add-append there (x ∷ xs) ys = add-append (insert_key same_subject there x) xs ys
 
-pub each_in_turn : {X : Type 0} (gives : X → List Subject) (there : List Subject) (items : List X) → add_each gives there items ≡ add_all there (flat_map gives items)
+pub each_in_turn : {X : Type 0} (gives : X → List Subject) (there : List Subject) (items : List X)
+    → add_each gives there items ≡ add_all there (flat_map gives items)
 each_in_turn gives there [] = refl
 each_in_turn gives there (x ∷ items) =
     each_in_turn gives (add_all there (gives x)) items ∙ sym (add-append there (gives x) (flat_map gives items))
@@ -164,7 +167,8 @@ module _ (gives : Subject → List Subject) where
   again_by : (s : Subject) (ss seen there : List Subject) (at : Bool) → is_there s seen ≡ at → AllThere seen there
       → ((older now : List Subject) → AllThere older now → add_all now (flat_map gives ss) ≡ add_all now (flat_map gives (new_ones older (each_once ss))))
       → add_all there (gives s ++ flat_map gives ss)
-      ≡ add_all there (flat_map gives (cond (not at) (s ∷ new_ones seen (filter (λ t. not (same_subject s t)) (each_once ss))) (new_ones seen (filter (λ t. not (same_subject s t)) (each_once ss)))))
+      ≡ add_all there (flat_map gives (cond (not at) (s ∷ new_ones seen (filter (λ t. not (same_subject s t)) (each_once ss)))
+      (new_ones seen (filter (λ t. not (same_subject s t)) (each_once ss)))))
   again_by s ss seen there true is known rest =
       add-append there (gives s) (flat_map gives ss)
       ∙ ap (λ now. add_all now (flat_map gives ss)) (nothing_new there (gives s) (known s (among_held subject_order exact_subjects s seen is)))
@@ -176,7 +180,8 @@ module _ (gives : Subject → List Subject) where
       ∙ ap (λ those. add_all (add_all there (gives s)) (flat_map gives those)) (more_before seen s (each_once ss))
       ∙ sym (add-append there (gives s) (flat_map gives (new_ones seen (filter (λ t. not (same_subject s t)) (each_once ss)))))
 
-  again : (ss seen there : List Subject) → AllThere seen there → add_all there (flat_map gives ss) ≡ add_all there (flat_map gives (new_ones seen (each_once ss)))
+  again : (ss seen there : List Subject) → AllThere seen there → add_all there (flat_map gives ss) ≡ add_all there
+      (flat_map gives (new_ones seen (each_once ss)))
   again [] seen there known = refl
   again (s ∷ ss) seen there known = again_by s ss seen there (is_there s seen) refl known (λ older now all. again ss older now all)
 

@@ -71,4 +71,5 @@ module _ (c : Cell) (edits : List Edit) (rows : List (Subject × List Key)) (bor
     kept_ident untouched e =
         kept_row (Ident l) refl
         ∙ ap (λ (names : List RecName). nat_lt 0 (length names))
-        (untouched edits c known.found (Foid l) (clear_by (list_any (same_key (Foid l)) (touched_keys edits c)) (is_borne_after edits c l) (e ∙ known.bearers.bearers_are l)))
+        (untouched edits c known.found (Foid l) (clear_by (list_any (same_key (Foid l)) (touched_keys edits c)) (is_borne_after edits c l)
+        (e ∙ known.bearers.bearers_are l)))

@@ -61,13 +61,15 @@ module _ (c : Cell) (n : RecName) where
   no_edge : is_edge_name n ≡ false → edge_named c n ≡ None
   no_edge none = edge_is c n ∙ ap (λ b. cond b (course_in c n) None) none
 
-  node_given : (o : Option Vector) → option_and_then (λ points. covering_if_any (map (λ (p : Point). (p, p)) (option_to_list (the_only points)))) (option_map (λ (v : Vector). v.plane) o)
+  node_given : (o : Option Vector) → option_and_then (λ points. covering_if_any (map (λ (p : Point). (p, p)) (option_to_list (the_only points))))
+      (option_map (λ (v : Vector). v.plane) o)
       ≡ covering_if_any (lying o None)
   node_given None = refl
   node_given (Some v) = ap covering_if_any (sym (append-nil (map (λ (p : Point). (p, p)) (option_to_list (the_only v.plane)))))
 
   edge_given : (o : Option Vector)
-      → option_and_then (λ points. covering_if_any (segments_of points)) (option_map (λ (line : EdgeLine). line.points) (option_and_then (line_of c) o)) ≡ covering_if_any (lying None o)
+      → option_and_then (λ points. covering_if_any (segments_of points))
+      (option_map (λ (line : EdgeLine). line.points) (option_and_then (line_of c) o)) ≡ covering_if_any (lying None o)
   edge_given None = refl
   edge_given (Some v) = by (line_of c v)
     where
@@ -79,7 +81,8 @@ module _ (c : Cell) (n : RecName) where
   -- what a test of kinds takes of the points
   abbrev given_if : Bool → Bool → Option Covering
   given_if node edge =
-      option_and_then (λ points. covering_if_any (cond node (map (λ (p : Point). (p, p)) (option_to_list (the_only points))) (cond edge (segments_of points) [])))
+      option_and_then (λ points. covering_if_any (cond node (map (λ (p : Point). (p, p)) (option_to_list (the_only points)))
+      (cond edge (segments_of points) [])))
       (cond node (option_map (λ (v : Vector). v.plane) (node_named c n)) (edge_points_of c n))
 
   given_node : is_of_kind Vc n ≡ true → covering_given (change_to c n) ≡ covering_in c n
@@ -133,7 +136,8 @@ module _ (d : Cell) (n : RecName) where
 
   record_by : (m : RecName) (ss : List Subject) (had : Option Covering) (chain same : Bool) → is_chain_name m ≡ chain → same_name m n ≡ same
       → ((now : Option Covering) → after now ss ≡ cond (is_there ss && is_chain_name n) (covering_in d n) now)
-      → covering_after had (cond chain (change_to d m ∷ []) [] ++ flat_map (changes_to d) ss) n ≡ cond ((same || is_there ss) && is_chain_name n) (covering_in d n) had
+      → covering_after had (cond chain (change_to d m ∷ []) [] ++ flat_map (changes_to d) ss) n ≡ cond ((same || is_there ss) && is_chain_name n)
+      (covering_in d n) had
   record_by m ss had true true is are rest =
       let one : m ≡ n = one_when_same m n are in
       rest (cond (same_name m n) (covering_given (change_to d m)) had)
@@ -180,7 +184,8 @@ module _ (considers : AffectedAreConsidered) (keep : UnaffectedRecordsKeepSegmen
   among_first n at =
       elim (among_append (Rec n) (first_round (change_by edits c)) (flat_map (pairs_with (change_by edits c)) (first_round (change_by edits c))) at) [
         | inl first ↦ first
-        | inr second ↦ let from = flattened (pairs_with (change_by edits c)) (Rec n) (first_round (change_by edits c)) second in absurd (no_pairs n from.item from.gives)
+        | inr second ↦ let from = flattened (pairs_with (change_by edits c)) (Rec n) (first_round (change_by edits c)) second in
+            absurd (no_pairs n from.item from.gives)
       ]
 
   affected_there : (n : RecName) → is_affected (change_by edits c) (Rec n) ≡ true → is_there d n (add_all [] (first_round (change_by edits c))) ≡ true

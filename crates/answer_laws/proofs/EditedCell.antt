@@ -49,15 +49,18 @@ edits_keep_writable c edits guards w no_fault applicable =
     let sizes = and_parts many (not (leave_a_long_head edits c)) parts.1 in
     let fits : Rec → Type 0 = λ r. unfitness c.head.nall r ≡ None in
     let each = recursion_from_All (λ edit. unfitness_of_edit c.head.nall edit ≡ None) edits form.fit in
-    let leaves : AllByRecursion (Leaves fits) edits = each_weaker (λ edit. unfitness_of_edit c.head.nall edit ≡ None) (Leaves fits) (leaves_fit c.head.nall) edits (each) in
+    let leaves : AllByRecursion (Leaves fits) edits = each_weaker (λ edit. unfitness_of_edit c.head.nall edit ≡ None) (Leaves fits)
+    (leaves_fit c.head.nall) edits (each) in
     let fit_before : AllByRecursion fits (all_records c) = recursion_from_All fits (all_records c) w.records_fit in
-    let fit : (kind : Kind) → AllByRecursion fits (edited_list edits kind c) = λ kind. list_has fits edits kind c leaves (each_of_kind fits kind c fit_before) in
+    let fit : (kind : Kind) → AllByRecursion fits (edited_list edits kind c) =
+    λ kind. list_has fits edits kind c leaves (each_of_kind fits kind c fit_before) in
     let of_kind : (kind : Kind) → AllByRecursion (IsOfKind kind) (list_of_kind kind c) → All (IsOfKind kind) (edited_list edits kind c) =
     λ kind before. All-from_recursion (IsOfKind kind) (edited_list edits kind c) (list_is_of_kind edits kind c before) in
     let lists : Kind → List Rec = λ kind. edited_list edits kind c in
     let all_fit : All fits (lists Vi ++ lists Vc ++ lists Ve ++ lists Fe) =
     All-from_recursion fits (lists Vi ++ lists Vc ++ lists Ve ++ lists Fe)
-    (each_append fits (lists Vi ++ lists Vc ++ lists Ve) (lists Fe) (each_append fits (lists Vi ++ lists Vc) (lists Ve) (each_append fits (lists Vi) (lists Vc) (fit Vi) (fit Vc)) (fit Ve)) (fit Fe)) in
+    (each_append fits (lists Vi ++ lists Vc ++ lists Ve) (lists Fe)
+    (each_append fits (lists Vi ++ lists Vc) (lists Ve) (each_append fits (lists Vi) (lists Vc) (fit Vi) (fit Vc)) (fit Ve)) (fit Fe)) in
     let readable : IsReadable c = record { distinct = w.names_distinct; count = omega (arith, w.not_too_many); fit = w.records_fit } in
     record {
       head_fits = head_is_fit c.head.nall c.head edits w.head_fits each (not-true (leave_a_long_head edits c) sizes.1);

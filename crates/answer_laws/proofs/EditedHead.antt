@@ -36,11 +36,17 @@ pub record IsAmong (P : Edit → Type 0) (edits : List Edit) (edit : Edit) : Typ
   pub has : P edit
   pub counted : is_head_edit edit ≡ true → list_any is_head_edit edits ≡ true
 
-among_more : (P : Edit → Type 0) (edits : List Edit) (first : Edit) (found : Option Edit) → IfSome found (IsAmong P edits) → IfSome found (IsAmong P (first ∷ edits))
+among_more : (P : Edit → Type 0) (edits : List Edit) (first : Edit) (found : Option Edit) → IfSome found (IsAmong P edits)
+    → IfSome found (IsAmong P (first ∷ edits))
 among_more P edits first None here = tt
-among_more P edits first (Some edit) here = record { has = here.has; counted = λ is. or_right (is_head_edit first) (list_any is_head_edit edits) (here.counted is) }
+among_more P edits first (Some edit) here = record {
+  has = here.has;
+  counted =
+      λ is. or_right (is_head_edit first) (list_any is_head_edit edits) (here.counted is);
+}
 
-found_among_by : (P : Edit → Type 0) (edits : List Edit) (edit : Edit) (named : Bool) (later : Option Edit) → P edit → IfSome later (IsAmong P edits) → IfSome (cond named (Some edit) later) (IsAmong P (edit ∷ edits))
+found_among_by : (P : Edit → Type 0) (edits : List Edit) (edit : Edit) (named : Bool) (later : Option Edit) → P edit
+    → IfSome later (IsAmong P edits) → IfSome (cond named (Some edit) later) (IsAmong P (edit ∷ edits))
 found_among_by P edits edit true later here others = record { has = here; counted = λ is. or_left (is_head_edit edit) (list_any is_head_edit edits) is }
 found_among_by P edits edit false later here others = among_more P edits edit later others
 
@@ -59,7 +65,8 @@ level_in_range One = refl
 
 -- the texts of an edit with those of a head that stay
 plain_together : (dsnm edtn updn uadt isdt sted psdn pred comt new_edtn new_updn new_uadt new_isdt new_comt : Bool)
-    → (dsnm && (edtn && (updn && (uadt && (isdt && (sted && (psdn && (pred && (comt && true))))))))) ≡ true → (new_edtn && (new_updn && (new_uadt && (new_isdt && (new_comt && true))))) ≡ true
+    → (dsnm && (edtn && (updn && (uadt && (isdt && (sted && (psdn && (pred && (comt && true))))))))) ≡ true
+    → (new_edtn && (new_updn && (new_uadt && (new_isdt && (new_comt && true))))) ≡ true
     → (dsnm && (new_edtn && (new_updn && (new_uadt && (new_isdt && (sted && (psdn && (pred && (new_comt && true))))))))) ≡ true
 plain_together false edtn updn uadt isdt sted psdn pred comt a b c d e old new = absurd cc
 plain_together true false updn uadt isdt sted psdn pred comt a b c d e old new = absurd cc
@@ -78,7 +85,8 @@ plain_together true true true true true true true true comt true true true true 
 within_limit : (n : ℕ) → nat_lt length_limit n ≡ false → nat_le n length_limit ≡ true
 within_limit n h = le-leb n length_limit (ltb-false length_limit n h)
 
-edited_is_fit : (h : CellHead) (e : HeadEdit) → is_fit_head h ≡ true → has_plain_texts e ≡ true → nat_lt length_limit (identification_length (edited_head e h)) ≡ false → is_fit_head (edited_head e h) ≡ true
+edited_is_fit : (h : CellHead) (e : HeadEdit) → is_fit_head h ≡ true → has_plain_texts e ≡ true
+    → nat_lt length_limit (identification_length (edited_head e h)) ≡ false → is_fit_head (edited_head e h) ≡ true
 unfolding is_fit_head
 edited_is_fit h e fit plain short =
     let nall = nat_le h.nall 2 in
@@ -95,12 +103,15 @@ edited_is_fit h e fit plain short =
     let new_first = nat_le (level_number e.aall) 1 in
     let new_texts = list_all is_plain (dsid_row (dsid_of_head (edited_head e h))) in
     let new_named = nat_le (identification_length (edited_head e h)) length_limit in
-    let together : new_texts ≡ true = plain_together (is_plain (text_of h.dsnm)) (is_plain (text_of h.edtn)) (is_plain (text_of h.updn)) (is_plain (fixed_of h.uadt)) (is_plain (fixed_of h.isdt)) (is_plain (fixed_of h.sted))
-    (is_plain (text_of h.psdn)) (is_plain (text_of h.pred)) (is_plain (text_of h.dsid_comt)) (is_plain (text_of e.edtn)) (is_plain (text_of e.updn)) (is_plain (fixed_of e.uadt)) (is_plain (fixed_of e.isdt)) (is_plain (text_of e.comt))
+    let together : new_texts ≡ true = plain_together (is_plain (text_of h.dsnm)) (is_plain (text_of h.edtn)) (is_plain (text_of h.updn))
+    (is_plain (fixed_of h.uadt)) (is_plain (fixed_of h.isdt)) (is_plain (fixed_of h.sted))
+    (is_plain (text_of h.psdn)) (is_plain (text_of h.pred)) (is_plain (text_of h.dsid_comt)) (is_plain (text_of e.edtn))
+    (is_plain (text_of e.updn)) (is_plain (fixed_of e.uadt)) (is_plain (fixed_of e.isdt)) (is_plain (text_of e.comt))
     three.1 plain in
     and_from (new_first && nall && new_texts && comment && new_named) parameters
     (and_from (new_first && nall && new_texts && comment) new_named
-    (and_from (new_first && nall && new_texts) comment (and_from (new_first && nall) new_texts (and_from new_first nall (level_in_range e.aall) two.1) together) four.1)
+    (and_from (new_first && nall && new_texts) comment (and_from (new_first && nall) new_texts
+    (and_from new_first nall (level_in_range e.aall) two.1) together) four.1)
     (within_limit (identification_length (edited_head e h)) short)) six.1
 
 -- an edit among those of which none leaves too long a head
@@ -108,17 +119,20 @@ short_by : (any long : Bool) → any ≡ true → (any && long) ≡ false → lo
 short_by true long is none = none
 short_by false long is none = absurd cc
 
-head_is_fit_by : (nall : ℕ) (edits : List Edit) (h : CellHead) (edit : Option Edit) → IfSome edit (IsAmong (λ one. unfitness_of_edit nall one ≡ None) edits) → is_fit_head h ≡ true
+head_is_fit_by : (nall : ℕ) (edits : List Edit) (h : CellHead) (edit : Option Edit)
+    → IfSome edit (IsAmong (λ one. unfitness_of_edit nall one ≡ None) edits) → is_fit_head h ≡ true
     → (list_any is_head_edit edits && nat_lt length_limit (identification_length (head_by h edit))) ≡ false → is_fit_head (head_by h edit) ≡ true
 head_is_fit_by nall edits h None here fit short = fit
 head_is_fit_by nall edits h (Some (Add r)) here fit short = fit
 head_is_fit_by nall edits h (Some (Set r)) here fit short = fit
 head_is_fit_by nall edits h (Some (Del n)) here fit short = fit
 head_is_fit_by nall edits h (Some (Head e)) here fit short =
-    edited_is_fit h e fit (plain_when (has_plain_texts e) here.has) (short_by (list_any is_head_edit edits) (nat_lt length_limit (identification_length (edited_head e h))) (here.counted refl) short)
+    edited_is_fit h e fit (plain_when (has_plain_texts e) here.has)
+    (short_by (list_any is_head_edit edits) (nat_lt length_limit (identification_length (edited_head e h))) (here.counted refl) short)
 
 -- edits with plain texts leave a head that can be written, unless it is too long
 pub head_is_fit : (nall : ℕ) (h : CellHead) (edits : List Edit) → is_fit_head h ≡ true → AllByRecursion (λ edit. unfitness_of_edit nall edit ≡ None) edits
     → (list_any is_head_edit edits && nat_lt length_limit (identification_length (head_after edits h))) ≡ false → is_fit_head (head_after edits h) ≡ true
 head_is_fit nall h edits fit all short =
-    head_is_fit_by nall edits h (edit_of head_name edits) (found_among (λ edit. unfitness_of_edit nall edit ≡ None) (λ edit. same_name (name_of_edit edit) head_name) edits all) fit short
+    head_is_fit_by nall edits h (edit_of head_name edits) (found_among (λ edit. unfitness_of_edit nall edit ≡ None)
+    (λ edit. same_name (name_of_edit edit) head_name) edits all) fit short

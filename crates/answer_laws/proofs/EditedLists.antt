@@ -29,16 +29,22 @@ some_weaker P Q weaker None h = tt
 some_weaker P Q weaker (Some r) h = weaker r h
 
 -- a list keeps its kind
-pub list_is_of_kind : (edits : List Edit) (kind : Kind) (c : Cell) → AllByRecursion (IsOfKind kind) (list_of_kind kind c) → AllByRecursion (IsOfKind kind) (edited_list edits kind c)
+pub list_is_of_kind : (edits : List Edit) (kind : Kind) (c : Cell) → AllByRecursion (IsOfKind kind) (list_of_kind kind c)
+    → AllByRecursion (IsOfKind kind) (edited_list edits kind c)
 list_is_of_kind edits kind c all =
     let stays : (r : Rec) → IsOfKind kind r → IfSome (edited_record edits r) (IsOfKind kind) =
     λ r is. some_weaker (λ s. name_of s ≡ name_of r) (IsOfKind kind) (λ s same. ap (λ n. n.kind) same ∙ is) (edited_record edits r) (name_kept edits r) in
     let new : All (IsOfKind kind) (added_to edits kind) =
-    All-weaker (λ r. is_of_kind kind (name_of r) ≡ true) (IsOfKind kind) (λ r is. one_kind (name_of r).kind kind is) (added_to edits kind) (filter_passes (λ r. is_of_kind kind (name_of r)) (filter_map added_by edits)) in
-    each_append (IsOfKind kind) (kept_in edits (list_of_kind kind c)) (added_to edits kind) (each_kept (IsOfKind kind) edits stays (list_of_kind kind c) all) (recursion_from_All (IsOfKind kind) (added_to edits kind) new)
+    All-weaker (λ r. is_of_kind kind (name_of r) ≡ true) (IsOfKind kind) (λ r is. one_kind (name_of r).kind kind is) (added_to edits kind)
+    (filter_passes (λ r. is_of_kind kind (name_of r)) (filter_map added_by edits)) in
+    each_append (IsOfKind kind) (kept_in edits (list_of_kind kind c)) (added_to edits kind)
+    (each_kept (IsOfKind kind) edits stays (list_of_kind kind c) all) (recursion_from_All (IsOfKind kind) (added_to edits kind) new)
 
 -- what a list's records have, and what edits leave has, the edited list's records have
-pub list_has : (P : Rec → Type 0) (edits : List Edit) (kind : Kind) (c : Cell) → AllByRecursion (Leaves P) edits → AllByRecursion P (list_of_kind kind c) → AllByRecursion P (edited_list edits kind c)
+pub list_has : (P : Rec → Type 0) (edits : List Edit) (kind : Kind) (c : Cell) → AllByRecursion (Leaves P) edits
+    → AllByRecursion P (list_of_kind kind c) → AllByRecursion P (edited_list edits kind c)
 list_has P edits kind c leaves all =
-    let new : All P (added_to edits kind) = All-filter (λ r. is_of_kind kind (name_of r)) P (filter_map added_by edits) (All-from_recursion P (filter_map added_by edits) (each_added P edits leaves)) in
-    each_append P (kept_in edits (list_of_kind kind c)) (added_to edits kind) (each_kept P edits (λ r here. property_kept P edits r leaves here) (list_of_kind kind c) all) (recursion_from_All P (added_to edits kind) new)
+    let new : All P (added_to edits kind) = All-filter (λ r. is_of_kind kind (name_of r)) P (filter_map added_by edits)
+    (All-from_recursion P (filter_map added_by edits) (each_added P edits leaves)) in
+    each_append P (kept_in edits (list_of_kind kind c)) (added_to edits kind)
+    (each_kept P edits (λ r here. property_kept P edits r leaves here) (list_of_kind kind c) all) (recursion_from_All P (added_to edits kind) new)

@@ -21,7 +21,21 @@ use Rattle.cell_spec.specs.Names.{same_name, is_of_kind}
 use Rattle.cell_spec.specs.Writable.{HaveDistinctNames}
 use Rattle.cell_spec.proofs.Orders.{one_when_same, same_from_either}
 use Rattle.answer_laws.specs.EditedAnswers.{FindTheirRecords, has_a_list, record_after}
-use Rattle.answer_laws.proofs.Among.{Among, among_append, any_passes, each_among, each_mapped, known_of, mapped, origin, among_mapped, found, none_found, each_passes, one_of_name}
+use Rattle.answer_laws.proofs.Among.{
+  Among,
+  among_append,
+  any_passes,
+  each_among,
+  each_mapped,
+  known_of,
+  mapped,
+  origin,
+  among_mapped,
+  found,
+  none_found,
+  each_passes,
+  one_of_name,
+}
 use Rattle.answer_laws.proofs.Distinct.{distinct_both, distinct_mapped}
 use Rattle.answer_laws.proofs.EditedRecords.{any_edited, changed_in, names_listed, no_head, not_new, records_moved}
 
@@ -107,7 +121,9 @@ module _ (edits : List Edit) (c : Cell) (fit : FindTheirRecords edits c) (n : Re
   old_by r is (Some y) None gives now =
       let hit = found (is_named n) (all_records c) r is in
       let named : same_name n (name_of y) ≡ true = ap (same_name n) (name_kept edits r y gives) ∙ hit.passes in
-      let some = any_edited (is_named n) edits c fit.placed ∙ or_left _ _ (any_passes (is_named n) y (changed_in edits (all_records c)) (among_mapped (edited_record edits) r y (all_records c) hit.among gives) named) in
+      let some = any_edited (is_named n) edits c fit.placed ∙ or_left _ _
+      (any_passes (is_named n) y (changed_in edits (all_records c)) (among_mapped (edited_record edits) r y (all_records c) hit.among gives)
+      named) in
       let none = none_found (is_named n) (all_records d) now in
       absurd cc
 

@@ -14,7 +14,8 @@ use Rattle.cell_spec.proofs.Orders.{one_when_same}
 abbrev pub Leaves : (Rec → Type 0) → Edit → Type 0
 Leaves P edit = IfSome (left_by edit) P
 
-name_kept_by : (r : Rec) (edit : Edit) (named : Bool) → same_name (name_of_edit edit) (name_of r) ≡ named → (later : Option Edit) → IfSome (changed_by r later) (λ s. name_of s ≡ name_of r)
+name_kept_by : (r : Rec) (edit : Edit) (named : Bool) → same_name (name_of_edit edit) (name_of r) ≡ named → (later : Option Edit)
+    → IfSome (changed_by r later) (λ s. name_of s ≡ name_of r)
     → IfSome (changed_by r (cond named (Some edit) later)) (λ s. name_of s ≡ name_of r)
 name_kept_by r (Add s) true is later rest = refl
 name_kept_by r (Set s) true is later rest = one_when_same (name_of s) (name_of r) is
@@ -28,7 +29,8 @@ name_kept [] r = refl
 name_kept (edit ∷ edits) r =
     name_kept_by r edit (same_name (name_of_edit edit) (name_of r)) refl (find (λ other. same_name (name_of_edit other) (name_of r)) edits) (name_kept edits r)
 
-property_kept_by : (P : Rec → Type 0) (r : Rec) (edit : Edit) (named : Bool) (later : Option Edit) → P r → Leaves P edit → IfSome (changed_by r later) P → IfSome (changed_by r (cond named (Some edit) later)) P
+property_kept_by : (P : Rec → Type 0) (r : Rec) (edit : Edit) (named : Bool) (later : Option Edit) → P r → Leaves P edit
+    → IfSome (changed_by r later) P → IfSome (changed_by r (cond named (Some edit) later)) P
 property_kept_by P r (Add s) true later here leaves rest = here
 property_kept_by P r (Set s) true later here leaves rest = leaves
 property_kept_by P r (Del n) true later here leaves rest = tt
@@ -39,16 +41,19 @@ property_kept_by P r edit false later here leaves rest = rest
 pub property_kept : (P : Rec → Type 0) (edits : List Edit) (r : Rec) → AllByRecursion (Leaves P) edits → P r → IfSome (edited_record edits r) P
 property_kept P [] r leaves here = here
 property_kept P (edit ∷ edits) r leaves here =
-    property_kept_by P r edit (same_name (name_of_edit edit) (name_of r)) (find (λ other. same_name (name_of_edit other) (name_of r)) edits) here leaves.0 (property_kept P edits r leaves.1 here)
+    property_kept_by P r edit (same_name (name_of_edit edit) (name_of r)) (find (λ other. same_name (name_of_edit other) (name_of r)) edits)
+    here leaves.0 (property_kept P edits r leaves.1 here)
 
 each_cons : (P : Rec → Type 0) (o : Option Rec) (rest : List Rec) → IfSome o P → AllByRecursion P rest → AllByRecursion P (cons_option o rest)
 each_cons P None rest one others = others
 each_cons P (Some s) rest one others = (one, others)
 
 -- what each record makes of itself
-pub each_kept : (P : Rec → Type 0) (edits : List Edit) → ((r : Rec) → P r → IfSome (edited_record edits r) P) → (rs : List Rec) → AllByRecursion P rs → AllByRecursion P (filter_map (edited_record edits) rs)
+pub each_kept : (P : Rec → Type 0) (edits : List Edit) → ((r : Rec) → P r → IfSome (edited_record edits r) P) → (rs : List Rec)
+    → AllByRecursion P rs → AllByRecursion P (filter_map (edited_record edits) rs)
 each_kept P edits keeps [] all = tt
-each_kept P edits keeps (r ∷ rs) all = each_cons P (edited_record edits r) (filter_map (edited_record edits) rs) (keeps r all.0) (each_kept P edits keeps rs all.1)
+each_kept P edits keeps (r ∷ rs) all = each_cons P (edited_record edits r) (filter_map (edited_record edits) rs) (keeps r all.0)
+    (each_kept P edits keeps rs all.1)
 
 added_is : (P : Rec → Type 0) (edit : Edit) → Leaves P edit → IfSome (added_by edit) P
 added_is P (Add s) leaves = leaves

@@ -1,4 +1,4 @@
-//! Tests of the log of the editing history through its calls.
+//! Tests of the log of the editing history and of the workroom before it, through their calls.
 #![tactic(auto)]
 
 #[cfg(test)]

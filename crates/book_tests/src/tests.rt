@@ -1,3 +1,7 @@
-mod answers;
 mod books;
+mod desks;
+mod drawn;
+mod edits;
 mod full;
+mod memory;
+mod rooms;

@@ -1,5 +1,29 @@
 -- Rows whose findings stand one after the other are found again.
-use Rattle.std.proofs.Common.{◌≡◌, ℕ, ◌+◌, ◌<◌, true, false, List, [], ◌∷◌, ◌++◌, cond, length, map, take, drop, refl, sym, ap, ◌∙◌, subst, append_assoc, length-drop, arith}
+use Rattle.std.proofs.Common.{
+  ◌≡◌,
+  ℕ,
+  ◌+◌,
+  ◌<◌,
+  true,
+  false,
+  List,
+  [],
+  ◌∷◌,
+  ◌++◌,
+  cond,
+  length,
+  map,
+  take,
+  drop,
+  refl,
+  sym,
+  ap,
+  ◌∙◌,
+  subst,
+  append_assoc,
+  length-drop,
+  arith,
+}
 use Rattle.std.specs.declared.cmp.Ordering.TheVariants.{Less}
 use Rattle.std.specs.List.{AllByRecursion, prefix_len}
 use Rattle.std.specs.List.Sorted.{IsStrictlySortedBy}
@@ -66,7 +90,8 @@ no_rows : AreRowsOf [] []
 unfolding IsStrictlySortedBy
 no_rows = record { flat = refl; some = tt; ascending = tt }
 
-first_row : (s : Subject) (gs : List Finding) (rows : List (Subject × List Finding)) (findings : List SubjectFinding) (n : ℕ) → n ≡ length (map (with_subject s) gs)
+first_row : (s : Subject) (gs : List Finding) (rows : List (Subject × List Finding)) (findings : List SubjectFinding) (n : ℕ)
+    → n ≡ length (map (with_subject s) gs)
     → findings ≡ map (with_subject s) gs ++ findings_of_rows rows → map finding_in (take n findings) ≡ gs
 first_row s gs rows findings n counted is =
     (λ i. map finding_in (take (counted i) (is i)))
@@ -109,7 +134,8 @@ one_more all made more rest behind is pushed cut =
     let first = front is.left rest is.good in
     record {
       left = first.behind;
-      whole = ap (λ rows. rows ++ first.behind) pushed ∙ append_assoc made (front_row rest) first.behind ∙ ap (λ rows. made ++ rows) (sym first.split) ∙ is.whole;
+      whole = ap (λ rows. rows ++ first.behind) pushed ∙ append_assoc made (front_row rest) first.behind
+          ∙ ap (λ rows. made ++ rows) (sym first.split) ∙ is.whole;
       good = subst (AreRowsOf first.behind) (sym cut) first.good;
     }
 
@@ -139,7 +165,8 @@ unfolding all_findings
 have_some c =
     let judged = map (λ s. (s, findings_of_subject c s)) (subjects c) in
     each_weaker (λ (row : Subject × List Finding). nat_lt 0 (length row.1) ≡ true) HasSome (λ row e. some_when row.1 e) _
-    (recursion_from_All (λ (row : Subject × List Finding). nat_lt 0 (length row.1) ≡ true) _ (filter_passes (λ (row : Subject × List Finding). nat_lt 0 (length row.1)) judged))
+    (recursion_from_All (λ (row : Subject × List Finding). nat_lt 0 (length row.1) ≡ true) _
+    (filter_passes (λ (row : Subject × List Finding). nat_lt 0 (length row.1)) judged))
 
 pub all_are_rows : (c : Cell) → IsVerdictTable c (all_findings c) → AreRowsOf (all_findings c) (findings_of_rows (all_findings c))
 all_are_rows c table = record { flat = refl; some = have_some c; ascending = table.ascending }

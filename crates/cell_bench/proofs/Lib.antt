@@ -1,2 +1,10 @@
+mod Counted
+mod EditedTables
 mod Grouped
-mod WritableEdits
+mod Judging
+mod HeadNames
+mod KeptSubjects
+mod Refused
+mod SingleReads
+mod Totals
+mod ValidRows

@@ -1,3 +1,9 @@
 pub mod FindingTables
-pub mod Trials
+pub mod Verdicts
+pub mod Ready
+pub mod Rejudging
+pub mod Singles
+pub mod Limits
+pub mod Refusals
 pub mod Benches
+pub mod Prepared

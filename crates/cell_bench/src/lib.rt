@@ -1,19 +1,26 @@
-//! A cell with all findings of it as one type: edits are planned on it, and what is planned is installed.
+//! A cell with all findings of it as one type: edits are planned on it, and what is planned is installed. A plan judges only what
+//! the edits can change.
 #![tactic(auto)]
 
-mod apply;
 mod bench;
 mod count;
+mod indexed;
+mod load;
+mod next;
 mod plan;
 mod prepared;
+mod ready;
+mod records;
 mod refusal;
+mod rejudge;
+mod rejudged;
+mod singles;
 mod table;
-mod trial;
+mod verdicts;
 
-pub use apply::apply_edits;
+pub use affected_subjects::Reach;
 pub use bench::Bench;
 pub use count::narrow;
 pub use plan::BenchPlan;
 pub use prepared::Prepared;
-pub use refusal::{LoadRefusal, PlanRefusal};
-pub use trial::{FINDING_LIMIT, Trial, try_edits};
+pub use refusal::{FINDING_LIMIT, LoadRefusal, PlanRefusal};

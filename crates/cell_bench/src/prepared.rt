@@ -42,6 +42,21 @@ impl Prepared {
         }
     }
 
+    /// The same, with the edited cell where it was built ahead.
+    pub fn with_ahead(base: u32, edits: EditSet, rows: Rows, ahead: Option<BenchPlan>) -> Prepared
+        ensures base { result.base ≡ base }
+        ensures edits { result.edits ≡ edits }
+        ensures rows { result.rows ≡ rows }
+        ensures ahead { result.ahead ≡ ahead }
+    {
+        Prepared {
+            base,
+            edits,
+            rows,
+            ahead,
+        }
+    }
+
     /// The number of the accepted commit on which it rests.
     pub fn base(&self) -> u32
         ensures { result ≡ self.now.base }

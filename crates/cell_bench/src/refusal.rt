@@ -6,6 +6,9 @@ use cell_findings::FindingRefusal;
 use history_spec::StateRefusal;
 use std::alloc::AllocError;
 
+/// The most findings of a cell.
+pub const FINDING_LIMIT: usize = 262_144;
+
 /// Why a cell isn't loaded.
 #[derive(Clone, Copy, Debug, PartialEq, Eq)]
 pub enum LoadRefusal {

@@ -14,7 +14,8 @@ use std::alloc::{AllocError, Global};
 /// The findings of each subject that has some, ascending by subject.
 pub(crate) type FindingTable = SharedTable<Subject, Shared<Findings>>;
 
-type FindingRow = (Subject, Shared<Findings>);
+/// A subject with its findings.
+pub(crate) type FindingRow = (Subject, Shared<Findings>);
 
 /// How many findings at the front are about a subject.
 fn run_length(findings: &[SubjectFinding], subject: Subject) -> usize

@@ -19,7 +19,8 @@ use Rattle.cell_findings.proofs.Judged.{subjects_are}
 use Rattle.cell_findings.proofs.RowTexts.{row_counts}
 
 -- ---- rows one after the other
-one_row : (s : Subject) (fs : List Finding) (rest : List (Subject × List Finding)) → findings_of_rows (cond (nat_lt 0 (length fs)) ((s, fs) ∷ rest) rest) ≡ map (with_subject s) fs ++ findings_of_rows rest
+one_row : (s : Subject) (fs : List Finding) (rest : List (Subject × List Finding))
+    → findings_of_rows (cond (nat_lt 0 (length fs)) ((s, fs) ∷ rest) rest) ≡ map (with_subject s) fs ++ findings_of_rows rest
 one_row s [] rest = refl
 one_row s (f ∷ fs) rest =
     let some : nat_lt 0 (length (f ∷ fs)) ≡ true = grind (arith, nat_tests) in
@@ -44,7 +45,8 @@ module _ (c : Cell) (w : IsWritable c) where
   total = ap (λ rows. length rows) (sym all_are_judged) ∙ row_counts (all_findings c)
 
   -- what was gathered is all
-  pub gathered_is_all : (limit : ℕ) (found : List SubjectFinding) → IsGathered limit (flat_map (subject_findings c) (judged_subjects c)) found → IsAllOf c limit found
+  pub gathered_is_all : (limit : ℕ) (found : List SubjectFinding) → IsGathered limit (flat_map (subject_findings c) (judged_subjects c)) found
+      → IsAllOf c limit found
   gathered_is_all limit found is = record {
     all = is.same ∙ sym all_are_judged;
     count = ap (λ rows. length rows) is.same ∙ total;
@@ -52,6 +54,7 @@ module _ (c : Cell) (w : IsWritable c) where
   }
 
   -- what was refused has its cause in the cell
-  pub over_is_refusal : (limit : ℕ) (refusal : FindingRefusal) → IsOver limit (flat_map (subject_findings c) (judged_subjects c)) refusal → IsFindingRefusal c limit refusal
+  pub over_is_refusal : (limit : ℕ) (refusal : FindingRefusal) → IsOver limit (flat_map (subject_findings c) (judged_subjects c)) refusal
+      → IsFindingRefusal c limit refusal
   over_is_refusal limit TooMany is = subst (λ n. limit < n) total is
   over_is_refusal limit NoMemory is = tt

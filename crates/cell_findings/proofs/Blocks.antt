@@ -38,19 +38,23 @@ by_block (Ident l) (Side m) h = absurd (omega (arith, h))
 by_block (Ident l) (Pair a b) h = absurd (omega (arith, h))
 by_block (Ident l) (Ident k) h = absurd (omega (arith, h))
 
-all_behind_one : (s : Subject) (k : ℕ) (ts : List Subject) → block s ≤ k → AllByRecursion (λ t. k < block t) ts → AllByRecursion (λ t. subject_order s t ≡ Less) ts
+all_behind_one : (s : Subject) (k : ℕ) (ts : List Subject) → block s ≤ k → AllByRecursion (λ t. k < block t) ts
+    → AllByRecursion (λ t. subject_order s t ≡ Less) ts
 all_behind_one s k [] low high = tt
 all_behind_one s k (t ∷ ts) low high = (by_block s t (omega (arith, low, high.0)), all_behind_one s k ts low high.1)
 
-pub each_before : (k : ℕ) (ss ts : List Subject) → AllByRecursion (λ s. block s ≤ k) ss → AllByRecursion (λ t. k < block t) ts → AllByRecursion (λ s. AllByRecursion (λ t. subject_order s t ≡ Less) ts) ss
+pub each_before : (k : ℕ) (ss ts : List Subject) → AllByRecursion (λ s. block s ≤ k) ss → AllByRecursion (λ t. k < block t) ts
+    → AllByRecursion (λ s. AllByRecursion (λ t. subject_order s t ≡ Less) ts) ss
 each_before k [] ts low high = tt
 each_before k (s ∷ ss) ts low high = (all_behind_one s k ts low.0 high, each_before k ss ts low.1 high)
 
 -- ---- what isn't in a block
-pub none_mapped : {X : Type 0} (q : Subject) (f : X → Subject) → ((x : X) → is_eq (subject_order q (f x)) ≡ false) → (xs : List X) → holds subject_order q (map f xs) ≡ false
+pub none_mapped : {X : Type 0} (q : Subject) (f : X → Subject) → ((x : X) → is_eq (subject_order q (f x)) ≡ false) → (xs : List X)
+    → holds subject_order q (map f xs) ≡ false
 none_mapped q f h xs = any-map (λ y. is_eq (subject_order q y)) f xs ∙ any_same (λ x. is_eq (subject_order q (f x))) (λ x. false) h xs ∙ never xs
 
-pub no_pairs : (q : Subject) → ((a b : RecName) → is_eq (subject_order q (Pair a b)) ≡ false) → (xs : List RecName) → holds subject_order q (pairs_among xs) ≡ false
+pub no_pairs : (q : Subject) → ((a b : RecName) → is_eq (subject_order q (Pair a b)) ≡ false) → (xs : List RecName)
+    → holds subject_order q (pairs_among xs) ≡ false
 no_pairs q h [] = refl
 no_pairs q h (x ∷ xs) =
     list_any-append (λ y. is_eq (subject_order q y)) (map (Pair x) xs) (pairs_among xs)
@@ -82,13 +86,15 @@ module _ (q : Subject) (first second third fourth : List Subject) where
   abbrev tie : Subject → Bool
   tie y = is_eq (subject_order q y)
 
-  pub in_four : holds subject_order q (first ++ second ++ third ++ fourth) ≡ (((holds subject_order q first || holds subject_order q second) || holds subject_order q third) || holds subject_order q fourth)
+  pub in_four : holds subject_order q (first ++ second ++ third ++ fourth) ≡
+      (((holds subject_order q first || holds subject_order q second) || holds subject_order q third) || holds subject_order q fourth)
   in_four =
       list_any-append tie (first ++ second ++ third) fourth
       ∙ ap (λ b. b || list_any tie fourth) (list_any-append tie (first ++ second) third
       ∙ ap (λ b. b || list_any tie third) (list_any-append tie first second))
 
-  pub in_two_and_two : holds subject_order q ((first ++ second) ++ (third ++ fourth)) ≡ ((holds subject_order q first || holds subject_order q second) || (holds subject_order q third || holds subject_order q fourth))
+  pub in_two_and_two : holds subject_order q ((first ++ second) ++ (third ++ fourth)) ≡
+      ((holds subject_order q first || holds subject_order q second) || (holds subject_order q third || holds subject_order q fourth))
   in_two_and_two =
       list_any-append tie (first ++ second) (third ++ fourth)
       ∙ (λ i. list_any-append tie first second i || list_any-append tie third fourth i)

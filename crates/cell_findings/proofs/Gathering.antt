@@ -1,5 +1,27 @@
 -- Findings gathered step by step: what a step leaves, and what its refusal says of all.
-use Rattle.std.proofs.Common.{◌≡◌, ℕ, ◌+◌, ◌<◌, ◌≤◌, All, List, [], ◌∷◌, ◌++◌, drop, get_or, length, map, append_assoc, length-append, sym, ap, ◌∙◌, subst, arith}
+use Rattle.std.proofs.Common.{
+  ◌≡◌,
+  ℕ,
+  ◌+◌,
+  ◌<◌,
+  ◌≤◌,
+  All,
+  List,
+  [],
+  ◌∷◌,
+  ◌++◌,
+  drop,
+  get_or,
+  length,
+  map,
+  append_assoc,
+  length-append,
+  sym,
+  ap,
+  ◌∙◌,
+  subst,
+  arith,
+}
 use Rattle.std.specs.List.{flat_map}
 use Rattle.std.proofs.lemmas.List.{append-nil, at_drop_more}
 use Rattle.std.proofs.lemmas.List.Concat.{flat_map-append}
@@ -15,7 +37,8 @@ use Rattle.box_tree.specs.declared.leaf.Leaf.{Leaf}
 use Rattle.cell_findings.specs.Near.{near_pairs}
 
 -- a step goes on to the rest
-pub gathered_more : (limit : ℕ) (before row rest all found : List SubjectFinding) → before ++ (row ++ rest) ≡ all → IsGathered limit (before ++ row) found → found ++ rest ≡ all
+pub gathered_more : (limit : ℕ) (before row rest all found : List SubjectFinding) → before ++ (row ++ rest) ≡ all
+    → IsGathered limit (before ++ row) found → found ++ rest ≡ all
 gathered_more limit before row rest all found left is = ap (λ fs. fs ++ rest) is.same ∙ append_assoc before row rest ∙ left
 
 pub gathered_within : (limit : ℕ) (all found : List SubjectFinding) → IsGathered limit all found → length found ≤ limit
@@ -28,7 +51,8 @@ gathered_none limit before row none within =
     record { same = same; within = subst (λ fs. length fs ≤ limit) same within }
 
 -- what is too much for a part is too much for all
-pub over_more : (limit : ℕ) (before row rest all : List SubjectFinding) (refusal : FindingRefusal) → before ++ (row ++ rest) ≡ all → IsOver limit (before ++ row) refusal → IsOver limit all refusal
+pub over_more : (limit : ℕ) (before row rest all : List SubjectFinding) (refusal : FindingRefusal) → before ++ (row ++ rest) ≡ all
+    → IsOver limit (before ++ row) refusal → IsOver limit all refusal
 over_more limit before row rest all TooMany left over =
     let parts = ap (λ fs. length fs) (append_assoc before row rest ∙ left) in
     let sum = length-append (before ++ row) rest in

@@ -1,5 +1,33 @@
 -- The judged subjects of a writable cell are its subjects.
-use Rattle.std.proofs.Common.{◌≡◌, ◌<◌, ◌≤◌, All, Bool, true, false, ◌&&◌, ◌||◌, List, [], ◌∷◌, ◌++◌, map, filter, Option, Some, None, cond, find, get_or, is_some, refl, sym, ap, ◌∙◌, arith}
+use Rattle.std.proofs.Common.{
+  ◌≡◌,
+  ◌<◌,
+  ◌≤◌,
+  All,
+  Bool,
+  true,
+  false,
+  ◌&&◌,
+  ◌||◌,
+  List,
+  [],
+  ◌∷◌,
+  ◌++◌,
+  map,
+  filter,
+  Option,
+  Some,
+  None,
+  cond,
+  find,
+  get_or,
+  is_some,
+  refl,
+  sym,
+  ap,
+  ◌∙◌,
+  arith,
+}
 use Rattle.std.specs.Prelude.{◌==◌, option_and_then}
 use Rattle.std.specs.List.{list_any, flat_map}
 use Rattle.std.specs.List.Sorted.{IsStrictlySortedBy}
@@ -67,7 +95,8 @@ kept true p h = h refl
 kept false p h = refl
 
 -- ---- records by name
-found_by : {X : Type 0} (p : X → Bool) (b : Bool) (x : X) (xs : List X) → is_some (find p xs) ≡ list_any p xs → is_some (cond b (Some x) (find p xs)) ≡ (b || list_any p xs)
+found_by : {X : Type 0} (p : X → Bool) (b : Bool) (x : X) (xs : List X) → is_some (find p xs) ≡ list_any p xs
+    → is_some (cond b (Some x) (find p xs)) ≡ (b || list_any p xs)
 found_by p true x xs h = refl
 found_by p false x xs h = h
 
@@ -76,7 +105,8 @@ found_any p [] = refl
 found_any p (x ∷ xs) = found_by p (p x) x xs (found_any p xs)
 
 has_records : (n : RecName) (rs : List Record) → has n (map name_of rs) ≡ list_any (is_named n) rs
-has_records n rs = any-map (λ m. is_eq (name_order n m)) name_of rs ∙ any_same (λ r. is_eq (name_order n (name_of r))) (is_named n) (λ r. names_tie n (name_of r) ∙ same_from_either (name_of r) n) rs
+has_records n rs = any-map (λ m. is_eq (name_order n m)) name_of rs ∙ any_same (λ r. is_eq (name_order n (name_of r))) (is_named n)
+    (λ r. names_tie n (name_of r) ∙ same_from_either (name_of r) n) rs
 
 some_if : {X : Type 0} (b : Bool) (x : X) → is_some (cond b (Some x) None) ≡ b
 some_if true x = refl
@@ -99,13 +129,15 @@ no_edge Head e = refl
 
 -- a test on names that no name of a feature or of a head passes
 module _ (test : RecName → Bool) (no_feature : (m : RecName) → is_feature_kind m.kind ≡ true → test m ≡ false) (no_head : test head_name ≡ false) where
-  vector_by : (n : RecName) (hit more : Bool) (r : Record) (rest : Option Record) → (hit ≡ true → is_some (vector_of test r) ≡ test n) → is_some (option_and_then (vector_of test) rest) ≡ (test n && more)
+  vector_by : (n : RecName) (hit more : Bool) (r : Record) (rest : Option Record) → (hit ≡ true → is_some (vector_of test r) ≡ test n)
+      → is_some (option_and_then (vector_of test) rest) ≡ (test n && more)
       → is_some (option_and_then (vector_of test) (cond hit (Some r) rest)) ≡ (test n && (hit || more))
   vector_by n true more r rest e h = e refl ∙ and_yes (test n)
   vector_by n false more r rest e h = h
 
   -- a record of such a name is a vector record
-  found_vector : (n : RecName) (rs : List Record) → AreWellNamed rs → is_some (option_and_then (vector_of test) (find (is_named n) rs)) ≡ (test n && list_any (is_named n) rs)
+  found_vector : (n : RecName) (rs : List Record) → AreWellNamed rs → is_some (option_and_then (vector_of test) (find (is_named n) rs)) ≡
+      (test n && list_any (is_named n) rs)
   found_vector n [] w = and_no (test n)
   found_vector n (V v ∷ rs) w =
       vector_by n (is_named n (V v)) (list_any (is_named n) rs) (V v) (find (is_named n) rs)
@@ -123,11 +155,13 @@ module _ (test : RecName → Bool) (no_feature : (m : RecName) → is_feature_ki
   beside_head c n false e w = found_vector n (all_records c) w
 
   -- such a name is that of a vector record where a record of the lists has it
-  pub vector_found : (c : Cell) (n : RecName) → AreWellNamed (all_records c) → is_some (vector_named test c n) ≡ (test n && list_any (is_named n) (all_records c))
+  pub vector_found : (c : Cell) (n : RecName) → AreWellNamed (all_records c)
+      → is_some (vector_named test c n) ≡ (test n && list_any (is_named n) (all_records c))
   vector_found c n w = beside_head c n (is_head_name n) refl w
 
 -- ---- each two of some names
-held_squares : (a b : RecName) (names firsts : List RecName) → holds subject_order (Pair a b) (flat_map (λ f. map (Pair f) names) firsts) ≡ (has a firsts && has b names)
+held_squares : (a b : RecName) (names firsts : List RecName) → holds subject_order (Pair a b) (flat_map (λ f. map (Pair f) names) firsts) ≡
+    (has a firsts && has b names)
 held_squares a b names [] = refl
 held_squares a b names (x ∷ firsts) =
     let tie = λ (y : Subject). is_eq (subject_order (Pair a b) y) in
@@ -187,7 +221,8 @@ module _ (c : Cell) (w : IsWritable c) where
   sides_sorted = mapped_sorted name_order Side (λ a b. refl) edges (IsStrictlySortedBy-filter name_order is_edge_name names names_sorted)
 
   identities_sorted : IsStrictlySortedBy subject_order (map Ident (identities_in c))
-  identities_sorted = mapped_sorted (order_by identity_parts) Ident (λ a b. refl) (identities_in c) (sorted-ascending (order_by identity_parts) total_identities borne)
+  identities_sorted = mapped_sorted (order_by identity_parts) Ident (λ a b. refl) (identities_in c)
+      (sorted-ascending (order_by identity_parts) total_identities borne)
 
   first_two_sorted : IsStrictlySortedBy subject_order (records_and_sides names)
   first_two_sorted =
@@ -205,21 +240,25 @@ module _ (c : Cell) (w : IsWritable c) where
   judged_sorted =
       sorted-append subject_order (records_and_sides names) (part_pairs names ++ map Ident (identities_in c)) first_two_sorted last_two_sorted
       (each_before 1 (records_and_sides names) (part_pairs names ++ map Ident (identities_in c))
-      (all_append (λ s. block s ≤ 1) (map Rec names) (map Side edges) (mapped_all (λ s. block s ≤ 1) Rec (λ n. omega arith) names) (mapped_all (λ s. block s ≤ 1) Side (λ n. omega arith) edges))
-      (all_append (λ s. 1 < block s) (part_pairs names) (map Ident (identities_in c)) (pairs_all (λ s. 1 < block s) (λ a b. omega arith) parts) (mapped_all (λ s. 1 < block s) Ident (λ l. omega arith) (identities_in c))))
+      (all_append (λ s. block s ≤ 1) (map Rec names) (map Side edges) (mapped_all (λ s. block s ≤ 1) Rec (λ n. omega arith) names)
+      (mapped_all (λ s. block s ≤ 1) Side (λ n. omega arith) edges))
+      (all_append (λ s. 1 < block s) (part_pairs names) (map Ident (identities_in c)) (pairs_all (λ s. 1 < block s) (λ a b. omega arith) parts)
+      (mapped_all (λ s. 1 < block s) Ident (λ l. omega arith) (identities_in c))))
 
   -- ---- what is among the judged subjects
   abbrev is_judged : Subject → Bool
   is_judged s = holds subject_order s (judged_subjects c)
 
   in_blocks : (s : Subject) → is_judged s
-      ≡ ((holds subject_order s (map Rec names) || holds subject_order s (map Side edges)) || (holds subject_order s (part_pairs names) || holds subject_order s (map Ident (identities_in c))))
+      ≡ ((holds subject_order s (map Rec names) || holds subject_order s (map Side edges)) ||
+      (holds subject_order s (part_pairs names) || holds subject_order s (map Ident (identities_in c))))
   in_blocks s = in_two_and_two s (map Rec names) (map Side edges) (part_pairs names) (map Ident (identities_in c))
 
   judged_record : (n : RecName) → is_judged (Rec n) ≡ is_subject c (Rec n)
   judged_record n =
       in_blocks (Rec n)
-      ∙ (λ i. ((any-map (λ y. is_eq (subject_order (Rec n) y)) Rec names ∙ has_name n ∙ sym (found_any (is_named n) (all_records c))) i || none_mapped (Rec n) Side (λ m. refl) edges i)
+      ∙ (λ i. ((any-map (λ y. is_eq (subject_order (Rec n) y)) Rec names ∙ has_name n ∙ sym (found_any (is_named n) (all_records c)))
+      i || none_mapped (Rec n) Side (λ m. refl) edges i)
       || (no_pairs (Rec n) (λ a b. refl) parts i || none_mapped (Rec n) Ident (λ l. refl) (identities_in c) i))
       ∙ or_false (is_subject c (Rec n) || false)
       ∙ or_false (is_subject c (Rec n))
@@ -235,7 +274,8 @@ module _ (c : Cell) (w : IsWritable c) where
   judged_pair a b =
       in_blocks (Pair a b)
       ∙ (λ i. (none_mapped (Pair a b) Rec (λ m. refl) names i || none_mapped (Pair a b) Side (λ m. refl) edges i)
-      || ((held_pairs a b parts parts_sorted ∙ (λ j. (is_below a b && has_part a j) && has_part b j)) i || none_mapped (Pair a b) Ident (λ l. refl) (identities_in c) i))
+      || ((held_pairs a b parts parts_sorted ∙ (λ j. (is_below a b && has_part a j) && has_part b j)) i || none_mapped (Pair a b) Ident
+      (λ l. refl) (identities_in c) i))
       ∙ or_false (is_subject c (Pair a b))
 
   judged_identity : (l : Lnam) → is_judged (Ident l) ≡ is_subject c (Ident l)
@@ -243,7 +283,8 @@ module _ (c : Cell) (w : IsWritable c) where
       in_blocks (Ident l)
       ∙ (λ i. (none_mapped (Ident l) Rec (λ m. refl) names i || none_mapped (Ident l) Side (λ m. refl) edges i)
       || (no_pairs (Ident l) (λ a b. refl) parts i
-      || (any-map (λ y. is_eq (subject_order (Ident l) y)) Ident (identities_in c) ∙ holds-ascending (order_by identity_parts) exact_identities l borne ∙ borne_is c l) i))
+      || (any-map (λ y. is_eq (subject_order (Ident l) y)) Ident (identities_in c)
+      ∙ holds-ascending (order_by identity_parts) exact_identities l borne ∙ borne_is c l) i))
 
   judged_is : (s : Subject) → is_judged s ≡ is_subject c s
   judged_is (Rec n) = judged_record n
@@ -269,7 +310,8 @@ module _ (c : Cell) (w : IsWritable c) where
   is_possible s = holds subject_order s (possible_subjects all_names borne)
 
   in_possible : (s : Subject) → is_possible s
-      ≡ (((holds subject_order s (map Rec all_names) || holds subject_order s (map Side all_names)) || holds subject_order s squares) || holds subject_order s (map Ident borne))
+      ≡ (((holds subject_order s (map Rec all_names) || holds subject_order s (map Side all_names)) || holds subject_order s squares)
+      || holds subject_order s (map Ident borne))
   in_possible s = in_four s (map Rec all_names) (map Side all_names) squares (map Ident borne)
 
   part_there : (n : RecName) → is_chain_part c n ≡ true → has n all_names ≡ true
@@ -281,18 +323,25 @@ module _ (c : Cell) (w : IsWritable c) where
   possible : (s : Subject) → is_subject c s ≡ true → is_possible s ≡ true
   possible (Rec n) e =
       in_possible (Rec n)
-      ∙ in_first (among (Rec n) Rec all_names) (among (Rec n) Side all_names) (holds subject_order (Rec n) squares) (among (Rec n) Ident borne) (any-map (λ y. is_eq (subject_order (Rec n) y)) Rec all_names ∙ has_records n (all_records c) ∙ sym (found_any (is_named n) (all_records c)) ∙ e)
+      ∙ in_first (among (Rec n) Rec all_names) (among (Rec n) Side all_names) (holds subject_order (Rec n) squares) (among (Rec n) Ident borne)
+      (any-map (λ y. is_eq (subject_order (Rec n) y)) Rec all_names ∙ has_records n (all_records c)
+      ∙ sym (found_any (is_named n) (all_records c)) ∙ e)
   possible (Side n) e =
       in_possible (Side n)
-      ∙ in_second (among (Side n) Rec all_names) (among (Side n) Side all_names) (holds subject_order (Side n) squares) (among (Side n) Ident borne) (any-map (λ y. is_eq (subject_order (Side n) y)) Side all_names ∙ has_records n (all_records c) ∙ and_right (is_edge_name n) (is_there n) (sym (edge_found n) ∙ e))
+      ∙ in_second (among (Side n) Rec all_names) (among (Side n) Side all_names) (holds subject_order (Side n) squares)
+      (among (Side n) Ident borne) (any-map (λ y. is_eq (subject_order (Side n) y)) Side all_names ∙ has_records n (all_records c)
+      ∙ and_right (is_edge_name n) (is_there n) (sym (edge_found n) ∙ e))
   possible (Pair a b) e =
       let below_and_first = and_left (is_below a b && is_chain_part c a) (is_chain_part c b) e in
       in_possible (Pair a b)
-      ∙ in_third (among (Pair a b) Rec all_names) (among (Pair a b) Side all_names) (holds subject_order (Pair a b) squares) (among (Pair a b) Ident borne) (held_squares a b all_names all_names
-      ∙ (λ i. part_there a (and_right (is_below a b) (is_chain_part c a) below_and_first) i && part_there b (and_right (is_below a b && is_chain_part c a) (is_chain_part c b) e) i))
+      ∙ in_third (among (Pair a b) Rec all_names) (among (Pair a b) Side all_names) (holds subject_order (Pair a b) squares)
+      (among (Pair a b) Ident borne) (held_squares a b all_names all_names
+      ∙ (λ i. part_there a (and_right (is_below a b) (is_chain_part c a) below_and_first) i && part_there b
+      (and_right (is_below a b && is_chain_part c a) (is_chain_part c b) e) i))
   possible (Ident l) e =
       in_possible (Ident l)
-      ∙ in_fourth (among (Ident l) Rec all_names) (among (Ident l) Side all_names) (holds subject_order (Ident l) squares) (among (Ident l) Ident borne) (any-map (λ y. is_eq (subject_order (Ident l) y)) Ident borne ∙ borne_is c l ∙ e)
+      ∙ in_fourth (among (Ident l) Rec all_names) (among (Ident l) Side all_names) (holds subject_order (Ident l) squares)
+      (among (Ident l) Ident borne) (any-map (λ y. is_eq (subject_order (Ident l) y)) Ident borne ∙ borne_is c l ∙ e)
 
   -- ---- the subjects are the judged ones
   held : (q : Subject) → holds subject_order q (subjects c) ≡ is_judged q

@@ -61,14 +61,16 @@ pub pairs_sorted : (xs : List RecName) → IsStrictlySortedBy name_order xs → 
 unfolding IsStrictlySortedBy
 pairs_sorted [] h = tt
 pairs_sorted (x ∷ xs) h =
-    sorted-append subject_order (map (Pair x) xs) (pairs_among xs) (mapped_sorted name_order (Pair x) (pairs_by_second x) xs h.1) (pairs_sorted xs h.1) (each_above x xs xs h.0)
+    sorted-append subject_order (map (Pair x) xs) (pairs_among xs) (mapped_sorted name_order (Pair x) (pairs_by_second x) xs h.1)
+    (pairs_sorted xs h.1) (each_above x xs xs h.0)
 
 pub pairs_all : (P : Subject → Type 0) → ((a b : RecName) → P (Pair a b)) → (xs : List RecName) → AllByRecursion P (pairs_among xs)
 pairs_all P h [] = tt
 pairs_all P h (x ∷ xs) = all_append P (map (Pair x) xs) (pairs_among xs) (mapped_all P (Pair x) (h x) xs) (pairs_all P h xs)
 
 -- ---- which pairs there are
-has_by : (x b y : RecName) (more tie : Bool) → is_eq (name_order b y) ≡ tie → name_order x y ≡ Less → (more ≡ true → name_order x b ≡ Less) → (tie || more) ≡ true → name_order x b ≡ Less
+has_by : (x b y : RecName) (more tie : Bool) → is_eq (name_order b y) ≡ tie → name_order x y ≡ Less → (more ≡ true → name_order x b ≡ Less)
+    → (tie || more) ≡ true → name_order x b ≡ Less
 has_by x b y more true is h k e = subst (λ z. name_order x z ≡ Less) (sym (exact_names b y (tied (name_order b y) is))) h
 has_by x b y more false is h k e = k e
 
@@ -83,7 +85,8 @@ held_first a b x xs =
     ∙ any_and (is_eq (name_order a x)) (λ y. is_eq (name_order b y)) xs
 
 -- the first of the names is a, or b is; others have a, or b; a is below b
-held_by : (is_a is_b has_a has_b below : Bool) → (is_a ≡ true → has_b ≡ true → below ≡ true) → (is_a ≡ true → is_b ≡ true → below ≡ false) → (is_b ≡ true → has_a ≡ true → below ≡ false)
+held_by : (is_a is_b has_a has_b below : Bool) → (is_a ≡ true → has_b ≡ true → below ≡ true) → (is_a ≡ true → is_b ≡ true → below ≡ false)
+    → (is_b ≡ true → has_a ≡ true → below ≡ false)
     → ((is_a && has_b) || ((below && has_a) && has_b)) ≡ ((below && (is_a || has_a)) && (is_b || has_b))
 held_by true true has_a true true f g h = refl
 held_by true false has_a true true f g h = refl
@@ -101,7 +104,8 @@ nothing : (b : Bool) → false ≡ ((b && false) && false)
 nothing true = refl
 nothing false = refl
 
-pub held_pairs : (a b : RecName) (xs : List RecName) → IsStrictlySortedBy name_order xs → holds subject_order (Pair a b) (pairs_among xs) ≡ ((is_below a b && has a xs) && has b xs)
+pub held_pairs : (a b : RecName) (xs : List RecName) → IsStrictlySortedBy name_order xs
+    → holds subject_order (Pair a b) (pairs_among xs) ≡ ((is_below a b && has a xs) && has b xs)
 unfolding IsStrictlySortedBy
 held_pairs a b [] h = nothing (is_below a b)
 held_pairs a b (x ∷ xs) h =

@@ -28,7 +28,8 @@ row_count s (f ∷ fs) = let rest = row_count s fs in omega (arith, rest)
 pub row_counts : (rows : List (Subject × List Finding)) → length (findings_of_rows rows) ≡ total_of rows
 row_counts [] = refl
 row_counts (row ∷ rows) =
-    let joined : length (findings_of_rows (row ∷ rows)) ≡ length (findings_of_row row) + length (findings_of_rows rows) = length-append (findings_of_row row) (findings_of_rows rows) in
+    let joined : length (findings_of_rows (row ∷ rows)) ≡ length (findings_of_row row) + length (findings_of_rows rows) =
+    length-append (findings_of_row row) (findings_of_rows rows) in
     let summed : total_of (row ∷ rows) ≡ length row.1 + total_of rows = sum_by-cons (λ (r : Subject × List Finding). length r.1) row rows in
     let first : length (findings_of_row row) ≡ length row.1 = row_count row.0 row.1 in let rest = row_counts rows in omega (arith, joined, summed, first, rest)
 

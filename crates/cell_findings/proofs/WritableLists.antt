@@ -31,7 +31,8 @@ fit_names : (nall : ℕ) (r : Rec) → unfitness nall r ≡ None → has_good_na
 unfolding unfitness
 fit_names nall r fit = by (has_good_names r) (has_good_texts nall r) (nat_lt length_limit (written_length nall r)) fit
   where
-    by : (names texts long : Bool) → (if not names then Some BadName else (if not texts then Some BadText else (if long then Some TooLong else None))) ≡ None → names ≡ true
+    by : (names texts long : Bool) → (if not names then Some BadName else
+        (if not texts then Some BadText else (if long then Some TooLong else None))) ≡ None → names ≡ true
     by true texts long e = refl
     by false texts long e = absurd cc
 

@@ -1,6 +1,6 @@
 //! The findings of a cell.
 
-ghost use Rattle.std.specs.Prelude.{◌≡◌, ◌<◌, ◌≤◌, ◌++◌, All, IsTrue, MatchResult, length, map};
+ghost use Rattle.std.specs.Prelude.{◌≤◌, ◌++◌, All, IsTrue, MatchResult, length, map};
 ghost use Rattle.std.specs.List.{flat_map};
 ghost use Rattle.std.specs.List.Sorted.{IsStrictlySortedBy};
 ghost use Rattle.cell_spec.specs.Names.{name_order};
@@ -18,11 +18,9 @@ use crate::pairing::push_pairs;
 use crate::refusal::FindingRefusal;
 use crate::single::{push_identities, push_records, push_sides};
 use chain_topo::{ListLook, Steps};
-use look_counter::start_counter;
 use s57_types::{Cell, Lnam, RecName};
 use std::alloc::Global;
-use std::marker::Brand;
-use std::sync::ledger::{Blank, Ledger};
+use std::sync::ledger::Ledger;
 
 /// Appends the findings about records, then those about the sides of the edges among them.
 fn push_records_and_sides<L: Ledger>(
@@ -66,17 +64,14 @@ fn push_pairs_and_identities<L: Ledger>(
     push_identities(alloc, gathered, look, identities, limit, steps)
 }
 
-/// The findings about a cell's judged subjects, its look-ups counted.
+/// The findings about a cell's judged subjects.
 fn gather<L: Ledger>(
     alloc: Global,
     cell: &Cell,
     limit: usize,
-    blank: Blank,
+    steps: &mut Steps<L>,
 ) -> Result<Vec<SubjectFinding>, FindingRefusal>
     requires writable { IsWritable cell.now }
-    requires name { blank.name ≡ L.name }
-    requires parts { blank.parts ≡ L.parts }
-    requires some_part { 0 < L.parts }
     ensures { MatchResult result
         (λ found. IsGathered limit (flat_map (subject_findings cell.now) (judged_subjects cell.now)) found.items)
         (IsOver limit (flat_map (subject_findings cell.now) (judged_subjects cell.now))) }
@@ -85,9 +80,8 @@ fn gather<L: Ledger>(
     let names = names_in(alloc, cell)?;
     let identities = identities_in(alloc, cell)?;
     let names = names.as_slice();
-    let mut steps = start_counter::<L>(blank);
     let mut gathered = Vec::new(alloc);
-    push_records_and_sides(alloc, &mut gathered, &look, names, limit, &mut steps)?;
+    push_records_and_sides(alloc, &mut gathered, &look, names, limit, steps)?;
     push_pairs_and_identities(
         alloc,
         &mut gathered,
@@ -95,7 +89,7 @@ fn gather<L: Ledger>(
         names,
         &identities,
         limit,
-        &mut steps,
+        steps,
     )?;
     Ok(gathered)
 }
@@ -103,10 +97,15 @@ fn gather<L: Ledger>(
 /// All findings of a writable cell about its records, the sides of its edges, each two connected nodes or edges, and the
 /// identifiers of its features, ascending by subject, kind and numbers, where there are at most so many. Counting stops at
 /// the first subject that goes over the limit.
-pub fn find_all(alloc: Global, cell: &Cell, limit: usize) -> Result<Findings, FindingRefusal>
+pub fn find_all<L: Ledger>(
+    alloc: Global,
+    cell: &Cell,
+    limit: usize,
+    steps: &mut Steps<L>,
+) -> Result<Findings, FindingRefusal>
     requires writable { IsWritable cell.now }
     ensures { MatchResult result (IsAllOf cell.now limit) (IsFindingRefusal cell.now limit) }
 {
-    let findings = gather::<Brand>(alloc, cell, limit, Blank::new(1))?;
+    let findings = gather(alloc, cell, limit, steps)?;
     Ok(Findings::of_vec(findings))
 }

@@ -31,7 +31,8 @@ pub(crate) fn push_row(
     row: &Row,
     limit: usize,
 ) -> Result<(), FindingRefusal>
-    ensures { MatchResult result (λ _. IsGathered limit (gathered.old.items ++ map (with_subject row.now.subject) row.now.findings) gathered.new.items) (IsOver limit (gathered.old.items ++ map (with_subject row.now.subject) row.now.findings)) }
+    ensures { MatchResult result (λ _. IsGathered limit (gathered.old.items ++ map (with_subject row.now.subject) row.now.findings)
+        gathered.new.items) (IsOver limit (gathered.old.items ++ map (with_subject row.now.subject) row.now.findings)) }
 {
     push_findings(gathered, row.subject, row.findings.as_slice())?;
     if gathered.len() > limit {

@@ -24,7 +24,8 @@ fn push_record<L: Ledger>(
     limit: usize,
     steps: &mut Steps<L>,
 ) -> Result<(), FindingRefusal>
-    ensures { MatchResult result (λ _. IsGathered limit (gathered.old.items ++ subject_findings look.now (SubjectRec name)) gathered.new.items) (IsOver limit (gathered.old.items ++ subject_findings look.now (SubjectRec name))) }
+    ensures { MatchResult result (λ _. IsGathered limit (gathered.old.items ++ subject_findings look.now (SubjectRec name)) gathered.new.items)
+        (IsOver limit (gathered.old.items ++ subject_findings look.now (SubjectRec name))) }
 {
     let row = verdict_rec(alloc, look, name, steps)?;
     push_row(gathered, &row, limit)
@@ -40,7 +41,8 @@ pub(crate) fn push_records<L: Ledger>(
     steps: &mut Steps<L>,
 ) -> Result<(), FindingRefusal>
     requires { length gathered.old.items ≤ limit }
-    ensures { MatchResult result (λ _. IsGathered limit (gathered.old.items ++ flat_map (subject_findings look.now) (map SubjectRec names.now)) gathered.new.items) (IsOver limit (gathered.old.items ++ flat_map (subject_findings look.now) (map SubjectRec names.now))) }
+    ensures { MatchResult result (λ _. IsGathered limit (gathered.old.items ++ flat_map (subject_findings look.now) (map SubjectRec names.now))
+        gathered.new.items) (IsOver limit (gathered.old.items ++ flat_map (subject_findings look.now) (map SubjectRec names.now))) }
 {
     for name in names {
         push_record(alloc, gathered, look, *name, limit, steps)?;
@@ -56,7 +58,8 @@ fn push_side<L: Ledger>(
     limit: usize,
     steps: &mut Steps<L>,
 ) -> Result<(), FindingRefusal>
-    ensures { MatchResult result (λ _. IsGathered limit (gathered.old.items ++ subject_findings look.now (SubjectSide edge)) gathered.new.items) (IsOver limit (gathered.old.items ++ subject_findings look.now (SubjectSide edge))) }
+    ensures { MatchResult result (λ _. IsGathered limit (gathered.old.items ++ subject_findings look.now (SubjectSide edge)) gathered.new.items)
+        (IsOver limit (gathered.old.items ++ subject_findings look.now (SubjectSide edge))) }
 {
     let row = verdict_side(alloc, look, edge, steps)?;
     push_row(gathered, &row, limit)
@@ -72,7 +75,8 @@ pub(crate) fn push_sides<L: Ledger>(
     steps: &mut Steps<L>,
 ) -> Result<(), FindingRefusal>
     requires { length gathered.old.items ≤ limit }
-    ensures { MatchResult result (λ _. IsGathered limit (gathered.old.items ++ flat_map (subject_findings look.now) (map SubjectSide edges.now)) gathered.new.items) (IsOver limit (gathered.old.items ++ flat_map (subject_findings look.now) (map SubjectSide edges.now))) }
+    ensures { MatchResult result (λ _. IsGathered limit (gathered.old.items ++ flat_map (subject_findings look.now) (map SubjectSide edges.now))
+        gathered.new.items) (IsOver limit (gathered.old.items ++ flat_map (subject_findings look.now) (map SubjectSide edges.now))) }
 {
     for edge in edges {
         push_side(alloc, gathered, look, *edge, limit, steps)?;
@@ -88,7 +92,8 @@ fn push_identity<L: Ledger>(
     limit: usize,
     steps: &mut Steps<L>,
 ) -> Result<(), FindingRefusal>
-    ensures { MatchResult result (λ _. IsGathered limit (gathered.old.items ++ subject_findings look.now (SubjectIdent identity)) gathered.new.items) (IsOver limit (gathered.old.items ++ subject_findings look.now (SubjectIdent identity))) }
+    ensures { MatchResult result (λ _. IsGathered limit (gathered.old.items ++ subject_findings look.now (SubjectIdent identity))
+        gathered.new.items) (IsOver limit (gathered.old.items ++ subject_findings look.now (SubjectIdent identity))) }
 {
     let row = verdict_ident(alloc, look, identity, steps)?;
     push_row(gathered, &row, limit)
@@ -104,7 +109,9 @@ pub(crate) fn push_identities<L: Ledger>(
     steps: &mut Steps<L>,
 ) -> Result<(), FindingRefusal>
     requires { length gathered.old.items ≤ limit }
-    ensures { MatchResult result (λ _. IsGathered limit (gathered.old.items ++ flat_map (subject_findings look.now) (map SubjectIdent identities.now)) gathered.new.items) (IsOver limit (gathered.old.items ++ flat_map (subject_findings look.now) (map SubjectIdent identities.now))) }
+    ensures { MatchResult result (λ _. IsGathered limit (gathered.old.items ++ flat_map (subject_findings look.now)
+        (map SubjectIdent identities.now)) gathered.new.items)
+        (IsOver limit (gathered.old.items ++ flat_map (subject_findings look.now) (map SubjectIdent identities.now))) }
 {
     for identity in identities {
         push_identity(alloc, gathered, look, *identity, limit, steps)?;

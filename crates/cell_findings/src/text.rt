@@ -129,7 +129,8 @@ fn push_total(out: &mut Vec<u8>, total: usize) -> Result<(), AllocError>
 ///
 /// An `Err` means out of memory, and leaves the text as it was.
 pub fn push_cell(out: &mut Vec<u8>, cell: &Cell, findings: &Findings) -> Result<(), AllocError>
-    ensures ok { (rows : List (SpecSubject × List SpecFinding)) → findings.now ≡ findings_of_rows rows → OnOk result (out.new.items ≡ out.old.items ++ text_with cell.now rows) }
+    ensures ok { (rows : List (SpecSubject × List SpecFinding)) → findings.now ≡ findings_of_rows rows
+        → OnOk result (out.new.items ≡ out.old.items ++ text_with cell.now rows) }
     ensures err { OnErr result (out.new.items ≡ out.old.items) }
 {
     let mut part = Vec::new(*out.allocator());
@@ -139,7 +140,8 @@ pub fn push_cell(out: &mut Vec<u8>, cell: &Cell, findings: &Findings) -> Result<
 
 /// Appends the same, and after an `Err` perhaps a beginning of it.
 fn push_part(out: &mut Vec<u8>, cell: &Cell, findings: &Findings) -> Result<(), AllocError>
-    ensures { (rows : List (SpecSubject × List SpecFinding)) → findings.now ≡ findings_of_rows rows → OnOk result (out.new.items ≡ out.old.items ++ text_with cell.now rows) }
+    ensures { (rows : List (SpecSubject × List SpecFinding)) → findings.now ≡ findings_of_rows rows
+        → OnOk result (out.new.items ≡ out.old.items ++ text_with cell.now rows) }
 {
     push_counts(out, cell)?;
     push_total(out, findings.len())?;

@@ -21,7 +21,8 @@ names_from kind a n = map (name kind) (range_with_len a n)
 pub names_join : (kind : Kind) (a m n : ℕ) → names_from kind a (m + n) ≡ names_from kind a m ++ names_from kind (a + m) n
 names_join kind a m n = ap (map (name kind)) (range_join a m n) ∙ map-append (name kind) (range_with_len a m) (range_with_len (a + m) n)
 
-module _ (item : ℕ → ℕ → Rec) (kind : Kind) (a columns : ℕ) (named : (row column : ℕ) → name_of (item row column) ≡ name kind (a + (row * columns + column))) where
+module _ (item : ℕ → ℕ → Rec) (kind : Kind) (a columns : ℕ) (named : (row column : ℕ)
+    → name_of (item row column) ≡ name kind (a + (row * columns + column))) where
   in_row : (row j m : ℕ) → map name_of (map (item row) (range_with_len j m)) ≡ names_from kind (a + (row * columns + j)) m
   in_row row j zero = refl
   in_row row j (suc m) =
@@ -35,7 +36,8 @@ module _ (item : ℕ → ℕ → Rec) (kind : Kind) (a columns : ℕ) (named : (
       let next : a + (row + 1) * columns ≡ a + row * columns + columns = omega arith in
       let count : columns + rows * columns ≡ suc rows * columns = omega arith in
       map-append name_of (row_of item columns row) (flat_map (row_of item columns) (range_with_len (row + 1) rows))
-      ∙ (λ i. (in_row row 0 columns ∙ ap (λ b. names_from kind b columns) start) i ++ (from_row (row + 1) rows ∙ ap (λ b. names_from kind b (rows * columns)) next) i)
+      ∙ (λ i. (in_row row 0 columns ∙ ap (λ b. names_from kind b columns) start) i
+      ++ (from_row (row + 1) rows ∙ ap (λ b. names_from kind b (rows * columns)) next) i)
       ∙ sym (names_join kind (a + row * columns) columns (rows * columns))
       ∙ ap (names_from kind (a + row * columns)) count
 
@@ -51,7 +53,8 @@ edge_names n =
     let start : 1 + n * (n + 1) ≡ 1 + (n + 1) * n = omega arith in
     map-append name_of (each_place (east_edge n) (n + 1) n) (each_place (north_edge n) n (n + 1))
     ∙ (λ i. at_each_place (east_edge n) Ve 1 n (λ row column. ap (name Ve) (omega arith)) (n + 1) i
-    ++ (at_each_place (north_edge n) Ve (1 + n * (n + 1)) (n + 1) (λ row column. ap (name Ve) (omega arith)) n ∙ ap (λ b. names_from Ve b (n * (n + 1))) start) i)
+    ++ (at_each_place (north_edge n) Ve (1 + n * (n + 1)) (n + 1) (λ row column. ap (name Ve) (omega arith)) n
+    ∙ ap (λ b. names_from Ve b (n * (n + 1))) start) i)
     ∙ sym (names_join Ve 1 ((n + 1) * n) (n * (n + 1)))
     ∙ ap (names_from Ve 1) count
 
@@ -69,9 +72,13 @@ and_false false q e = refl
 
 later : (kind : Kind) (x b n : ℕ) → x < b → AllByRecursion (λ m. same_name (name kind x) m ≡ false) (names_from kind b n)
 later kind x b zero below = tt
-later kind x b (suc n) below = (and_false (kind_rank kind == kind_rank kind) (x == b) (ne_eqb x b (λ e. absurd (omega (arith, e, below)))), later kind x (b + 1) n (omega (arith, below)))
+later kind x b (suc n) below = (
+  and_false (kind_rank kind == kind_rank kind) (x == b) (ne_eqb x b (λ e. absurd (omega (arith, e, below)))),
+  later kind x (b + 1) n (omega (arith, below)),
+)
 
-apart : (kind other : Kind) → (kind_rank kind == kind_rank other) ≡ false → (x b n : ℕ) → AllByRecursion (λ m. same_name (name kind x) m ≡ false) (names_from other b n)
+apart : (kind other : Kind) → (kind_rank kind == kind_rank other) ≡ false → (x b n : ℕ)
+    → AllByRecursion (λ m. same_name (name kind x) m ≡ false) (names_from other b n)
 apart kind other differ x b zero = tt
 apart kind other differ x b (suc n) = (ap (λ r. r && (x == b)) differ, apart kind other differ x (b + 1) n)
 

@@ -17,11 +17,14 @@ range_join a (suc m) n =
     ap (range_with_len a) one ∙ ap (λ xs. a ∷ xs) (range_join (a + 1) m n ∙ ap (λ b. range_with_len (a + 1) m ++ range_with_len b n) start)
 
 -- one more item in a row
-pub row_more : {X : Type 0} (f : ℕ → X) (before : List X) (k : ℕ) → before ++ map f (range_with_len 0 (k + 1)) ≡ (before ++ map f (range_with_len 0 k)) ++ f k ∷ []
-row_more f before k = ap (λ xs. before ++ xs) (map-range_with_len_more f 0 k k (omega arith)) ∙ sym (append_assoc before (map f (range_with_len 0 k)) (f k ∷ []))
+pub row_more : {X : Type 0} (f : ℕ → X) (before : List X) (k : ℕ) → before ++ map f (range_with_len 0 (k + 1)) ≡
+    (before ++ map f (range_with_len 0 k)) ++ f k ∷ []
+row_more f before k = ap (λ xs. before ++ xs) (map-range_with_len_more f 0 k k (omega arith))
+    ∙ sym (append_assoc before (map f (range_with_len 0 k)) (f k ∷ []))
 
 -- one more row
-pub rows_more : {X : Type 0} (f : ℕ → List X) (before : List X) (k : ℕ) → before ++ flat_map f (range_with_len 0 (k + 1)) ≡ (before ++ flat_map f (range_with_len 0 k)) ++ f k
+pub rows_more : {X : Type 0} (f : ℕ → List X) (before : List X) (k : ℕ) → before ++ flat_map f (range_with_len 0 (k + 1)) ≡
+    (before ++ flat_map f (range_with_len 0 k)) ++ f k
 rows_more f before k =
     let start : 0 + k ≡ k = omega arith in
     ap (λ xs. before ++ xs)

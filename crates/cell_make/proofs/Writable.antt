@@ -1,5 +1,32 @@
 -- The generated cell can be written.
-use Rattle.std.proofs.Common.{◌≡◌, ℕ, zero, suc, ◌+◌, ◌*◌, ◌<◌, ◌≤◌, Bool, true, false, [], ◌++◌, length, map, refl, sym, ap, ◌∙◌, subst, append_assoc, append-nil, inl, inr, arith, ◌&&◌}
+use Rattle.std.proofs.Common.{
+  ◌≡◌,
+  ℕ,
+  zero,
+  suc,
+  ◌+◌,
+  ◌*◌,
+  ◌<◌,
+  ◌≤◌,
+  Bool,
+  true,
+  false,
+  [],
+  ◌++◌,
+  length,
+  map,
+  refl,
+  sym,
+  ap,
+  ◌∙◌,
+  subst,
+  append_assoc,
+  append-nil,
+  inl,
+  inr,
+  arith,
+  ◌&&◌,
+}
 use Rattle.std.specs.Prelude.{All, None, Some, Option, is_none}
 use Rattle.std.specs.List.{flat_map, range_with_len, list_all, IsDistinct}
 use Rattle.std.proofs.Math.Nat.{eq-or-lt_of_le, mul-le-mul}
@@ -17,7 +44,17 @@ use Rattle.cell_spec.specs.Names.{same_name}
 use Rattle.cell_spec.specs.Writable.{AreFit, IsWritable}
 use Rattle.file_samples.specs.Parts.{name}
 use Rattle.cell_make.specs.Squares.{row_of, each_place}
-use Rattle.cell_make.specs.GeneratedCell.{node_at, east_edge, north_edge, depth_area, coverage_area, generated_nodes, generated_edges, generated_areas, generated_cell}
+use Rattle.cell_make.specs.GeneratedCell.{
+  node_at,
+  east_edge,
+  north_edge,
+  depth_area,
+  coverage_area,
+  generated_nodes,
+  generated_edges,
+  generated_areas,
+  generated_cell,
+}
 use Rattle.cell_make.proofs.Numbers.{names_from, node_names, edge_names, area_names, all_distinct}
 
 module _ (P : Rec → Type 0) (item : ℕ → ℕ → Rec) (each : (row column : ℕ) → P (item row column)) where
@@ -28,7 +65,8 @@ module _ (P : Rec → Type 0) (item : ℕ → ℕ → Rec) (each : (row column :
   all_from_row : (columns row rows : ℕ) → All P (flat_map (row_of item columns) (range_with_len row rows))
   all_from_row columns row zero = All-nil P
   all_from_row columns row (suc rows) =
-      All-append P (row_of item columns row) (flat_map (row_of item columns) (range_with_len (row + 1) rows)) (all_in_row row 0 columns) (all_from_row columns (row + 1) rows)
+      All-append P (row_of item columns row) (flat_map (row_of item columns) (range_with_len (row + 1) rows)) (all_in_row row 0 columns)
+      (all_from_row columns (row + 1) rows)
 
   pub all_places : (rows columns : ℕ) → All P (each_place item rows columns)
   all_places rows columns = all_from_row columns 0 rows
@@ -92,7 +130,8 @@ fit n low high =
     (All-append Fits _ _ (all_places Fits (depth_area n) (area_fits n) n n) (All-cons Fits _ [] (coverage_fits n low high) (All-nil Fits)))
 
 -- ---- names
-all_names : (n : ℕ) → map name_of (all_records (generated_cell n)) ≡ names_from Vc 1 ((n + 1) * (n + 1)) ++ (names_from Ve 1 (2 * (n * (n + 1))) ++ (names_from Fe 1 (n * n + 1) ++ []))
+all_names : (n : ℕ) → map name_of (all_records (generated_cell n)) ≡ names_from Vc 1 ((n + 1) * (n + 1))
+    ++ (names_from Ve 1 (2 * (n * (n + 1))) ++ (names_from Fe 1 (n * n + 1) ++ []))
 unfolding generated_cell
 all_names n =
     let nodes = generated_nodes n in
@@ -121,10 +160,13 @@ generated_writable n low high = record {
   head_fits = refl;
   isolated_nodes = All-nil (IsOf Vi);
   connected_nodes = all_places (IsOf Vc) (node_at n) (λ row column. refl) (n + 1) (n + 1);
-  edges = All-append (IsOf Ve) _ _ (all_places (IsOf Ve) (east_edge n) (λ row column. refl) (n + 1) n) (all_places (IsOf Ve) (north_edge n) (λ row column. refl) n (n + 1));
-  features = All-append (IsOf Fe) _ _ (all_places (IsOf Fe) (depth_area n) (λ row column. refl) n n) (All-cons (IsOf Fe) (coverage_area n) [] refl (All-nil (IsOf Fe)));
+  edges = All-append (IsOf Ve) _ _ (all_places (IsOf Ve) (east_edge n) (λ row column. refl) (n + 1) n)
+      (all_places (IsOf Ve) (north_edge n) (λ row column. refl) n (n + 1));
+  features = All-append (IsOf Fe) _ _ (all_places (IsOf Fe) (depth_area n) (λ row column. refl) n n)
+      (All-cons (IsOf Fe) (coverage_area n) [] refl (All-nil (IsOf Fe)));
   records_fit = fit n low high;
   names_distinct = subst (IsDistinct same_name) (sym (all_names n)) (all_distinct ((n + 1) * (n + 1)) (2 * (n * (n + 1))) (n * n + 1));
-  not_too_many = let count = sym (length-map (all_records (generated_cell n)) name_of) ∙ ap length (all_names n) ∙ count_names ((n + 1) * (n + 1)) (2 * (n * (n + 1))) (n * n + 1) in
+  not_too_many = let count = sym (length-map (all_records (generated_cell n)) name_of) ∙ ap length (all_names n)
+      ∙ count_names ((n + 1) * (n + 1)) (2 * (n * (n + 1))) (n * n + 1) in
       omega (arith, count, few n high);
 }

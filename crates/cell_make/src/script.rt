@@ -1,7 +1,8 @@
 //! The generated scripts.
 
 ghost use Rattle.std.specs.Prelude.{◌≡◌, ◌+◌, ◌*◌, ◌≤◌, ◌<◌, ◌++◌, IfOk, OnOk, pos};
-ghost use Rattle.cell_make.specs.GeneratedScripts.{choice as choice_of, generated_edit, generated_round, generated_script, generated_scripts, moved_node as moved_node_of};
+ghost use Rattle.cell_make.specs.GeneratedScripts.{choice as choice_of, generated_edit, generated_round, generated_script, generated_scripts};
+ghost use Rattle.cell_make.specs.GeneratedScripts.{moved_node as moved_node_of};
 
 use crate::record::SIDE;
 use cell_spec::Edit;

@@ -1,5 +1,30 @@
 -- What merged lists answer, and how they are made.
-use Rattle.std.proofs.Common.{◌≡◌, ◌+◌, ◌<◌, ◌≤◌, Bool, true, false, ◌||◌, List, [], ◌∷◌, ◌++◌, Option, None, Some, cond, count_by, filter, length, refl, sym, ap, ◌∙◌, arith}
+use Rattle.std.proofs.Common.{
+  ◌≡◌,
+  ◌+◌,
+  ◌<◌,
+  ◌≤◌,
+  Bool,
+  true,
+  false,
+  ◌||◌,
+  List,
+  [],
+  ◌∷◌,
+  ◌++◌,
+  Option,
+  None,
+  Some,
+  cond,
+  count_by,
+  filter,
+  length,
+  refl,
+  sym,
+  ap,
+  ◌∙◌,
+  arith,
+}
 use Rattle.std.specs.Cmp.{Equal-is, tied_itself}
 use Rattle.std.specs.Prelude.{flat_map}
 use Rattle.std.specs.List.{list_any}
@@ -32,13 +57,15 @@ use Rattle.edit_answers.specs.Named.{EditsLeaveTheirRecords, answered_by}
 use Rattle.cell_overlay.specs.Laid.{AreMerged, IsLaidOver, has_a_list, head_left, left_under}
 
 -- ---- making them
-put_by : {X : Type 0} (hit old : Bool) (v w : X) → (hit ≡ true → v ≡ w) → cond hit (Some v) (cond old (Some w) None) ≡ cond (old || (hit || false)) (Some w) None
+put_by : {X : Type 0} (hit old : Bool) (v w : X) → (hit ≡ true → v ≡ w) → cond hit (Some v) (cond old (Some w) None) ≡ cond
+    (old || (hit || false)) (Some w) None
 put_by true true v w same = ap Some (same refl)
 put_by true false v w same = ap Some (same refl)
 put_by false true v w same = refl
 put_by false false v w same = refl
 
-module _ (edits : List Edit) (c : Cell) (keys : List Key) (pointers : List (RecName × List Ref)) (bearers : List (Lnam × List RecName)) (merged : AreMerged keys edits c pointers bearers) where
+module _ (edits : List Edit) (c : Cell) (keys : List Key) (pointers : List (RecName × List Ref)) (bearers : List (Lnam × List RecName))
+    (merged : AreMerged keys edits c pointers bearers) where
   -- a name's record needs no list
   pub with_name : (n : RecName) → AreMerged (keys ++ Name n ∷ []) edits c pointers bearers
   with_name n = record {
@@ -48,7 +75,8 @@ module _ (edits : List Edit) (c : Cell) (keys : List Key) (pointers : List (RecN
         (or_none (list_any (same_key (Foid l)) keys) ∙ sym (list_any-append (same_key (Foid l)) keys (Name n ∷ [])));
   }
 
-  pub with_pointers : (n : RecName) → AreMerged (keys ++ Refs n ∷ []) edits c (with_row name_order pointers n (pointers_after edits n (lookup_pointers c n))) bearers
+  pub with_pointers : (n : RecName) → AreMerged (keys ++ Refs n ∷ []) edits c
+      (with_row name_order pointers n (pointers_after edits n (lookup_pointers c n))) bearers
   with_pointers n = record {
     pointers_are = λ m.
         let after : RecName → List Ref = λ k. pointers_after edits k (lookup_pointers c k) in
@@ -62,7 +90,8 @@ module _ (edits : List Edit) (c : Cell) (keys : List Key) (pointers : List (RecN
         (or_none (list_any (same_key (Foid l)) keys) ∙ sym (list_any-append (same_key (Foid l)) keys (Refs n ∷ [])));
   }
 
-  pub with_bearers : (l : Lnam) → AreMerged (keys ++ Foid l ∷ []) edits c pointers (with_row identity_order bearers l (bearers_after edits l (lookup_identity c l)))
+  pub with_bearers : (l : Lnam) → AreMerged (keys ++ Foid l ∷ []) edits c pointers
+      (with_row identity_order bearers l (bearers_after edits l (lookup_identity c l)))
   with_bearers l = record {
     pointers_are = λ m. merged.pointers_are m ∙ ap (λ hit. cond hit (Some (pointers_after edits m (lookup_pointers c m))) None)
         (or_none (list_any (same_key (Refs m)) keys) ∙ sym (list_any-append (same_key (Refs m)) keys (Foid l ∷ [])));
@@ -72,7 +101,8 @@ module _ (edits : List Edit) (c : Cell) (keys : List Key) (pointers : List (RecN
         value_of-with_row identity_order total_identities bearers l k (after l)
         ∙ ap (λ b. cond b (Some (after l)) (value_of identity_order bearers k)) (identities_flip l k)
         ∙ ap (λ o. cond hit (Some (after l)) o) (merged.bearers_are k)
-        ∙ put_by hit (list_any (same_key (Foid k)) keys) (after l) (after k) (λ same. ap after (sym (exact_identities k l ((Equal-is (identity_order k l)).0 same))))
+        ∙ put_by hit (list_any (same_key (Foid k)) keys) (after l) (after k)
+        (λ same. ap after (sym (exact_identities k l ((Equal-is (identity_order k l)).0 same))))
         ∙ ap (λ b. cond b (Some (after k)) None) (sym (list_any-append (same_key (Foid k)) keys (Foid l ∷ [])));
   }
 
@@ -100,7 +130,8 @@ fewer_lists (edit ∷ edits) c some =
     omega (arith, less, length-filter has_a_list keys)
 
 -- ---- what they answer
-module _ (c : Cell) (edits : List Edit) (head : Option Rec) (pointers : List (RecName × List Ref)) (bearers : List (Lnam × List RecName)) (laid : IsLaidOver c edits head pointers bearers) where
+module _ (c : Cell) (edits : List Edit) (head : Option Rec) (pointers : List (RecName × List Ref)) (bearers : List (Lnam × List RecName))
+    (laid : IsLaidOver c edits head pointers bearers) where
   merged_by : {X : Type 0} (flag : Bool) (x before after : X) → Some x ≡ cond flag (Some before) None → before ≡ after → x ≡ after
   merged_by true x before after is same = same_Some x before is ∙ same
   merged_by false x before after is same = absurd (none-some x (sym is))
@@ -109,22 +140,28 @@ module _ (c : Cell) (edits : List Edit) (head : Option Rec) (pointers : List (Re
   base_by true x is = absurd (none-some x is)
   base_by false x is = refl
 
-  pub merged_pointers : EditedAnswers → (n : RecName) (refs : List Ref) → Some refs ≡ value_of name_order pointers n → refs ≡ lookup_pointers (apply_edits edits c) n
+  pub merged_pointers : EditedAnswers → (n : RecName) (refs : List Ref) → Some refs ≡ value_of name_order pointers n
+      → refs ≡ lookup_pointers (apply_edits edits c) n
   merged_pointers answers n refs is =
-      merged_by (list_any (same_key (Refs n)) (touched_keys edits c)) refs (pointers_after edits n (lookup_pointers c n)) (lookup_pointers (apply_edits edits c) n)
+      merged_by (list_any (same_key (Refs n)) (touched_keys edits c)) refs (pointers_after edits n (lookup_pointers c n))
+      (lookup_pointers (apply_edits edits c) n)
       (is ∙ laid.merged.pointers_are n) (sym ((answers edits c laid.found).pointers n))
 
-  pub base_pointers : UntouchedKeysKeepAnswers → (n : RecName) → None ≡ value_of name_order pointers n → lookup_pointers c n ≡ lookup_pointers (apply_edits edits c) n
+  pub base_pointers : UntouchedKeysKeepAnswers → (n : RecName) → None ≡ value_of name_order pointers n
+      → lookup_pointers c n ≡ lookup_pointers (apply_edits edits c) n
   base_pointers untouched n is =
       untouched edits c laid.found (Refs n)
       (base_by (list_any (same_key (Refs n)) (touched_keys edits c)) (pointers_after edits n (lookup_pointers c n)) (is ∙ laid.merged.pointers_are n))
 
-  pub merged_bearers : EditedAnswers → (l : Lnam) (names : List RecName) → Some names ≡ value_of identity_order bearers l → names ≡ lookup_identity (apply_edits edits c) l
+  pub merged_bearers : EditedAnswers → (l : Lnam) (names : List RecName) → Some names ≡ value_of identity_order bearers l
+      → names ≡ lookup_identity (apply_edits edits c) l
   merged_bearers answers l names is =
-      merged_by (list_any (same_key (Foid l)) (touched_keys edits c)) names (bearers_after edits l (lookup_identity c l)) (lookup_identity (apply_edits edits c) l)
+      merged_by (list_any (same_key (Foid l)) (touched_keys edits c)) names (bearers_after edits l (lookup_identity c l))
+      (lookup_identity (apply_edits edits c) l)
       (is ∙ laid.merged.bearers_are l) (sym ((answers edits c laid.found).identities l))
 
-  pub base_bearers : UntouchedKeysKeepAnswers → (l : Lnam) → None ≡ value_of identity_order bearers l → lookup_identity c l ≡ lookup_identity (apply_edits edits c) l
+  pub base_bearers : UntouchedKeysKeepAnswers → (l : Lnam) → None ≡ value_of identity_order bearers l
+      → lookup_identity c l ≡ lookup_identity (apply_edits edits c) l
   base_bearers untouched l is =
       untouched edits c laid.found (Foid l)
       (base_by (list_any (same_key (Foid l)) (touched_keys edits c)) (bearers_after edits l (lookup_identity c l)) (is ∙ laid.merged.bearers_are l))

@@ -50,12 +50,14 @@ abbrev pub bearers_under : List Key → List Edit → Cell → Lnam → Option (
 bearers_under keys edits c l = if list_any (same_key (Foid l)) keys then Some (bearers_after edits l (lookup_identity c l)) else None
 
 -- merged lists for these keys, and no others
-pub record AreMerged (keys : List Key) (edits : List Edit) (c : Cell) (pointers : List (RecName × List Ref)) (bearers : List (Lnam × List RecName)) : Type 0 where
+pub record AreMerged (keys : List Key) (edits : List Edit) (c : Cell) (pointers : List (RecName × List Ref))
+    (bearers : List (Lnam × List RecName)) : Type 0 where
   pub pointers_are : (n : RecName) → value_of name_order pointers n ≡ pointers_under keys edits c n
   pub bearers_are : (l : Lnam) → value_of identity_order bearers l ≡ bearers_under keys edits c l
 
 -- edits that find their records, the edited head if there is one, and merged lists for the keys that the edits touch
-pub record IsLaidOver (c : Cell) (edits : List Edit) (head : Option Rec) (pointers : List (RecName × List Ref)) (bearers : List (Lnam × List RecName)) : Type 0 where
+pub record IsLaidOver (c : Cell) (edits : List Edit) (head : Option Rec) (pointers : List (RecName × List Ref))
+    (bearers : List (Lnam × List RecName)) : Type 0 where
   pub readable : IsReadable (apply_edits edits c)
   pub found : FindTheirRecords edits c
   pub head_is : head ≡ head_left c.head (edit_of head_name edits)

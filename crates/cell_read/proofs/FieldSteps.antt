@@ -1,5 +1,34 @@
 -- The fault of the fields of a record from a place on.
-use Rattle.std.proofs.Common.{◌≡◌, ℕ, ◌+◌, ◌≤◌, ◌&&◌, ◌||◌, Bool, true, false, cond, not, List, [], ◌∷◌, ◌++◌, length, take, drop, Option, Some, None, Result, Ok, Err, refl, sym, ap, ◌∙◌}
+use Rattle.std.proofs.Common.{
+  ◌≡◌,
+  ℕ,
+  ◌+◌,
+  ◌≤◌,
+  ◌&&◌,
+  ◌||◌,
+  Bool,
+  true,
+  false,
+  cond,
+  not,
+  List,
+  [],
+  ◌∷◌,
+  ◌++◌,
+  length,
+  take,
+  drop,
+  Option,
+  Some,
+  None,
+  Result,
+  Ok,
+  Err,
+  refl,
+  sym,
+  ap,
+  ◌∙◌,
+}
 use Rattle.std.specs.Prelude.{slice_get, find, nat_eq, OnOk, IfErr}
 use Rattle.std.specs.Cmp.Lexicographic.{pointwise}
 use Rattle.std.specs.List.{list_any}
@@ -36,10 +65,12 @@ take_at xs k x is =
 pub find_here : {X : Type 0} (p : X → Bool) (xs : List X) (k : ℕ) (x : X) → slice_get xs k ≡ Some x → p x ≡ true → find p (drop k xs) ≡ Some x
 find_here p xs k x is holds = ap (find p) (drop_at xs k x is) ∙ ap (λ b. cond b (Some x) (find p (drop (k + 1) xs))) holds
 
-pub find_later : {X : Type 0} (p : X → Bool) (xs : List X) (k : ℕ) (x : X) → slice_get xs k ≡ Some x → p x ≡ false → find p (drop k xs) ≡ find p (drop (k + 1) xs)
+pub find_later : {X : Type 0} (p : X → Bool) (xs : List X) (k : ℕ) (x : X) → slice_get xs k ≡ Some x → p x ≡ false
+    → find p (drop k xs) ≡ find p (drop (k + 1) xs)
 find_later p xs k x is fails = ap (find p) (drop_at xs k x is) ∙ ap (λ b. cond b (Some x) (find p (drop (k + 1) xs))) fails
 
-pub any_more : {X : Type 0} (p : X → Bool) (xs : List X) (k : ℕ) (x : X) → slice_get xs k ≡ Some x → list_any p (take (k + 1) xs) ≡ (list_any p (take k xs) || p x)
+pub any_more : {X : Type 0} (p : X → Bool) (xs : List X) (k : ℕ) (x : X) → slice_get xs k ≡ Some x
+    → list_any p (take (k + 1) xs) ≡ (list_any p (take k xs) || p x)
 any_more p xs k x is = ap (list_any p) (take_at xs k x is) ∙ list_any-append p (take k xs) (x ∷ []) ∙ ap (λ b. list_any p (take k xs) || b) (or-false (p x))
 
 -- what was found passes the test
@@ -68,21 +99,25 @@ pub tag_is : (type : RecordType) (f : Field) (tag : FieldTag) → tag_in type f 
 tag_is type f tag is = same_text f.tag (tag_text tag) (find_holds (λ t. is_tagged t f) (tags_of type) tag is)
 
 -- the type of a record by the field that leads it
-pub type_by_leading : (fields : List Field) (name : List ℕ) (kind : Option RecordType) → option_map (λ (f : Field). f.tag) (find (λ field. not (is_tagged tags.RecordNumber field)) fields) ≡ Some name
+pub type_by_leading : (fields : List Field) (name : List ℕ) (kind : Option RecordType)
+    → option_map (λ (f : Field). f.tag) (find (λ field. not (is_tagged tags.RecordNumber field)) fields) ≡ Some name
     → ((bytes : List ℕ) → kind ≡ type_of_leading (record { tag = name; bytes = bytes })) → record_type fields ≡ ok_or kind ForeignTag
 type_by_leading fields name kind leads is = by (find (λ field. not (is_tagged tags.RecordNumber field)) fields) refl leads
   where
-    by : (found : Option Field) → find (λ field. not (is_tagged tags.RecordNumber field)) fields ≡ found → option_map (λ (f : Field). f.tag) found ≡ Some name → record_type fields ≡ ok_or kind ForeignTag
+    by : (found : Option Field) → find (λ field. not (is_tagged tags.RecordNumber field)) fields ≡ found
+        → option_map (λ (f : Field). f.tag) found ≡ Some name → record_type fields ≡ ok_or kind ForeignTag
     by None e leads = absurd cc
     by (Some f) e leads =
         let named : f.tag ≡ name = cc in
         let same : type_of_leading f ≡ kind = ap (λ t. type_of_leading (record { tag = t; bytes = f.bytes })) named ∙ sym (is f.bytes) in
         rw e (ap (λ k. ok_or k ForeignTag) same)
 
-pub type_missing : (fields : List Field) → option_map (λ (f : Field). f.tag) (find (λ field. not (is_tagged tags.RecordNumber field)) fields) ≡ None → record_type fields ≡ Err MissingField
+pub type_missing : (fields : List Field) → option_map (λ (f : Field). f.tag) (find (λ field. not (is_tagged tags.RecordNumber field)) fields) ≡
+    None → record_type fields ≡ Err MissingField
 type_missing fields none = by (find (λ field. not (is_tagged tags.RecordNumber field)) fields) refl none
   where
-    by : (found : Option Field) → find (λ field. not (is_tagged tags.RecordNumber field)) fields ≡ found → option_map (λ (f : Field). f.tag) found ≡ None → record_type fields ≡ Err MissingField
+    by : (found : Option Field) → find (λ field. not (is_tagged tags.RecordNumber field)) fields ≡ found
+        → option_map (λ (f : Field). f.tag) found ≡ None → record_type fields ≡ Err MissingField
     by None e none = rw e refl
     by (Some f) e none = absurd cc
 
@@ -97,11 +132,13 @@ fault_step nall type fields k f is =
 pub foreign : (nall : ℕ) (type : RecordType) (before : List Field) (f : Field) → tag_in type f ≡ None → field_fault nall type before f ≡ Some ForeignTag
 foreign nall type before f is = rw is refl
 
-pub repeated : (nall : ℕ) (type : RecordType) (before : List Field) (f : Field) (tag : FieldTag) → tag_in type f ≡ Some tag → (list_any (is_tagged tag) before && not (may_repeat tag)) ≡ true
+pub repeated : (nall : ℕ) (type : RecordType) (before : List Field) (f : Field) (tag : FieldTag) → tag_in type f ≡ Some tag
+    → (list_any (is_tagged tag) before && not (may_repeat tag)) ≡ true
     → field_fault nall type before f ≡ Some RepeatedField
 repeated nall type before f tag is twice = rw (is, twice) refl
 
-pub content : (nall : ℕ) (type : RecordType) (before : List Field) (f : Field) (tag : FieldTag) → tag_in type f ≡ Some tag → (list_any (is_tagged tag) before && not (may_repeat tag)) ≡ false
+pub content : (nall : ℕ) (type : RecordType) (before : List Field) (f : Field) (tag : FieldTag) → tag_in type f ≡ Some tag
+    → (list_any (is_tagged tag) before && not (may_repeat tag)) ≡ false
     → field_fault nall type before f ≡ option_map of_field (content_fault nall tag f.bytes)
 content nall type before f tag is once = rw (is, once) refl
 
@@ -119,7 +156,8 @@ pub ok_then : {T E P Q : Type 0} (r : Result T E) → OnOk r P → (P → Q) →
 ok_then (Ok x) p f = f p
 ok_then (Err e) p f = tt
 
-pub fault_then : {T : Type 0} (r : Result T RecordRefusal) (found there : Option RecordFault) → IfErr r (λ e. IsFault e found) → ((fault : RecordFault) → found ≡ Some fault → there ≡ Some fault) → IfErr r (λ e. IsFault e there)
+pub fault_then : {T : Type 0} (r : Result T RecordRefusal) (found there : Option RecordFault) → IfErr r (λ e. IsFault e found)
+    → ((fault : RecordFault) → found ≡ Some fault → there ≡ Some fault) → IfErr r (λ e. IsFault e there)
 fault_then (Ok x) found there h f = tt
 fault_then (Err (Fault fault)) found there h f = f fault h
 fault_then (Err NoMemory) found there h f = tt

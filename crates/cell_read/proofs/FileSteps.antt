@@ -1,5 +1,30 @@
 -- A cell with the next record of its file, and the records that must be there.
-use Rattle.std.proofs.Common.{◌≡◌, ◌≤◌, ◌<◌, ◌+◌, ℕ, Bool, false, not, List, length, nat_le, nat_lt, Option, Some, None, Result, Ok, Err, refl, ap, ◌∙◌, inl, inr, arith}
+use Rattle.std.proofs.Common.{
+  ◌≡◌,
+  ◌≤◌,
+  ◌<◌,
+  ◌+◌,
+  ℕ,
+  Bool,
+  false,
+  not,
+  List,
+  length,
+  nat_le,
+  nat_lt,
+  Option,
+  Some,
+  None,
+  Result,
+  Ok,
+  Err,
+  refl,
+  ap,
+  ◌∙◌,
+  inl,
+  inr,
+  arith,
+}
 use Rattle.std.specs.List.{list_any}
 use Rattle.std.specs.Option.{option_or}
 use Rattle.std.proofs.lemmas.Bool.{lt-ltb, cases_lt}
@@ -58,7 +83,8 @@ behind_parts : (c : Cell) (fields : List Field) → record_behind c fields ≡ (
 unfolding record_behind
 behind_parts c fields =
     regrouped (record_type fields) (record_values c.head.nall fields) (λ r. twice c r >> (long c r >> (many c r >> Ok r)))
-    ∙ same_steps (record_said c.head.nall fields) (λ r. twice c r >> (long c r >> (many c r >> Ok r))) (λ r. following_fault c r >> Ok r) (λ r. one_fault (twice c r) (long c r) (many c r) (Ok r))
+    ∙ same_steps (record_said c.head.nall fields) (λ r. twice c r >> (long c r >> (many c r >> Ok r))) (λ r. following_fault c r >> Ok r)
+    (λ r. one_fault (twice c r) (long c r) (many c r) (Ok r))
 
 behind_refused : (c : Cell) (fields : List Field) (fault : RecordFault) → record_said c.head.nall fields ≡ Err fault → record_behind c fields ≡ Err fault
 behind_refused c fields fault is = behind_parts c fields ∙ ap (λ said. said >>= λ r. following_fault c r >> Ok r) is
@@ -73,22 +99,26 @@ following-end number c b at past = ap (with_following number c) (records_after-e
 
 at_frame : (number : ℕ) (c : Cell) (b : List ℕ) (at : ℕ) (found : Result FrameView FrameFault) → at < length b → frame_at b at false ≡ found
     → with_following number c (records_after b at false) ≡ with_following number c (record_then (λ frame. records_after b (at + frame.length) false) at found)
-at_frame number c b at found before is = ap (with_following number c) (records_after-next b at false before ∙ ap (record_then (λ frame. records_after b (at + frame.length) false) at) is)
+at_frame number c b at found before is = ap (with_following number c)
+    (records_after-next b at false before ∙ ap (record_then (λ frame. records_after b (at + frame.length) false) at) is)
 
 -- no record stands there
-pub following-frame_fault : (number : ℕ) (c : Cell) (b : List ℕ) (at : ℕ) (fault : FrameFault) (r : RecordRefusal) → r ≡ Fault (of_frame fault) → at < length b → frame_at b at false ≡ Err fault
+pub following-frame_fault : (number : ℕ) (c : Cell) (b : List ℕ) (at : ℕ) (fault : FrameFault) (r : RecordRefusal) → r ≡ Fault (of_frame fault)
+    → at < length b → frame_at b at false ≡ Err fault
     → IsFaultAt number at r (with_following number c (records_after b at false))
 unfolding with_following
 following-frame_fault number c b at fault r refused before is = rw refused (at_frame number c b at (Err fault) before is)
 
 -- the record there has a fault
-following-fault : (number : ℕ) (c : Cell) (b : List ℕ) (at : ℕ) (frame : FrameView) (fault : RecordFault) → at < length b → frame_at b at false ≡ Ok frame → record_behind c frame.fields ≡ Err fault
+following-fault : (number : ℕ) (c : Cell) (b : List ℕ) (at : ℕ) (frame : FrameView) (fault : RecordFault) → at < length b
+    → frame_at b at false ≡ Ok frame → record_behind c frame.fields ≡ Err fault
     → with_following number c (records_after b at false) ≡ Err (fault_at number at fault)
 unfolding with_following
 following-fault number c b at frame fault before is said = at_frame number c b at (Ok frame) before is ∙ (rw said refl)
 
 -- the record there follows
-following-next : (number : ℕ) (c : Cell) (b : List ℕ) (at : ℕ) (frame : FrameView) (r : Rec) → at < length b → frame_at b at false ≡ Ok frame → record_behind c frame.fields ≡ Ok r
+following-next : (number : ℕ) (c : Cell) (b : List ℕ) (at : ℕ) (frame : FrameView) (r : Rec) → at < length b → frame_at b at false ≡ Ok frame
+    → record_behind c frame.fields ≡ Ok r
     → with_following number c (records_after b at false) ≡ with_following (number + 1) (with_record r c) (records_after b (at + frame.length) false)
 unfolding with_following
 following-next number c b at frame r before is said = at_frame number c b at (Ok frame) before is ∙ (rw said refl)
@@ -96,10 +126,12 @@ following-next number c b at frame r before is said = at_frame number c b at (Ok
 -- the record there was refused by itself, was refused behind the others, or was added
 pub following-refused : (number : ℕ) (c : Cell) (b : List ℕ) (at : ℕ) (frame : FrameView) (e : RecordRefusal) → at < length b → frame_at b at false ≡ Ok frame
     → GivesRecord {X = Rec} (Err e) (record_said c.head.nall frame.fields) → IsFaultAt number at e (with_following number c (records_after b at false))
-following-refused number c b at frame (Fault fault) before is said = following-fault number c b at frame fault before is (behind_refused c frame.fields fault said)
+following-refused number c b at frame (Fault fault) before is said =
+    following-fault number c b at frame fault before is (behind_refused c frame.fields fault said)
 following-refused number c b at frame NoMemory before is said = tt
 
-pub following-not_added : (number : ℕ) (c : Cell) (b : List ℕ) (at : ℕ) (frame : FrameView) (r : Rec) (e : RecordRefusal) → at < length b → frame_at b at false ≡ Ok frame
+pub following-not_added : (number : ℕ) (c : Cell) (b : List ℕ) (at : ℕ) (frame : FrameView) (r : Rec) (e : RecordRefusal)
+    → at < length b → frame_at b at false ≡ Ok frame
     → record_said c.head.nall frame.fields ≡ Ok r → IsFault e (following_fault c r) → IsFaultAt number at e (with_following number c (records_after b at false))
 following-not_added number c b at frame r (Fault fault) before is said has =
     following-fault number c b at frame fault before is (behind_said c frame.fields r said ∙ ap (λ found. found >> Ok r) has)
@@ -124,8 +156,10 @@ found_before b at first frame is = elim (cases_lt at (length b)) [
 
 module _ {X : Type 0} (number : ℕ) (meaning : List Field → Result X RecordFault) (b : List ℕ) (at : ℕ) (first : Bool) where
   next-found : (found : Result FrameView FrameFault) → at < length b → frame_at b at first ≡ found
-      → said_by_next number (length b) meaning (records_after b at first) ≡ said_by_next number (length b) meaning (record_then (λ frame. records_after b (at + frame.length) false) at found)
-  next-found found before is = ap (said_by_next number (length b) meaning) (records_after-next b at first before ∙ ap (record_then (λ frame. records_after b (at + frame.length) false) at) is)
+      → said_by_next number (length b) meaning (records_after b at first) ≡ said_by_next number (length b) meaning
+      (record_then (λ frame. records_after b (at + frame.length) false) at found)
+  next-found found before is = ap (said_by_next number (length b) meaning)
+      (records_after-next b at first before ∙ ap (record_then (λ frame. records_after b (at + frame.length) false) at) is)
 
   -- the record that must be there has a fault of its frame, or isn't there
   pub next-frame_fault : (fault : FrameFault) (r : RecordRefusal) → r ≡ Fault (of_frame fault) → at ≤ length b → frame_at b at first ≡ Err fault
@@ -136,7 +170,8 @@ module _ {X : Type 0} (number : ℕ) (meaning : List Field → Result X RecordFa
         let short : frame_at b at first ≡ Err frames.Short = frame_at-end b at first past in
         let same : frames.Short ≡ fault = cc in
         let here : length b ≡ at = omega (arith, past, within) in
-        ap (said_by_next number (length b) meaning) (records_after-end b at first past) ∙ ap (λ n. Err (fault_at number n (of_frame frames.Short))) here ∙ ap (λ f. Err (fault_at number at (of_frame f))) same
+        ap (said_by_next number (length b) meaning) (records_after-end b at first past)
+        ∙ ap (λ n. Err (fault_at number n (of_frame frames.Short))) here ∙ ap (λ f. Err (fault_at number at (of_frame f))) same
   ])
 
   pub next-refused : (frame : FrameView) (e : RecordRefusal) → frame_at b at first ≡ Ok frame → GivesRecord {X = X} (Err e) (meaning frame.fields)
@@ -149,11 +184,13 @@ module _ {X : Type 0} (number : ℕ) (meaning : List Field → Result X RecordFa
   next-said frame x is said = next-found (Ok frame) (found_before b at first frame is) is ∙ (rw said refl)
 
 -- a fault of a step is the fault of the whole
-pub fault_stays : {X Y : Type 0} (number offset : ℕ) (e : RecordRefusal) (x : Result X CellFault) (f : X → Result Y CellFault) → IsFaultAt number offset e x → IsFaultAt number offset e (x >>= f)
+pub fault_stays : {X Y : Type 0} (number offset : ℕ) (e : RecordRefusal) (x : Result X CellFault) (f : X → Result Y CellFault)
+    → IsFaultAt number offset e x → IsFaultAt number offset e (x >>= f)
 fault_stays number offset (Fault fault) x f is = ap (λ r. r >>= f) is
 fault_stays number offset NoMemory x f is = tt
 
-pub gives_fault_at : {X : Type 0} (number offset : ℕ) (e : RecordRefusal) (x : Result X CellFault) (r : ReadRefusal) → r ≡ refusal_at number offset e → IsFaultAt number offset e x → GivesCell {X = X} (Err r) x
+pub gives_fault_at : {X : Type 0} (number offset : ℕ) (e : RecordRefusal) (x : Result X CellFault) (r : ReadRefusal)
+    → r ≡ refusal_at number offset e → IsFaultAt number offset e x → GivesCell {X = X} (Err r) x
 gives_fault_at number offset (Fault fault) x r refused is = rw refused is
 gives_fault_at number offset NoMemory x r refused is = rw refused tt
 

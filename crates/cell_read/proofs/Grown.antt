@@ -25,20 +25,25 @@ list_any-between : {X : Type 0} (p : X → Bool) (xs : List X) (r : X) (ys : Lis
 list_any-between p [] r ys = refl
 list_any-between p (x ∷ xs) r ys = ap (λ b. p x || b) (list_any-between p xs r ys) ∙ or_swap (p x) (p r) (list_any p (xs ++ ys))
 
-names_grown : (kind : Kind) (r : Rec) (c : Cell) (n : RecName) → (kind_rank kind == kind_rank Head) ≡ false → list_any (is_named n) (all_records (with_record_of_kind kind r c)) ≡ (is_named n r || list_any (is_named n) (all_records c))
+names_grown : (kind : Kind) (r : Rec) (c : Cell) (n : RecName) → (kind_rank kind == kind_rank Head) ≡ false
+    → list_any (is_named n) (all_records (with_record_of_kind kind r c)) ≡ (is_named n r || list_any (is_named n) (all_records c))
 names_grown kind r c n listed = let s = stands kind r c listed in
     ap (list_any (is_named n)) s.with ∙ list_any-between (is_named n) s.before r s.behind ∙ ap (λ xs. is_named n r || list_any (is_named n) xs) (sym s.without)
 
-count_grown : (kind : Kind) (r : Rec) (c : Cell) → (kind_rank kind == kind_rank Head) ≡ false → length (all_records (with_record_of_kind kind r c)) ≡ length (all_records c) + 1
+count_grown : (kind : Kind) (r : Rec) (c : Cell) → (kind_rank kind == kind_rank Head) ≡ false
+    → length (all_records (with_record_of_kind kind r c)) ≡ length (all_records c) + 1
 count_grown kind r c listed = let s = stands kind r c listed in
     let grown = ap length s.with ∙ length-append s.before (r ∷ s.behind) in
     let old = ap length s.without ∙ length-append s.before s.behind in
     omega (arith, grown, old)
 
 -- what is known of a reading with one record more
-pub known_grown : (order : RecName → RecName → Ordering) (old new : Reading) (r : Rec) → is_of_kind Head (name_of r) ≡ false → IsKnown order old → new.cell ≡ with_record_of_kind (name_of r).kind r old.cell
+pub known_grown : (order : RecName → RecName → Ordering) (old new : Reading) (r : Rec) → is_of_kind Head (name_of r) ≡ false
+    → IsKnown order old → new.cell ≡ with_record_of_kind (name_of r).kind r old.cell
     → ((n : RecName) → has_name order new.names n ≡ (same_name n (name_of r) || has_name order old.names n)) → new.count ≡ old.count + 1 → IsKnown order new
 known_grown order old new r listed known cell_is names_are count_is = record {
-  names_are = λ n. names_are n ∙ ap (λ b. same_name n (name_of r) || b) (known.names_are n) ∙ sym (names_grown (name_of r).kind r old.cell n listed) ∙ ap (λ c. list_any (is_named n) (all_records c)) (sym cell_is);
-  count_is = let counted = count_grown (name_of r).kind r old.cell listed in let same = ap (λ c. length (all_records c)) cell_is in let before = known.count_is in omega (arith, counted, same, before, count_is);
+  names_are = λ n. names_are n ∙ ap (λ b. same_name n (name_of r) || b) (known.names_are n)
+      ∙ sym (names_grown (name_of r).kind r old.cell n listed) ∙ ap (λ c. list_any (is_named n) (all_records c)) (sym cell_is);
+  count_is = let counted = count_grown (name_of r).kind r old.cell listed in let same = ap (λ c. length (all_records c)) cell_is in
+      let before = known.count_is in omega (arith, counted, same, before, count_is);
 }

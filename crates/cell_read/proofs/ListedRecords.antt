@@ -73,12 +73,14 @@ IsListed r = is_of_kind Head (name_of r) ≡ false
 vector_is_listed : (fields : List Field) → IfOk (vector_record fields) IsListed
 vector_is_listed fields =
     if_checked IsListed (fields_fault 0 types.Vector [] fields) _
-    (if_step IsListed HasList (required tags.Vrid vrid_content fields) _ (identifier_has_list fields) (λ d has. if_checked IsListed (demand (d.ruin == 1) NotBase) _ has))
+    (if_step IsListed HasList (required tags.Vrid vrid_content fields) _ (identifier_has_list fields)
+    (λ d has. if_checked IsListed (demand (d.ruin == 1) NotBase) _ has))
 
 feature_is_listed : (nall : ℕ) (fields : List Field) → IfOk (feature_record nall fields) IsListed
 feature_is_listed nall fields =
     if_checked IsListed (fields_fault nall types.Feature [] fields) _
-    (if_any IsListed (required tags.Frid frid_content fields) _ (λ d. if_any IsListed (required tags.Foid foid_content fields) _ (λ l. if_checked IsListed (demand (d.ruin == 1) NotBase) _ refl)))
+    (if_any IsListed (required tags.Frid frid_content fields) _
+    (λ d. if_any IsListed (required tags.Foid foid_content fields) _ (λ l. if_checked IsListed (demand (d.ruin == 1) NotBase) _ refl)))
 
 values_are_listed : (nall : ℕ) (fields : List Field) (type : RecordType) → IfOk (record_values nall fields type) IsListed
 values_are_listed nall fields types.GeneralInformation = tt
@@ -88,4 +90,5 @@ values_are_listed nall fields types.Feature = feature_is_listed nall fields
 
 pub read_record_is_listed : (nall : ℕ) (fields : List Field) (r : Rec) → record_said nall fields ≡ Ok r → is_of_kind Head (name_of r) ≡ false
 read_record_is_listed nall fields r is =
-    subst (λ (read : Result Rec RecordFault). IfOk read IsListed) is (if_any IsListed (record_type fields) (record_values nall fields) (values_are_listed nall fields))
+    subst (λ (read : Result Rec RecordFault). IfOk read IsListed) is
+    (if_any IsListed (record_type fields) (record_values nall fields) (values_are_listed nall fields))

@@ -9,7 +9,20 @@ use Rattle.std.proofs.lemmas.List.Folds.{find-append}
 use Rattle.std.proofs.lemmas.List.Concat.{flat_map-append}
 use Rattle.std.proofs.lemmas.List.Elements.{filter-append}
 use Rattle.frame_spec.specs.RecordFrame.{Field}
-use Rattle.field_spec.specs.Contents.{dsid_content, dssi_content, dspm_content, frid_content, foid_content, attribute_content, partner_content, place_content, vrid_content, end_content, plane_content, deep_content}
+use Rattle.field_spec.specs.Contents.{
+  dsid_content,
+  dssi_content,
+  dspm_content,
+  frid_content,
+  foid_content,
+  attribute_content,
+  partner_content,
+  place_content,
+  vrid_content,
+  end_content,
+  plane_content,
+  deep_content,
+}
 use Rattle.field_spec.specs.declared.fault.FieldFault.{FieldFault}
 use Rattle.s57_fields.specs.Gives.{Gives}
 use Rattle.s57_fields.specs.declared.refusal.FieldRefusal.{FieldRefusal}
@@ -24,7 +37,8 @@ use Rattle.cell_read.specs.ValuesOf.{values_of, with_content}
 use Rattle.cell_read.specs.declared.values.FieldValues.{FieldValues}
 
 -- a refused field gives its record the field's fault
-pub gives_fault : {X : Type 0} (r : FieldRefusal) (content : Result X FieldFault) → Gives (Err r) content → IsFault (refusal_of_field r) (option_map of_field (result_err content))
+pub gives_fault : {X : Type 0} (r : FieldRefusal) (content : Result X FieldFault) → Gives (Err r) content
+    → IsFault (refusal_of_field r) (option_map of_field (result_err content))
 gives_fault refusal.BadField content is = rw is refl
 gives_fault refusal.BadText content is = rw is refl
 gives_fault refusal.NoMemory content is = tt
@@ -34,7 +48,8 @@ module _ {X : Type 0} (tag : FieldTag) (content : List ℕ → Result X FieldFau
   none_before [] none = refl
   none_before (x ∷ xs) none = by (is_tagged tag x) none (none_before xs)
     where
-      by : (b : Bool) → (b || list_any (is_tagged tag) xs) ≡ false → (list_any (is_tagged tag) xs ≡ false → find (is_tagged tag) xs ≡ None) → cond b (Some x) (find (is_tagged tag) xs) ≡ None
+      by : (b : Bool) → (b || list_any (is_tagged tag) xs) ≡ false → (list_any (is_tagged tag) xs ≡ false → find (is_tagged tag) xs ≡ None)
+          → cond b (Some x) (find (is_tagged tag) xs) ≡ None
       by true e later = absurd cc
       by false e later = later e
 
@@ -47,22 +62,29 @@ module _ {X : Type 0} (tag : FieldTag) (content : List ℕ → Result X FieldFau
       → value_of tag content (before ++ (field ∷ [])) ≡ (if is_tagged tag field then result_ok (content field.bytes) else value_of tag content before)
   value_step once = by (is_tagged tag field) refl
     where
-      by : (b : Bool) → is_tagged tag field ≡ b → value_of tag content (before ++ (field ∷ [])) ≡ (if b then result_ok (content field.bytes) else value_of tag content before)
+      by : (b : Bool) → is_tagged tag field ≡ b → value_of tag content (before ++ (field ∷ [])) ≡
+          (if b then result_ok (content field.bytes) else value_of tag content before)
       by true is =
-          let first : find (is_tagged tag) (before ++ (field ∷ [])) ≡ option_or None (find (is_tagged tag) (field ∷ [])) = find-append (is_tagged tag) before (field ∷ []) ∙ ap (λ x. option_or x (find (is_tagged tag) (field ∷ []))) (none_before before (once is)) in
+          let first : find (is_tagged tag) (before ++ (field ∷ [])) ≡ option_or None (find (is_tagged tag) (field ∷ [])) =
+          find-append (is_tagged tag) before (field ∷ []) ∙ ap (λ x. option_or x (find (is_tagged tag) (field ∷ [])))
+          (none_before before (once is)) in
           let found : find (is_tagged tag) (before ++ (field ∷ [])) ≡ Some field = first ∙ ap (λ b. cond b (Some field) None) is in
           ap (λ x. option_and_then (λ (f : Field). result_ok (content f.bytes)) x) found
       by false is =
-          let first : find (is_tagged tag) (before ++ (field ∷ [])) ≡ option_or (find (is_tagged tag) before) None = find-append (is_tagged tag) before (field ∷ []) ∙ ap (λ b. option_or (find (is_tagged tag) before) (cond b (Some field) None)) is in
+          let first : find (is_tagged tag) (before ++ (field ∷ [])) ≡ option_or (find (is_tagged tag) before) None =
+          find-append (is_tagged tag) before (field ∷ []) ∙ ap (λ b. option_or (find (is_tagged tag) before) (cond b (Some field) None)) is in
           let found : find (is_tagged tag) (before ++ (field ∷ [])) ≡ find (is_tagged tag) before = first ∙ or_none (find (is_tagged tag) before) in
           ap (λ x. option_and_then (λ (f : Field). result_ok (content f.bytes)) x) found
 
 module _ {X : Type 0} (tag : FieldTag) (content : List ℕ → Result (List X) FieldFault) (before : List Field) (field : Field) where
   -- the rows of a tag, with those of this field if it is one
-  rows_step : rows_of tag content (before ++ (field ∷ [])) ≡ (if is_tagged tag field then rows_of tag content before ++ result_unwrap_or (content field.bytes) [] else rows_of tag content before)
-  rows_step = ap (flat_map _) (filter-append (is_tagged tag) before (field ∷ [])) ∙ flat_map-append _ (filter (is_tagged tag) before) (filter (is_tagged tag) (field ∷ [])) ∙ by (is_tagged tag field) refl
+  rows_step : rows_of tag content (before ++ (field ∷ [])) ≡ (if is_tagged tag field then rows_of tag content before
+      ++ result_unwrap_or (content field.bytes) [] else rows_of tag content before)
+  rows_step = ap (flat_map _) (filter-append (is_tagged tag) before (field ∷ [])) ∙ flat_map-append _ (filter (is_tagged tag) before)
+      (filter (is_tagged tag) (field ∷ [])) ∙ by (is_tagged tag field) refl
     where
-      by : (b : Bool) → is_tagged tag field ≡ b → rows_of tag content before ++ rows_of tag content (field ∷ []) ≡ (if b then rows_of tag content before ++ result_unwrap_or (content field.bytes) [] else rows_of tag content before)
+      by : (b : Bool) → is_tagged tag field ≡ b → rows_of tag content before ++ rows_of tag content (field ∷ []) ≡
+          (if b then rows_of tag content before ++ result_unwrap_or (content field.bytes) [] else rows_of tag content before)
       by true is = rw is (ap (λ rows. rows_of tag content before ++ rows) (append-nil (result_unwrap_or (content field.bytes) [])))
       by false is = rw is (append-nil (rows_of tag content before))
 
@@ -89,7 +111,9 @@ stepped nall f v = record {
 abbrev Once : FieldTag → List Field → Field → Type 0
 Once tag before f = is_tagged tag f ≡ true → list_any (is_tagged tag) before ≡ false
 
-values_step : (nall : ℕ) (before : List Field) (f : Field) → Once tags.Dsid before f → Once tags.Dssi before f → Once tags.Dspm before f → Once tags.Frid before f → Once tags.Foid before f → Once tags.Vrid before f → values_of nall (before ++ (f ∷ [])) ≡ stepped nall f (values_of nall before)
+values_step : (nall : ℕ) (before : List Field) (f : Field) → Once tags.Dsid before f → Once tags.Dssi before f → Once tags.Dspm before f
+    → Once tags.Frid before f → Once tags.Foid before f → Once tags.Vrid before f
+    → values_of nall (before ++ (f ∷ [])) ≡ stepped nall f (values_of nall before)
 unfolding values_of
 values_step nall before f dsid dssi dspm frid foid vrid = rw (
   value_step tags.Dsid dsid_content before f dsid,
@@ -119,16 +143,22 @@ pub values_more : (nall : ℕ) (before : List Field) (bytes : List ℕ) (tag : F
     → values_of nall (before ++ (record { tag = tag_text tag; bytes = bytes } ∷ [])) ≡ with_content nall tag bytes (values_of nall before)
 unfolding with_content
 values_more nall before bytes tags.RecordNumber once = values_step nall before (record { tag = tag_text tags.RecordNumber; bytes = bytes }) no no no no no no
-values_more nall before bytes tags.Dsid once = values_step nall before (record { tag = tag_text tags.Dsid; bytes = bytes }) (λ _. and_true _ once) no no no no no
-values_more nall before bytes tags.Dssi once = values_step nall before (record { tag = tag_text tags.Dssi; bytes = bytes }) no (λ _. and_true _ once) no no no no
-values_more nall before bytes tags.Dspm once = values_step nall before (record { tag = tag_text tags.Dspm; bytes = bytes }) no no (λ _. and_true _ once) no no no
-values_more nall before bytes tags.Frid once = values_step nall before (record { tag = tag_text tags.Frid; bytes = bytes }) no no no (λ _. and_true _ once) no no
-values_more nall before bytes tags.Foid once = values_step nall before (record { tag = tag_text tags.Foid; bytes = bytes }) no no no no (λ _. and_true _ once) no
+values_more nall before bytes tags.Dsid once = values_step nall before (record { tag = tag_text tags.Dsid; bytes = bytes })
+    (λ _. and_true _ once) no no no no no
+values_more nall before bytes tags.Dssi once = values_step nall before (record { tag = tag_text tags.Dssi; bytes = bytes }) no
+    (λ _. and_true _ once) no no no no
+values_more nall before bytes tags.Dspm once = values_step nall before (record { tag = tag_text tags.Dspm; bytes = bytes }) no no
+    (λ _. and_true _ once) no no no
+values_more nall before bytes tags.Frid once = values_step nall before (record { tag = tag_text tags.Frid; bytes = bytes }) no no no
+    (λ _. and_true _ once) no no
+values_more nall before bytes tags.Foid once = values_step nall before (record { tag = tag_text tags.Foid; bytes = bytes }) no no no no
+    (λ _. and_true _ once) no
 values_more nall before bytes tags.Attf once = values_step nall before (record { tag = tag_text tags.Attf; bytes = bytes }) no no no no no no
 values_more nall before bytes tags.Natf once = values_step nall before (record { tag = tag_text tags.Natf; bytes = bytes }) no no no no no no
 values_more nall before bytes tags.Ffpt once = values_step nall before (record { tag = tag_text tags.Ffpt; bytes = bytes }) no no no no no no
 values_more nall before bytes tags.Fspt once = values_step nall before (record { tag = tag_text tags.Fspt; bytes = bytes }) no no no no no no
-values_more nall before bytes tags.Vrid once = values_step nall before (record { tag = tag_text tags.Vrid; bytes = bytes }) no no no no no (λ _. and_true _ once)
+values_more nall before bytes tags.Vrid once = values_step nall before (record { tag = tag_text tags.Vrid; bytes = bytes }) no no no no no
+    (λ _. and_true _ once)
 values_more nall before bytes tags.Attv once = values_step nall before (record { tag = tag_text tags.Attv; bytes = bytes }) no no no no no no
 values_more nall before bytes tags.Vrpt once = values_step nall before (record { tag = tag_text tags.Vrpt; bytes = bytes }) no no no no no no
 values_more nall before bytes tags.Sg2d once = values_step nall before (record { tag = tag_text tags.Sg2d; bytes = bytes }) no no no no no no

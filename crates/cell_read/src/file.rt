@@ -27,7 +27,8 @@ fn read_next(
     requires known { IsKnown ⟦<RecName as Ord>⟧.cmp reading.old }
     ensures known { OnOk result (IsKnown ⟦<RecName as Ord>⟧.cmp reading.new) }
     ensures within { IfOk result (λ n. (0 < n) × (at + n ≤ length bytes.now)) }
-    ensures step { (number : ℕ) → IfOk result (λ n. with_following number reading.old.cell (records_after bytes.now at false) ≡ with_following (number + 1) reading.new.cell (records_after bytes.now (at + n) false)) }
+    ensures step { (number : ℕ) → IfOk result (λ n. with_following number reading.old.cell (records_after bytes.now at false) ≡
+        with_following (number + 1) reading.new.cell (records_after bytes.now (at + n) false)) }
     ensures fault { (number : ℕ) → IfErr result (λ e. IsFaultAt number at e (with_following number reading.old.cell (records_after bytes.now at false))) }
 {
     let frame = match next_record(bytes, at, false) {

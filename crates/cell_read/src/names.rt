@@ -30,7 +30,8 @@ impl Names {
     /// Adds a name, and says whether it is new.
     pub fn add(&mut self, name: RecName) -> Result<bool, AllocError>
         ensures is_new { IfOk result (λ added. added ≡ not (has_name ⟦<RecName as Ord>⟧.cmp self.old name)) }
-        ensures names { OnOk result ((n : SpecName) → has_name ⟦<RecName as Ord>⟧.cmp self.new n ≡ (same_name n name || has_name ⟦<RecName as Ord>⟧.cmp self.old n)) }
+        ensures names { OnOk result ((n : SpecName) → has_name ⟦<RecName as Ord>⟧.cmp self.new n ≡
+            (same_name n name || has_name ⟦<RecName as Ord>⟧.cmp self.old n)) }
     {
         orders_are_by_parts();
         Ok(self.names.insert(name)?)

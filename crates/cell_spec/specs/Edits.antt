@@ -1,5 +1,28 @@
 -- Record edits: which of them a cell takes, what they make of it, and the keys whose answers they can change. This project's own rules.
-use Rattle.std.specs.Prelude.{◌&&◌, Bool, true, false, not, List, [], ◌∷◌, ◌++◌, Option, None, Some, length, map, filter, find, filter_map, flat_map, option_to_list, is_some, nat_le, nat_lt}
+use Rattle.std.specs.Prelude.{
+  ◌&&◌,
+  Bool,
+  true,
+  false,
+  not,
+  List,
+  [],
+  ◌∷◌,
+  ◌++◌,
+  Option,
+  None,
+  Some,
+  length,
+  map,
+  filter,
+  find,
+  filter_map,
+  flat_map,
+  option_to_list,
+  is_some,
+  nat_le,
+  nat_lt,
+}
 use Rattle.std.specs.List.{list_all, list_any}
 use Rattle.s57_types.specs.declared.name.Kind.{Kind}
 use Rattle.s57_types.specs.declared.name.Kind.TheVariants.{Vi, Vc, Ve, Fe, Head as HeadKind}
@@ -80,7 +103,14 @@ edited_list edits kind c = filter_map (edited_record edits) (list_of_kind kind c
 
 -- a cell after edits
 unfoldable pub apply_edits : List Edit → Cell → Cell
-apply_edits edits c = record { head = head_after edits c.head; vi = edited_list edits Vi c; vc = edited_list edits Vc c; ve = edited_list edits Ve c; fe = edited_list edits Fe c }
+apply_edits edits c = record {
+  head = head_after edits c.head;
+  vi = edited_list edits Vi c;
+  vc = edited_list edits Vc c;
+  ve =
+      edited_list edits Ve c;
+  fe = edited_list edits Fe c;
+}
 
 -- an addition has a new name, and a replacement or a deletion the name of a record of the cell; each cell has a head
 abbrev pub has_its_record : Cell → Edit → Bool
@@ -113,7 +143,8 @@ keys_answered_by r = map Refs (targets_of r) ++ map Foid (identities_of r)
 
 -- the keys that an edit can change: the name, and what the record answers before and after
 abbrev pub keys_of_edit : Cell → Edit → List Key
-keys_of_edit c edit = Name (name_of_edit edit) ∷ flat_map keys_answered_by (option_to_list (lookup_record c (name_of_edit edit)) ++ option_to_list (left_by edit))
+keys_of_edit c edit = Name (name_of_edit edit) ∷ flat_map keys_answered_by (option_to_list (lookup_record c (name_of_edit edit))
+    ++ option_to_list (left_by edit))
 
 -- the keys whose answers edits can change, ascending, each once
 unfoldable pub touched_keys : List Edit → Cell → List Key

@@ -56,7 +56,8 @@ lookup_record c n = find (is_named n) (head_and_records c)
 
 -- the places, counted from a number on, at which a record points to a name among some of its targets
 abbrev pub pointers_at : RecName → Rec → ℕ → List RecName → List Ref
-pointers_at n r first targets = map (λ (p : ℕ × RecName). record { from = name_of r; place = p.0 }) (filter (λ (p : ℕ × RecName). same_name n p.1) (enumerate_from first targets))
+pointers_at n r first targets = map (λ (p : ℕ × RecName). record { from = name_of r; place = p.0 })
+    (filter (λ (p : ℕ × RecName). same_name n p.1) (enumerate_from first targets))
 
 -- the places, from 1, at which a record points to a name
 abbrev pub pointers_in : RecName → Rec → List Ref

@@ -11,7 +11,8 @@ records_bytes-append nall n (x ∷ xs) ys =
     ∙ sym (append_assoc (record_bytes nall n x) (records_bytes nall (n + 1) xs) (records_bytes nall (n + length (x ∷ xs)) ys))
 
 -- records whose numbers go on from those before
-pub next_records : (nall n m : ℕ) (before xs slice : List Rec) (out old new : List ℕ) → slice ≡ xs → m ≡ n + length before → old ≡ out ++ records_bytes nall n before
+pub next_records : (nall n m : ℕ) (before xs slice : List Rec) (out old new : List ℕ) → slice ≡ xs → m ≡ n + length before
+    → old ≡ out ++ records_bytes nall n before
     → new ≡ old ++ records_bytes nall m slice → new ≡ out ++ records_bytes nall n (before ++ xs)
 next_records nall n m before xs slice out old new same number old_is new_is =
     new_is ∙ ap (λ (b : List ℕ). b ++ records_bytes nall m slice) old_is ∙ append_assoc out (records_bytes nall n before) (records_bytes nall m slice)

@@ -21,7 +21,8 @@ pub short_as : (slice items : List OutField) (fields : List Field) → slice ≡
     → record_length (lengths_of slice) ≤ 99999
 short_as slice items fields same named short = subst (λ (f : List Field). record_length (field_lengths f) ≤ 99999) (sym (ap fields_of same ∙ named)) short
 
-pub identification_short : (n : ℕ) (c : Cell) → is_fit_head c.head ≡ true → record_length (field_lengths (identification_fields n c.head (record_counts c))) ≤ 99999
+pub identification_short : (n : ℕ) (c : Cell) → is_fit_head c.head ≡ true
+    → record_length (field_lengths (identification_fields n c.head (record_counts c))) ≤ 99999
 identification_short n c fit = (head_fits c.head fit).0
 
 pub parameters_short : (n : ℕ) (h : Head) → is_fit_head h ≡ true → record_length (field_lengths (parameter_fields n h)) ≤ 99999
@@ -54,7 +55,8 @@ description_length d = simp length-append (omega (arith, length_level d.level))
 
 descriptions_lengths : (ds : List Description) → field_lengths (map description_field ds) ≡ map counted ds
 descriptions_lengths [] = refl
-descriptions_lengths (d ∷ ds) = ap (λ n. n ∷ field_lengths (map description_field ds)) (description_length d) ∙ ap (λ ns. counted d ∷ ns) (descriptions_lengths ds)
+descriptions_lengths (d ∷ ds) = ap (λ n. n ∷ field_lengths (map description_field ds)) (description_length d)
+    ∙ ap (λ ns. counted d ∷ ns) (descriptions_lengths ds)
 
 descriptive_length : (aall nall : ℕ) → record_length (field_lengths (descriptive_fields aall nall)) ≡ 1578
 unfolding digits counted

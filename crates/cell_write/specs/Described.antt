@@ -17,5 +17,6 @@ level_of aall nall NationalAttributes = nall
 abbrev pub described_field : ℕ → ℕ → Description → Field
 described_field aall nall d = record {
   tag = d.tag;
-  bytes = d.controls.now ++ level_controls (level_of aall nall d.texts) ++ d.name.now ++ (unit_terminator ∷ []) ++ d.labels.now ++ (unit_terminator ∷ []) ++ d.formats.now ++ (field_terminator ∷ []);
+  bytes = d.controls.now ++ level_controls (level_of aall nall d.texts) ++ d.name.now ++ (unit_terminator ∷ []) ++ d.labels.now
+      ++ (unit_terminator ∷ []) ++ d.formats.now ++ (field_terminator ∷ []);
 }

@@ -1,5 +1,39 @@
 -- What a cell answers, read off lists of its records, pointers and identities.
-use Rattle.std.proofs.Common.{◌≡◌, ℕ, zero, suc, ◌+◌, ◌<◌, ◌≤◌, ◌⊎◌, inl, inr, ◌&&◌, ◌||◌, Bool, true, false, List, [], ◌∷◌, ◌++◌, length, map, filter, find, get_or, Option, None, Some, true≢false, refl, sym, ap, ◌∙◌, arith}
+use Rattle.std.proofs.Common.{
+  ◌≡◌,
+  ℕ,
+  zero,
+  suc,
+  ◌+◌,
+  ◌<◌,
+  ◌≤◌,
+  ◌⊎◌,
+  inl,
+  inr,
+  ◌&&◌,
+  ◌||◌,
+  Bool,
+  true,
+  false,
+  List,
+  [],
+  ◌∷◌,
+  ◌++◌,
+  length,
+  map,
+  filter,
+  find,
+  get_or,
+  Option,
+  None,
+  Some,
+  true≢false,
+  refl,
+  sym,
+  ap,
+  ◌∙◌,
+  arith,
+}
 use Rattle.std.specs.Prelude.{cond, flat_map, ◌==◌}
 use Rattle.std.specs.declared.cmp.Ordering.{Ordering}
 use Rattle.std.specs.declared.cmp.Ordering.TheVariants.{Less, Equal, Greater}
@@ -30,12 +64,15 @@ same_as n a b true e is apart =
     let first : n ≡ a = one_when_same n a e in
     absurd (true≢false (sym is ∙ ap (λ z. same_name z b) first ∙ apart))
 
-named_later : (n : RecName) (x : Rec) (rs : List Rec) (k : ℕ) (r : Rec) → k < length rs → get_or rs k r ≡ r → same_name n (name_of r) ≡ true → AllByRecursion (λ m. same_name (name_of x) m ≡ false) (map name_of rs) → is_named n x ≡ false
+named_later : (n : RecName) (x : Rec) (rs : List Rec) (k : ℕ) (r : Rec) → k < length rs → get_or rs k r ≡ r → same_name n (name_of r) ≡ true
+    → AllByRecursion (λ m. same_name (name_of x) m ≡ false) (map name_of rs) → is_named n x ≡ false
 named_later n x [] k r in_range at is apart = absurd (omega arith)
-named_later n x (y ∷ rs) zero r in_range at is apart = same_as n (name_of x) (name_of y) (same_name n (name_of x)) refl (ap (λ z. same_name n (name_of z)) at ∙ is) apart.0
+named_later n x (y ∷ rs) zero r in_range at is apart = same_as n (name_of x) (name_of y) (same_name n (name_of x)) refl
+    (ap (λ z. same_name n (name_of z)) at ∙ is) apart.0
 named_later n x (y ∷ rs) (suc k) r in_range at is apart = named_later n x rs k r (omega arith) at is apart.1
 
-found_at : (n : RecName) (rs : List Rec) (k : ℕ) (r : Rec) → k < length rs → get_or rs k r ≡ r → same_name n (name_of r) ≡ true → IsDistinct same_name (map name_of rs) → find (is_named n) rs ≡ Some r
+found_at : (n : RecName) (rs : List Rec) (k : ℕ) (r : Rec) → k < length rs → get_or rs k r ≡ r → same_name n (name_of r) ≡ true
+    → IsDistinct same_name (map name_of rs) → find (is_named n) rs ≡ Some r
 unfolding IsDistinct
 found_at n [] k r in_range at is apart = absurd (omega arith)
 found_at n (x ∷ rs) zero r in_range at is apart = ap (λ b. cond b (Some x) (find (is_named n) rs)) (ap (λ z. is_named n z) at ∙ is) ∙ ap Some at
@@ -43,7 +80,8 @@ found_at n (x ∷ rs) (suc k) r in_range at is apart =
     ap (λ b. cond b (Some x) (find (is_named n) rs)) (named_later n x rs k r (omega arith) at is apart.0) ∙ found_at n rs k r (omega arith) at is apart.1
 
 -- among records with distinct names, a record that has the name is the one found
-pub found-distinct : (n : RecName) (rs : List Rec) (r : Rec) → IsDistinct same_name (map name_of rs) → Contains rs r → same_name n (name_of r) ≡ true → find (is_named n) rs ≡ Some r
+pub found-distinct : (n : RecName) (rs : List Rec) (r : Rec) → IsDistinct same_name (map name_of rs) → Contains rs r
+    → same_name n (name_of r) ≡ true → find (is_named n) rs ≡ Some r
 found-distinct n rs r apart among is = found_at n rs among.0 r among.1 among.2 is apart
 
 none_by : (r : Rec) (later : Option Rec) (b others : Bool) → (b || others) ≡ false → (others ≡ false → later ≡ None) → cond b (Some r) later ≡ None
@@ -55,7 +93,8 @@ pub found-none : (n : RecName) (rs : List Rec) → list_any (is_named n) rs ≡ 
 found-none n [] h = refl
 found-none n (r ∷ rs) h = none_by r (find (is_named n) rs) (is_named n r) (list_any (is_named n) rs) h (λ e. found-none n rs e)
 
-any_moved : (n : RecName) (rs ss : List Rec) (found : Bool) → list_any (is_named n) rs ≡ found → IsPermutation rs ss → IsDistinct same_name (map name_of rs) → IsDistinct same_name (map name_of ss) → find (is_named n) ss ≡ find (is_named n) rs
+any_moved : (n : RecName) (rs ss : List Rec) (found : Bool) → list_any (is_named n) rs ≡ found → IsPermutation rs ss
+    → IsDistinct same_name (map name_of rs) → IsDistinct same_name (map name_of ss) → find (is_named n) ss ≡ find (is_named n) rs
 any_moved n rs ss false e moved apart others =
     found-none n ss (sym (list_any-IsPermutation (is_named n) rs ss moved) ∙ e) ∙ sym (found-none n rs e)
 any_moved n rs ss true e moved apart others =
@@ -64,7 +103,8 @@ any_moved n rs ss true e moved apart others =
     found-distinct n ss some.1 others (Contains-permutation rs ss some.1 moved among) some.4 ∙ sym (found-distinct n rs some.1 apart among some.4)
 
 -- in another order the same record is found
-pub found-moved : (n : RecName) (rs ss : List Rec) → IsPermutation rs ss → IsDistinct same_name (map name_of rs) → IsDistinct same_name (map name_of ss) → find (is_named n) ss ≡ find (is_named n) rs
+pub found-moved : (n : RecName) (rs ss : List Rec) → IsPermutation rs ss → IsDistinct same_name (map name_of rs)
+    → IsDistinct same_name (map name_of ss) → find (is_named n) ss ≡ find (is_named n) rs
 found-moved n rs ss moved apart others = any_moved n rs ss (list_any (is_named n) rs) refl moved apart others
 
 numbers_flip : (x y : ℕ) → (x == y) ≡ (y == x)
@@ -83,7 +123,8 @@ lower_or_upper zero (suc i) = inl (omega arith)
 lower_or_upper (suc k) (suc i) = elim (lower_or_upper k i) [ inl h ↦ inl (omega arith) | inr h ↦ inr (omega arith) ]
 
 -- where all names before a place are below the name and all others above it, no record has it
-pub none-between : (n : RecName) (rs : List (Bor Rec)) (i : ℕ) → IsPartitionPoint (λ (r : Bor Rec). name_order (name_of r.now) n ≡ Less) (λ (r : Bor Rec). name_order (name_of r.now) n ≡ Greater) rs i
+pub none-between : (n : RecName) (rs : List (Bor Rec)) (i : ℕ) → IsPartitionPoint (λ (r : Bor Rec). name_order (name_of r.now) n ≡ Less)
+    (λ (r : Bor Rec). name_order (name_of r.now) n ≡ Greater) rs i
     → list_any (is_named n) (map (λ (r : Bor Rec). r.now) rs) ≡ false
 none-between n rs i point =
     list_any_none (is_named n) (map (λ (r : Bor Rec). r.now) rs) (All-map (λ r. is_named n r ≡ false) (λ (r : Bor Rec). r.now) rs (λ k d l.
@@ -93,14 +134,18 @@ none-between n rs i point =
     ]))
 
 -- the record at a place whose name ties with the name
-pub found-there : (n : RecName) (rs : List (Bor Rec)) (k : ℕ) (r : Bor Rec) → IsDistinct same_name (map name_of (map (λ (r : Bor Rec). r.now) rs)) → k < length rs → r ≡ get_or rs k r
+pub found-there : (n : RecName) (rs : List (Bor Rec)) (k : ℕ) (r : Bor Rec)
+    → IsDistinct same_name (map name_of (map (λ (r : Bor Rec). r.now) rs)) → k < length rs → r ≡ get_or rs k r
     → name_order (name_of (get_or rs k r).now) n ≡ Equal → find (is_named n) (map (λ (r : Bor Rec). r.now) rs) ≡ Some r.now
 found-there n rs k r apart in_range at ties =
-    let record_at : get_or (map (λ (r : Bor Rec). r.now) rs) k r.now ≡ r.now = get_or-map (λ (r : Bor Rec). r.now) rs k r r.now in_range ∙ ap (λ (r : Bor Rec). r.now) (sym at) in
-    let named : same_name n (name_of r.now) ≡ true = sym (names_tie (name_of r.now) n) ∙ ap (λ (z : Bor Rec). is_eq (name_order (name_of z.now) n)) at ∙ ap is_eq ties in
+    let record_at : get_or (map (λ (r : Bor Rec). r.now) rs) k r.now ≡ r.now = get_or-map (λ (r : Bor Rec). r.now) rs k r r.now in_range
+    ∙ ap (λ (r : Bor Rec). r.now) (sym at) in
+    let named : same_name n (name_of r.now) ≡ true = sym (names_tie (name_of r.now) n)
+    ∙ ap (λ (z : Bor Rec). is_eq (name_order (name_of z.now) n)) at ∙ ap is_eq ties in
     found-distinct n (map (λ (r : Bor Rec). r.now) rs) r.now apart (k, omega (arith, length-map rs (λ (r : Bor Rec). r.now)), record_at) named
 
-values-append : {K V : Type 0} (by_key : K → K → Ordering) (ps qs : List (K × V)) (key : K) → values_at by_key (ps ++ qs) key ≡ values_at by_key ps key ++ values_at by_key qs key
+values-append : {K V : Type 0} (by_key : K → K → Ordering) (ps qs : List (K × V)) (key : K)
+    → values_at by_key (ps ++ qs) key ≡ values_at by_key ps key ++ values_at by_key qs key
 values-append {K} {V} by_key ps qs key =
     let kept : K × V → Bool = λ p. is_eq (by_key p.0 key) in
     ap (map (λ (p : K × V). p.1)) (filter-append kept ps qs) ∙ map-append (λ (p : K × V). p.1) (filter kept ps) (filter kept qs)
@@ -108,14 +153,16 @@ values-append {K} {V} by_key ps qs key =
 pointer_at : RecName → ℕ × RecName → Ref
 pointer_at from p = record { from = from; place = p.0 }
 
-one_selected : (from t : RecName) (first : ℕ) (b d : Bool) (rest : List (RecName × Ref)) (later : List (ℕ × RecName)) → b ≡ d → map (λ (p : RecName × Ref). p.1) rest ≡ map (pointer_at from) later
+one_selected : (from t : RecName) (first : ℕ) (b d : Bool) (rest : List (RecName × Ref)) (later : List (ℕ × RecName)) → b ≡ d
+    → map (λ (p : RecName × Ref). p.1) rest ≡ map (pointer_at from) later
     → map (λ (p : RecName × Ref). p.1) (cond b ((t, pointer_at from (first, t)) ∷ rest) rest) ≡ map (pointer_at from) (cond d ((first, t) ∷ later) later)
 one_selected from t first true true rest later e h = ap (λ rs. pointer_at from (first, t) ∷ rs) h
 one_selected from t first true false rest later e h = cc
 one_selected from t first false true rest later e h = cc
 one_selected from t first false false rest later e h = h
 
-pointers-selected : (n from : RecName) (first : ℕ) (targets : List RecName) → values_at name_order (pointers_from from first targets) n ≡ map (pointer_at from) (filter (λ (p : ℕ × RecName). same_name n p.1) (enumerate_from first targets))
+pointers-selected : (n from : RecName) (first : ℕ) (targets : List RecName) → values_at name_order (pointers_from from first targets) n ≡
+    map (pointer_at from) (filter (λ (p : ℕ × RecName). same_name n p.1) (enumerate_from first targets))
 unfolding pointer_at
 pointers-selected n from first [] = refl
 pointers-selected n from first (t ∷ targets) =
@@ -139,9 +186,11 @@ bearer_selected f l r true false rs e h = cc
 bearer_selected f l r false true rs e h = cc
 bearer_selected f l r false false rs e h = refl
 
-identity-selected : (l : Lnam) (r : Rec) (rs : List Rec) → values_at (order_by identity_parts) (identity_of r) l ++ map name_of (filter (bears l) rs) ≡ map name_of (filter (bears l) (r ∷ rs))
+identity-selected : (l : Lnam) (r : Rec) (rs : List Rec) → values_at (order_by identity_parts) (identity_of r) l
+    ++ map name_of (filter (bears l) rs) ≡ map name_of (filter (bears l) (r ∷ rs))
 identity-selected l (V v) rs = refl
-identity-selected l (F f) rs = bearer_selected f.name f.foid (F f) (is_eq (order_by identity_parts f.foid l)) (same_identity l f.foid) (filter (bears l) rs) (identities_tie f.foid l) refl
+identity-selected l (F f) rs = bearer_selected f.name f.foid (F f) (is_eq (order_by identity_parts f.foid l)) (same_identity l f.foid)
+    (filter (bears l) rs) (identities_tie f.foid l) refl
 identity-selected l (H h) rs = refl
 
 -- the bearers of an identifier among all identities of some records

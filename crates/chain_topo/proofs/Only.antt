@@ -16,7 +16,8 @@ empty : {X : Type 0} (xs : List X) → length xs ≡ 0 → xs ≡ []
 empty [] h = refl
 empty (x ∷ xs) h = absurd (omega arith)
 
-only_by : {X : Type 0} (x : X) (later : List X) (first : Option X) (b : Bool) → length (cond b (x ∷ later) later) ≡ 1 → (length later ≡ 1 → the_only later ≡ first)
+only_by : {X : Type 0} (x : X) (later : List X) (first : Option X) (b : Bool) → length (cond b (x ∷ later) later) ≡ 1
+    → (length later ≡ 1 → the_only later ≡ first)
     → the_only (cond b (x ∷ later) later) ≡ cond b (Some x) first
 only_by x later first true e h = let none : later ≡ [] = empty later (omega arith) in ap (λ xs. the_only (x ∷ xs)) none
 only_by x later first false e h = h e

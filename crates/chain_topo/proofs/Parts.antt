@@ -1,5 +1,31 @@
 -- Pairs sorted with each once, cut into keys and values; and the part of the values that one key has.
-use Rattle.std.proofs.Common.{◌≡◌, ℕ, zero, suc, ◌+◌, ◌<◌, ◌≤◌, true, false, List, [], ◌∷◌, length, take, drop, map, filter, get_or, ◌-◌, true≢false, refl, sym, ap, ◌∙◌, arith}
+use Rattle.std.proofs.Common.{
+  ◌≡◌,
+  ℕ,
+  zero,
+  suc,
+  ◌+◌,
+  ◌<◌,
+  ◌≤◌,
+  true,
+  false,
+  List,
+  [],
+  ◌∷◌,
+  length,
+  take,
+  drop,
+  map,
+  filter,
+  get_or,
+  ◌-◌,
+  true≢false,
+  refl,
+  sym,
+  ap,
+  ◌∙◌,
+  arith,
+}
 use Rattle.std.specs.Prelude.{cond}
 use Rattle.std.specs.declared.cmp.Ordering.{Ordering}
 use Rattle.std.specs.declared.cmp.Ordering.TheVariants.{Less, Equal, Greater}
@@ -87,7 +113,8 @@ module _ {K : Type 0} (by_key : K → K → Ordering) (key : K) where
   pub span_rises : (keys : List K) (from to : ℕ) → from ≤ length keys → IsSpan by_key key keys from to → from ≤ to
   span_rises [] from to in_range p = omega arith
   span_rises (k ∷ ks) zero to in_range p = omega arith
-  span_rises (k ∷ ks) (suc from) zero in_range p = absurd (true≢false (not_above_below (by_key k key) (p.below zero k (omega arith)) (p.above zero k (omega arith) (omega arith))))
+  span_rises (k ∷ ks) (suc from) zero in_range p = absurd (true≢false
+      (not_above_below (by_key k key) (p.below zero k (omega arith)) (p.above zero k (omega arith) (omega arith))))
   span_rises (k ∷ ks) (suc from) (suc to) in_range p = let rest = span_rises ks from to (omega arith) (both_later k ks from to p) in omega arith
 
   -- what two searches among sorted keys answer
@@ -108,13 +135,16 @@ module _ {K : Type 0} (by_key : K → K → Ordering) (key : K) where
 
 module _ {K V : Type 0} (by_key : K → K → Ordering) (key : K) where
   passed : (k : K) (v : V) (ps : List (K × V)) → is_eq (by_key k key) ≡ false → values_at by_key ((k, v) ∷ ps) key ≡ values_at by_key ps key
-  passed k v ps e = ap (λ b. map (λ (p : K × V). p.1) (cond b ((k, v) ∷ filter (λ (p : K × V). is_eq (by_key p.0 key)) ps) (filter (λ (p : K × V). is_eq (by_key p.0 key)) ps))) e
+  passed k v ps e = ap (λ b. map (λ (p : K × V). p.1) (cond b ((k, v) ∷ filter (λ (p : K × V). is_eq (by_key p.0 key)) ps)
+      (filter (λ (p : K × V). is_eq (by_key p.0 key)) ps))) e
 
   taken : (k : K) (v : V) (ps : List (K × V)) → is_eq (by_key k key) ≡ true → values_at by_key ((k, v) ∷ ps) key ≡ v ∷ values_at by_key ps key
-  taken k v ps e = ap (λ b. map (λ (p : K × V). p.1) (cond b ((k, v) ∷ filter (λ (p : K × V). is_eq (by_key p.0 key)) ps) (filter (λ (p : K × V). is_eq (by_key p.0 key)) ps))) e
+  taken k v ps e = ap (λ b. map (λ (p : K × V). p.1) (cond b ((k, v) ∷ filter (λ (p : K × V). is_eq (by_key p.0 key)) ps)
+      (filter (λ (p : K × V). is_eq (by_key p.0 key)) ps))) e
 
   -- the values beside the keys that tie
-  pub group-between : (keys : List K) (values : List V) (from to : ℕ) → length keys ≡ length values → IsSpan by_key key keys from to → take (to - from) (drop from values) ≡ values_at by_key (zip keys values) key
+  pub group-between : (keys : List K) (values : List V) (from to : ℕ) → length keys ≡ length values → IsSpan by_key key keys from to
+      → take (to - from) (drop from values) ≡ values_at by_key (zip keys values) key
   group-between [] [] from to long p = cut_nothing V (to - from) from
   group-between [] (v ∷ vs) from to long p = absurd (omega arith)
   group-between (k ∷ ks) [] from to long p = absurd (omega arith)
@@ -122,11 +152,13 @@ module _ {K V : Type 0} (by_key : K → K → Ordering) (key : K) where
       let less : suc to - suc from ≡ to - from = omega arith in
       ap (λ n. take n (drop from vs)) less ∙ group-between ks vs from to (omega arith) (both_later by_key key k ks from to p)
       ∙ sym (passed k v (zip ks vs) (not_equal_below (by_key k key) (p.below zero k (omega arith))))
-  group-between (k ∷ ks) (v ∷ vs) (suc from) zero long p = absurd (true≢false (not_above_below (by_key k key) (p.below zero k (omega arith)) (p.above zero k (omega arith) (omega arith))))
+  group-between (k ∷ ks) (v ∷ vs) (suc from) zero long p = absurd
+      (true≢false (not_above_below (by_key k key) (p.below zero k (omega arith)) (p.above zero k (omega arith) (omega arith))))
   group-between (k ∷ ks) (v ∷ vs) zero (suc to) long p =
       let same : suc to - zero ≡ suc to = omega arith in
       let same_later : to ≡ to - zero = omega arith in
-      ap (λ n. take n (v ∷ vs)) same ∙ ap (λ n. v ∷ take n vs) same_later ∙ ap (λ ws. v ∷ ws) (group-between ks vs zero to (omega arith) (end_later by_key key k ks to p))
+      ap (λ n. take n (v ∷ vs)) same ∙ ap (λ n. v ∷ take n vs) same_later
+      ∙ ap (λ ws. v ∷ ws) (group-between ks vs zero to (omega arith) (end_later by_key key k ks to p))
       ∙ sym (taken k v (zip ks vs) (equal_between (by_key k key) (p.not_below zero k (omega arith) (omega arith)) (p.not_above zero k (omega arith))))
   group-between (k ∷ ks) (v ∷ vs) zero zero long p =
       group-between ks vs zero zero (omega arith) (none_later by_key key k ks p)
@@ -138,7 +170,8 @@ module _ {K V : Type 0} (by_key : K → K → Ordering) (by_value : V → V → 
   not_less_after p q Equal e h = ap is_lt (total.antisymm q.0 p.0 ∙ ap ordering_reverse e)
   not_less_after p q Greater e h = cc
 
-  rises_from : (ps : List (K × V)) → IsStrictlySortedBy (pair_order by_key by_value) ps → (i j : ℕ) (d : K) → j ≡ i + 1 → j < length (map (λ (p : K × V). p.0) ps)
+  rises_from : (ps : List (K × V)) → IsStrictlySortedBy (pair_order by_key by_value) ps → (i j : ℕ) (d : K) → j ≡ i + 1
+      → j < length (map (λ (p : K × V). p.0) ps)
       → is_lt (by_key (get_or (map (λ (p : K × V). p.0) ps) j d) (get_or (map (λ (p : K × V). p.0) ps) i d)) ≡ false
   unfolding IsStrictlySortedBy
   rises_from [] h i j d e l = absurd (omega arith)

@@ -1,5 +1,30 @@
 -- A record that can be written has fewer pointers than a record may have bytes: each takes a byte or more.
-use Rattle.std.proofs.Common.{◌≡◌, ℕ, ◌<◌, ◌≤◌, true, false, Bool, List, [], ◌∷◌, ◌++◌, length, sum_by, codes, map, None, Some, refl, sym, subst, ltb-false, arith, length-append, if◌then◌else◌}
+use Rattle.std.proofs.Common.{
+  ◌≡◌,
+  ℕ,
+  ◌<◌,
+  ◌≤◌,
+  true,
+  false,
+  Bool,
+  List,
+  [],
+  ◌∷◌,
+  ◌++◌,
+  length,
+  sum_by,
+  codes,
+  map,
+  None,
+  Some,
+  refl,
+  sym,
+  subst,
+  ltb-false,
+  arith,
+  length-append,
+  if◌then◌else◌,
+}
 use Rattle.std.specs.Prelude.{not, nat_lt}
 use Rattle.std.specs.List.{All, flat_map}
 use Rattle.std.specs.Borrow.{Bor}
@@ -31,12 +56,18 @@ rows_le f some [] = omega arith
 rows_le f some (x ∷ xs) = omega (arith, sum_by-cons f x xs, some x, rows_le f some xs)
 
 -- the rows of a field
-field_le : {X : Type 0} (tag : List ℕ) (row : X → List Subfield) → ((x : X) → 0 < length (row_bytes (row x))) → (xs : List X) → length xs ≤ sum_by size (rows_field 0 tag row xs)
+field_le : {X : Type 0} (tag : List ℕ) (row : X → List Subfield) → ((x : X) → 0 < length (row_bytes (row x))) → (xs : List X)
+    → length xs ≤ sum_by size (rows_field 0 tag row xs)
 unfolding size
 field_le tag row some [] = omega arith
 field_le tag row some (x ∷ xs) =
     let rows = flat_map (λ y. row_bytes (row y)) (x ∷ xs) in
-    omega (arith, length-append rows (terminator_of 0), length-flat_map (λ y. row_bytes (row y)) (x ∷ xs), rows_le (λ y. length (row_bytes (row y))) some (x ∷ xs))
+    omega (
+      arith,
+      length-append rows (terminator_of 0),
+      length-flat_map (λ y. row_bytes (row y)) (x ∷ xs),
+      rows_le (λ y. length (row_bytes (row y))) some (x ∷ xs),
+    )
 
 sizes_le : (fields : List Field) → sum_by size fields ≤ record_length (field_lengths fields)
 unfolding size
@@ -56,18 +87,22 @@ ends_le nall v =
     omega (
       arith,
       field_le (codes "VRPT") end_row (λ e. omega arith) v.ends,
-      second_le (head ++ rows_field 0 (codes "ATTV") (attribute_row 0) v.attrs) (rows_field 0 (codes "VRPT") end_row v.ends) (rows_field 0 (codes "SG2D") plane_row v.plane) (rows_field 0 (codes "SG3D") deep_row v.deep),
+      second_le (head ++ rows_field 0 (codes "ATTV") (attribute_row 0) v.attrs) (rows_field 0 (codes "VRPT") end_row v.ends)
+          (rows_field 0 (codes "SG2D") plane_row v.plane) (rows_field 0 (codes "SG3D") deep_row v.deep),
       sizes_le (vector_fields 0 v),
     )
 
 places_le : (nall : ℕ) (f : Feature) → length f.places ≤ written_length nall (F f)
 unfolding size
 places_le nall f =
-    let head = number_field 0 ∷ field_of (codes "FRID") (frid_row (record { rcid = f.name.id; prim = f.prim; grup = f.grup; objl = f.objl; rver = f.rver; ruin = 1 })) ∷ field_of (codes "FOID") (foid_row f.foid) ∷ [] in
+    let head = number_field 0 ∷ field_of (codes "FRID") (frid_row
+    (record { rcid = f.name.id; prim = f.prim; grup = f.grup; objl = f.objl; rver = f.rver; ruin = 1 })) ∷ field_of (codes "FOID")
+    (foid_row f.foid) ∷ [] in
     omega (
       arith,
       field_le (codes "FSPT") place_row (λ s. omega arith) f.places,
-      last_le (head ++ rows_field 0 (codes "ATTF") (attribute_row 0) f.attf ++ rows_field nall (codes "NATF") (attribute_row nall) f.natf ++ rows_field 0 (codes "FFPT") partner_row f.partners) (rows_field 0 (codes "FSPT") place_row f.places),
+      last_le (head ++ rows_field 0 (codes "ATTF") (attribute_row 0) f.attf ++ rows_field nall (codes "NATF") (attribute_row nall) f.natf
+          ++ rows_field 0 (codes "FFPT") partner_row f.partners) (rows_field 0 (codes "FSPT") place_row f.places),
       sizes_le (feature_fields nall 0 f),
     )
 
@@ -81,7 +116,8 @@ unfolding unfitness
 fit_is_short nall r fit = by (has_good_names r) (has_good_texts nall r) (nat_lt length_limit (written_length nall r)) refl fit
   where
     by : (names texts long : Bool) → nat_lt length_limit (written_length nall r) ≡ long
-        → (if not names then Some BadName else (if not texts then Some BadText else (if long then Some TooLong else None))) ≡ None → written_length nall r ≤ length_limit
+        → (if not names then Some BadName else (if not texts then Some BadText else (if long then Some TooLong else None))) ≡ None
+        → written_length nall r ≤ length_limit
     by true true false long e = ltb-false _ _ long
     by true true true long e = absurd cc
     by true false long is e = absurd cc
@@ -91,7 +127,8 @@ pub fit_has_few_pointers : (nall : ℕ) (r : Rec) → unfitness nall r ≡ None 
 fit_has_few_pointers nall r fit = omega (arith, targets_le nall r, fit_is_short nall r fit)
 
 -- the records of a list that can be written
-pub all_have_few_pointers : (nall : ℕ) (rs : List Rec) (held : List (Bor Rec)) → map (λ (r : Bor Rec). r.now) held ≡ rs → All (λ r. unfitness nall r ≡ None) rs → All (λ (r : Bor Rec). HasFewPointers r.now) held
+pub all_have_few_pointers : (nall : ℕ) (rs : List Rec) (held : List (Bor Rec)) → map (λ (r : Bor Rec). r.now) held ≡ rs
+    → All (λ r. unfitness nall r ≡ None) rs → All (λ (r : Bor Rec). HasFewPointers r.now) held
 all_have_few_pointers nall rs held same fit =
     let now : Bor Rec → Rec = λ r. r.now in
     let few : All HasFewPointers (map now held) = subst (All HasFewPointers) (sym same) (All-weaker _ HasFewPointers (fit_has_few_pointers nall) rs fit) in

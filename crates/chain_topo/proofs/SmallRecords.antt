@@ -1,5 +1,31 @@
 -- Small records can be written, and names that differ in their parts are distinct: for the cells of tests.
-use Rattle.std.proofs.Common.{◌≡◌, ℕ, ◌+◌, ◌*◌, ◌-◌, ◌<◌, ◌≤◌, ◌&&◌, Bool, true, false, List, [], ◌∷◌, ◌++◌, length, take, map, fold, None, Some, refl, ap, ◌∙◌, arith}
+use Rattle.std.proofs.Common.{
+  ◌≡◌,
+  ℕ,
+  ◌+◌,
+  ◌*◌,
+  ◌-◌,
+  ◌<◌,
+  ◌≤◌,
+  ◌&&◌,
+  Bool,
+  true,
+  false,
+  List,
+  [],
+  ◌∷◌,
+  ◌++◌,
+  length,
+  take,
+  map,
+  fold,
+  None,
+  Some,
+  refl,
+  ap,
+  ◌∙◌,
+  arith,
+}
 use Rattle.std.specs.Prelude.{◌==◌, cond, not, nat_lt, ℤ, max, sum}
 use Rattle.std.specs.List.{list_all, IsDistinct, AllByRecursion, All}
 use Rattle.std.proofs.Math.Nat.{mul-le-mul}
@@ -29,10 +55,12 @@ use Rattle.s57_types.specs.RecordFields.{record_fields, written_length, length_l
 abbrev pub FitsAnywhere : Rec → Type 0
 FitsAnywhere r = (nall : ℕ) → unfitness nall r ≡ None
 
-fit_from_tests : (nall : ℕ) (rec : Rec) → has_good_names rec ≡ true → has_good_texts nall rec ≡ true → nat_lt length_limit (written_length nall rec) ≡ false → unfitness nall rec ≡ None
+fit_from_tests : (nall : ℕ) (rec : Rec) → has_good_names rec ≡ true → has_good_texts nall rec ≡ true
+    → nat_lt length_limit (written_length nall rec) ≡ false → unfitness nall rec ≡ None
 unfolding unfitness
 fit_from_tests nall rec names texts short =
-    ap (λ b. cond (not b) (Some BadName) (cond (not (has_good_texts nall rec)) (Some BadText) (cond (nat_lt length_limit (written_length nall rec)) (Some TooLong) None))) names
+    ap (λ b. cond (not b) (Some BadName) (cond (not (has_good_texts nall rec)) (Some BadText)
+    (cond (nat_lt length_limit (written_length nall rec)) (Some TooLong) None))) names
     ∙ ap (λ b. cond (not b) (Some BadText) (cond (nat_lt length_limit (written_length nall rec)) (Some TooLong) None)) texts
     ∙ ap (λ b. cond b (Some TooLong) None) short
 
@@ -46,7 +74,8 @@ and_right false b h = cc
 
 -- few short fields
 abbrev is_small : List ℕ → Bool
-is_small lengths = nat_lt (fold max 0 lengths) 10000 && (nat_lt (sum (take (length lengths - 1) lengths)) 10000 && (nat_lt (length lengths) 9 && nat_lt (sum lengths) 2000))
+is_small lengths = nat_lt (fold max 0 lengths) 10000 && (nat_lt (sum (take (length lengths - 1) lengths)) 10000 &&
+    (nat_lt (length lengths) 9 && nat_lt (sum lengths) 2000))
 
 less_when : (a b : ℕ) → nat_lt a b ≡ true → a < b
 less_when a b h = grind (arith, nat_tests)
@@ -64,7 +93,8 @@ short_when_small lengths small =
     let count : length lengths < 9 = less_when _ _ (and_left _ _ last) in
     let total : sum lengths < 2000 = less_when _ _ (and_right (nat_lt (length lengths) 9) _ last) in
     let length_digits_few : length_digits lengths ≤ 4 = length-decimal-le 4 (fold max 0 lengths) (omega arith) greatest (omega arith) in
-    let position_digits_few : position_digits lengths ≤ 4 = length-decimal-le 4 (sum (take (length lengths - 1) lengths)) (omega arith) position (omega arith) in
+    let position_digits_few : position_digits lengths ≤ 4 = length-decimal-le 4 (sum (take (length lengths - 1) lengths))
+    (omega arith) position (omega arith) in
     let few : length lengths ≤ 8 = omega arith in
     let short : 4 + length_digits lengths + position_digits lengths ≤ 12 = omega arith in
     let entries : length lengths * (4 + length_digits lengths + position_digits lengths) ≤ 8 * 12 = mul-le-mul few short in
@@ -76,7 +106,8 @@ short_by nall rec small = short_when_small (field_lengths (record_fields nall 0 
 abbrev plain_vector : RecName → List End → List (ℤ × ℤ) → Rec
 plain_vector name ends plane = V (record { name = name; rver = 1; attrs = []; ends = ends; plane = plane; deep = [] })
 
-short_vector : (nall : ℕ) (name : RecName) (ends : List End) (plane : List (ℤ × ℤ)) → length ends ≤ 3 → length plane ≤ 2 → nat_lt length_limit (written_length nall (plain_vector name ends plane)) ≡ false
+short_vector : (nall : ℕ) (name : RecName) (ends : List End) (plane : List (ℤ × ℤ)) → length ends ≤ 3 → length plane ≤ 2
+    → nat_lt length_limit (written_length nall (plain_vector name ends plane)) ≡ false
 short_vector nall name [] [] few_ends few = short_by nall (plain_vector name [] []) refl
 short_vector nall name [] (p ∷ []) few_ends few = short_by nall (plain_vector name [] (p ∷ [])) refl
 short_vector nall name [] (p ∷ q ∷ []) few_ends few = short_by nall (plain_vector name [] (p ∷ q ∷ [])) refl
@@ -96,13 +127,15 @@ short_vector nall name (d ∷ e ∷ f ∷ []) (p ∷ q ∷ r ∷ ps) few_ends fe
 short_vector nall name (d ∷ e ∷ f ∷ g ∷ ends) plane few_ends few = absurd (omega arith)
 
 -- a vector record with few pointers and points fits
-pub vector-fits : (nall : ℕ) (name : RecName) (ends : List End) (plane : List (ℤ × ℤ)) → is_vector_kind name.kind ≡ true → list_all (λ (e : End). is_vector_kind e.to.kind) ends ≡ true
+pub vector-fits : (nall : ℕ) (name : RecName) (ends : List End) (plane : List (ℤ × ℤ)) → is_vector_kind name.kind ≡ true
+    → list_all (λ (e : End). is_vector_kind e.to.kind) ends ≡ true
     → length ends ≤ 3 → length plane ≤ 2 → unfitness nall (plain_vector name ends plane) ≡ None
 vector-fits nall name ends plane kind targets few_ends few =
     fit_from_tests nall (plain_vector name ends plane) (λ i. kind i && targets i) refl
     (short_vector nall name ends plane few_ends few)
 
-pub vector-fits-with : (name : RecName) (attrs : List Attr) (ends : List End) (plane : List (ℤ × ℤ)) (deep : List (ℤ × ℤ × ℤ)) (given_ends : List End) (given_plane : List (ℤ × ℤ)) → attrs ≡ [] → ends ≡ given_ends → plane ≡ given_plane → deep ≡ []
+pub vector-fits-with : (name : RecName) (attrs : List Attr) (ends : List End) (plane : List (ℤ × ℤ)) (deep : List (ℤ × ℤ × ℤ))
+    (given_ends : List End) (given_plane : List (ℤ × ℤ)) → attrs ≡ [] → ends ≡ given_ends → plane ≡ given_plane → deep ≡ []
     → is_vector_kind name.kind ≡ true → list_all (λ (e : End). is_vector_kind e.to.kind) given_ends ≡ true → length given_ends ≤ 3 → length given_plane ≤ 2
     → (nall : ℕ) → unfitness nall (V (record { name = name; rver = 1; attrs = attrs; ends = ends; plane = plane; deep = deep })) ≡ None
 vector-fits-with name attrs ends plane deep given_ends given_plane no_attrs same_ends same_plane no_deep kind targets few_ends few nall =
@@ -110,9 +143,22 @@ vector-fits-with name attrs ends plane deep given_ends given_plane no_attrs same
     ∙ vector-fits nall name given_ends given_plane kind targets few_ends few
 
 abbrev plain_feature : RecName → Lnam → List Spot → Rec
-plain_feature name foid places = F (record { name = name; prim = 3; grup = 1; objl = 42; rver = 1; foid = foid; attf = []; natf = []; partners = []; places = places })
+plain_feature name foid places = F (record {
+  name = name;
+  prim = 3;
+  grup = 1;
+  objl = 42;
+  rver = 1;
+  foid = foid;
+  attf = [];
+  natf =
+      [];
+  partners = [];
+  places = places;
+})
 
-short_feature : (nall : ℕ) (name : RecName) (foid : Lnam) (places : List Spot) → length places ≤ 4 → nat_lt length_limit (written_length nall (plain_feature name foid places)) ≡ false
+short_feature : (nall : ℕ) (name : RecName) (foid : Lnam) (places : List Spot) → length places ≤ 4
+    → nat_lt length_limit (written_length nall (plain_feature name foid places)) ≡ false
 short_feature nall name foid [] few = short_by nall (plain_feature name foid []) refl
 short_feature nall name foid (r ∷ []) few = short_by nall (plain_feature name foid (r ∷ [])) refl
 short_feature nall name foid (r ∷ s ∷ []) few = short_by nall (plain_feature name foid (r ∷ s ∷ [])) refl
@@ -121,16 +167,42 @@ short_feature nall name foid (r ∷ s ∷ t ∷ u ∷ []) few = short_by nall (p
 short_feature nall name foid (r ∷ s ∷ t ∷ u ∷ v ∷ places) few = absurd (omega arith)
 
 -- a feature with few pointers fits
-pub feature-fits : (nall : ℕ) (name : RecName) (foid : Lnam) (places : List Spot) → is_feature_kind name.kind ≡ true → list_all (λ (s : Spot). is_vector_kind s.to.kind) places ≡ true
+pub feature-fits : (nall : ℕ) (name : RecName) (foid : Lnam) (places : List Spot) → is_feature_kind name.kind ≡ true
+    → list_all (λ (s : Spot). is_vector_kind s.to.kind) places ≡ true
     → length places ≤ 4 → unfitness nall (plain_feature name foid places) ≡ None
 feature-fits nall name foid places kind targets few =
     fit_from_tests nall (plain_feature name foid places) (λ i. kind i && targets i) refl (short_feature nall name foid places few)
 
-pub feature-fits-with : (name : RecName) (foid : Lnam) (attf natf : List Attr) (partners : List Partner) (places given : List Spot) → attf ≡ [] → natf ≡ [] → partners ≡ [] → places ≡ given
+pub feature-fits-with : (name : RecName) (foid : Lnam) (attf natf : List Attr) (partners : List Partner) (places given : List Spot)
+    → attf ≡ [] → natf ≡ [] → partners ≡ [] → places ≡ given
     → name.kind ≡ Fe → list_all (λ (s : Spot). is_vector_kind s.to.kind) given ≡ true → length given ≤ 4
-    → (nall : ℕ) → unfitness nall (F (record { name = name; prim = 3; grup = 1; objl = 42; rver = 1; foid = foid; attf = attf; natf = natf; partners = partners; places = places })) ≡ None
+    → (nall : ℕ) → unfitness nall (F (record {
+      name = name;
+      prim = 3;
+      grup = 1;
+      objl = 42;
+      rver = 1;
+      foid = foid;
+      attf =
+          attf;
+      natf = natf;
+      partners = partners;
+      places = places;
+    })) ≡ None
 feature-fits-with name foid attf natf partners places given no_attf no_natf no_partners same kind targets few nall =
-    (λ i. unfitness nall (F (record { name = name; prim = 3; grup = 1; objl = 42; rver = 1; foid = foid; attf = no_attf i; natf = no_natf i; partners = no_partners i; places = same i })))
+    (λ i. unfitness nall (F (record {
+      name = name;
+      prim = 3;
+      grup = 1;
+      objl = 42;
+      rver = 1;
+      foid = foid;
+      attf = no_attf i;
+      natf =
+          no_natf i;
+      partners = no_partners i;
+      places = same i;
+    })))
     ∙ feature-fits nall name foid given (ap is_feature_kind kind) targets few
 
 -- whether two lists of numbers differ
@@ -149,7 +221,8 @@ apart : (b : Bool) → not b ≡ true → b ≡ false
 apart true h = cc
 apart false h = refl
 
-each_apart : (n : RecName) (rs : List Rec) → list_all (differ (name_parts n)) (map parts_of rs) ≡ true → AllByRecursion (λ m. same_name n m ≡ false) (map name_of rs)
+each_apart : (n : RecName) (rs : List Rec) → list_all (differ (name_parts n)) (map parts_of rs) ≡ true
+    → AllByRecursion (λ m. same_name n m ≡ false) (map name_of rs)
 each_apart n [] h = tt
 each_apart n (r ∷ rs) h = (
   apart (same_name n (name_of r)) (and_left (not (same_name n (name_of r))) (list_all (differ (name_parts n)) (map parts_of rs)) h),
@@ -168,7 +241,8 @@ map_four : {X Y : Type 0} (f : X → Y) (a b c d : List X) → map f (a ++ b ++ 
 map_four f a b c d = map-append f (a ++ b ++ c) d ∙ ap (λ z. z ++ map f d) (map-append f (a ++ b) c ∙ ap (λ z. z ++ map f c) (map-append f a b))
 
 -- a cell of records that fit, whose names are these, can be looked into
-pub readable-from_parts : (c : Cell) (vi vc ve fe : List (List ℕ)) → map parts_of c.vi ≡ vi → map parts_of c.vc ≡ vc → map parts_of c.ve ≡ ve → map parts_of c.fe ≡ fe
+pub readable-from_parts : (c : Cell) (vi vc ve fe : List (List ℕ)) → map parts_of c.vi ≡ vi → map parts_of c.vc ≡ vc → map parts_of c.ve ≡ ve
+    → map parts_of c.fe ≡ fe
     → all_differ (vi ++ vc ++ ve ++ fe) ≡ true → length (vi ++ vc ++ ve ++ fe) ≤ 266240
     → All FitsAnywhere c.vi → All FitsAnywhere c.vc → All FitsAnywhere c.ve → All FitsAnywhere c.fe → IsReadable c
 readable-from_parts c vi vc ve fe vi_is vc_is ve_is fe_is differs few f g h k =

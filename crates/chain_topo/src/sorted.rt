@@ -120,7 +120,8 @@ fn find_sorted<'a>(records: &[&'a Rec], name: RecName) -> Option<&'a Rec>
 // The pointers of records in groups by target.
 fn group_pointers(alloc: Global, records: &[&Rec]) -> Result<Groups<RecName, Ref>, AllocError>
     requires { All (λ (r : Bor SpecRec). HasFewPointers r.now) records.now }
-    ensures { IfOk result (λ groups. (n : SpecRecName) → values_at name_order groups n ≡ ascending ref_order (flat_map (pointers_in n) (map (λ (r : Bor SpecRec). r.now) records.now))) }
+    ensures { IfOk result (λ groups. (n : SpecRecName) → values_at name_order groups n ≡ ascending ref_order
+        (flat_map (pointers_in n) (map (λ (r : Bor SpecRec). r.now) records.now))) }
 {
     orders_are_by_parts();
     let list = list_pointers(alloc, records)?;
@@ -136,7 +137,8 @@ fn pointers_to(pointers: &Groups<RecName, Ref>, name: RecName) -> &[Ref]
 
 // The names of features in groups by the identifier that they bear.
 fn group_identities(alloc: Global, records: &[&Rec]) -> Result<Groups<Lnam, RecName>, AllocError>
-    ensures { IfOk result (λ groups. (l : SpecLnam) → values_at (order_by identity_parts) groups l ≡ ascending name_order (map spec_name (filter (bears l) (map (λ (r : Bor SpecRec). r.now) records.now)))) }
+    ensures { IfOk result (λ groups. (l : SpecLnam) → values_at (order_by identity_parts) groups l ≡ ascending name_order
+        (map spec_name (filter (bears l) (map (λ (r : Bor SpecRec). r.now) records.now)))) }
 {
     orders_are_by_parts();
     let list = list_identities(alloc, records)?;

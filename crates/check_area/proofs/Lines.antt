@@ -29,7 +29,8 @@ asked_by keys ends (Some end) m e f h =
     let same : end.to ≡ m = cc in
     ap (λ n. has_key keys (Name n)) (sym same) ∙ only_has (λ (e : End). has_key keys (Name e.to) ≡ true) ends end e h
 
-pub node_asked : (keys : List Key) (topi : ℕ) (e : Vector) (m : RecName) → node_at topi e ≡ Some m → All (λ (e : End). has_key keys (Name e.to) ≡ true) e.ends → has_key keys (Name m) ≡ true
+pub node_asked : (keys : List Key) (topi : ℕ) (e : Vector) (m : RecName) → node_at topi e ≡ Some m
+    → All (λ (e : End). has_key keys (Name e.to) ≡ true) e.ends → has_key keys (Name m) ≡ true
 node_asked keys topi e m found h =
     let at : List End = filter (λ (end : End). end.topi == topi) e.ends in
     asked_by keys at (the_only at) m refl found (All-filter (λ (end : End). end.topi == topi) (λ (e : End). has_key keys (Name e.to) ≡ true) e.ends h)
@@ -40,7 +41,8 @@ none_last b points None = refl
 none_last b points (Some p) = refl
 
 both_by : (b n : RecName) (points : List Point) (p q : Option Point)
-    → option_map sweep_of (option_and_then (λ (p : Point). option_map (λ (q : Point). line_from (record { node = b; at = p }) points (record { node = n; at = q })) q) p)
+    → option_map sweep_of (option_and_then (λ (p : Point). option_map
+    (λ (q : Point). line_from (record { node = b; at = p }) points (record { node = n; at = q })) q) p)
     ≡ sweep_if (option_map (λ (at : Point). record { node = b; at = at }) p) points (option_map (λ (at : Point). record { node = n; at = at }) q)
 both_by b n points None q = refl
 both_by b n points (Some p) None = refl

@@ -13,7 +13,8 @@ lengths_back : (done : ℕ) (lengths : List ℕ) → map length_of_block (blocks
 lengths_back done [] = refl
 lengths_back done (n ∷ lengths) = let here : done + n + 1 - (done + 1) ≡ n = omega arith in λ i. here i ∷ lengths_back (done + n) lengths i
 
-open_by : (loops : List (List Part)) (lengths : List ℕ) (place : ℕ) (found : Option ℕ) → OpenAt place ≡ cut_by lengths found → finding OPEN_RING (place ∷ []) ∷ [] ≡ findings_by loops found
+open_by : (loops : List (List Part)) (lengths : List ℕ) (place : ℕ) (found : Option ℕ) → OpenAt place ≡ cut_by lengths found
+    → finding OPEN_RING (place ∷ []) ∷ [] ≡ findings_by loops found
 open_by loops lengths place None e = cc
 open_by loops lengths place (Some p) e = let same : place ≡ p = cc in ap (λ (p : ℕ). finding OPEN_RING (p ∷ []) ∷ []) same
 
@@ -28,7 +29,8 @@ whole_by parts lengths blocks None e =
     ap (λ ns. findings_of_loops (blocks_of ns parts)) (ap (map length_of_block) same ∙ lengths_back 0 lengths)
 whole_by parts lengths blocks (Some p) e = cc
 
-pub whole_found : (parts : List Part) (blocks : List Block) (lengths : List ℕ) → Whole blocks ≡ cut_of (map arc_of_part parts) → lengths ≡ map length_of_block blocks
+pub whole_found : (parts : List Part) (blocks : List Block) (lengths : List ℕ) → Whole blocks ≡ cut_of (map arc_of_part parts)
+    → lengths ≡ map length_of_block blocks
     → findings_of_loops (blocks_of lengths parts) ≡ findings_of_parts parts
 unfolding findings_of_parts
 whole_found parts blocks lengths e f =

@@ -1,5 +1,37 @@
 -- The parts of a boundary, place after place, and the rows that they are of.
-use Rattle.std.proofs.Common.{◌≡◌, ℕ, ◌+◌, ◌<◌, ◌==◌, ◌&&◌, Bool, true, false, List, [], ◌∷◌, ◌++◌, Option, None, Some, length, map, drop, get_or, filter_map, option_map, is_some, cond, refl, sym, ap, ◌∙◌, append_assoc, append-nil, arith}
+use Rattle.std.proofs.Common.{
+  ◌≡◌,
+  ℕ,
+  ◌+◌,
+  ◌<◌,
+  ◌==◌,
+  ◌&&◌,
+  Bool,
+  true,
+  false,
+  List,
+  [],
+  ◌∷◌,
+  ◌++◌,
+  Option,
+  None,
+  Some,
+  length,
+  map,
+  drop,
+  get_or,
+  filter_map,
+  option_map,
+  is_some,
+  cond,
+  refl,
+  sym,
+  ap,
+  ◌∙◌,
+  append_assoc,
+  append-nil,
+  arith,
+}
 use Rattle.std.specs.Prelude.{option_and_then, if◌then◌else◌}
 use Rattle.std.specs.BTreeMap.{BTreeMap}
 use Rattle.std.specs.List.{All, AllByRecursion, cons_option, enumerate_from, list_all}
@@ -20,7 +52,23 @@ use Rattle.rule_spec.specs.Reads.{read_set}
 use Rattle.geometry_spec.specs.Points.{Point}
 use Rattle.rule_spec.specs.declared.line.BoundaryRow.{BoundaryRow}
 use Rattle.rule_spec.specs.declared.line.EdgeLine.{EdgeLine}
-use Rattle.rule_spec.specs.Boundary.{boundary_of, boundary_row, has_points, has_usable_boundary, is_clean, line_along, mixed_ring, mixed_ring_of, open_ring, open_ring_of, outer_count, outer_count_of, reversed_line, wrong_turn, wrong_turn_of}
+use Rattle.rule_spec.specs.Boundary.{
+  boundary_of,
+  boundary_row,
+  has_points,
+  has_usable_boundary,
+  is_clean,
+  line_along,
+  mixed_ring,
+  mixed_ring_of,
+  open_ring,
+  open_ring_of,
+  outer_count,
+  outer_count_of,
+  reversed_line,
+  wrong_turn,
+  wrong_turn_of,
+}
 use Rattle.rule_spec.specs.EdgePoints.{edge_line_of, line_between, line_of, node_at, node_position}
 use Rattle.rule_spec.specs.Features.{bad_codes, dangling_ref, prim_refs, target}
 use Rattle.rule_spec.specs.Findings.{finding}
@@ -40,7 +88,8 @@ pub record IsSoFar (c : Cell) (known : BTreeMap ℕ LineSweep) (parts : List Par
   pub usable : list_all (has_points c) (drop k places) ≡ list_all (has_points c) places
   pub parted : parts ++ filter_map (part_at c) (enumerate_from (k + 1) (drop k places)) ≡ filter_map (part_at c) (enumerate_from 1 places)
 
-has_by : (s : Spot) (place : ℕ) (line : Option EdgeLine) (part : Part) → Some part ≡ option_map (part_along place s) (option_map sweep_of line) → is_some line ≡ true
+has_by : (s : Spot) (place : ℕ) (line : Option EdgeLine) (part : Part) → Some part ≡ option_map (part_along place s) (option_map sweep_of line)
+    → is_some line ≡ true
 has_by s place None part e = absurd cc
 has_by s place (Some line) part e = refl
 
@@ -49,15 +98,18 @@ has_not_by s place None e = refl
 has_not_by s place (Some line) e = absurd cc
 
 one_taken : (c : Cell) (s : Spot) (rest : List Spot) (parts all : List Part) (k : ℕ) (part : Part) → Some part ≡ part_at c (k + 1, s)
-    → parts ++ filter_map (part_at c) (enumerate_from (k + 1) (s ∷ rest)) ≡ all → (parts ++ part ∷ []) ++ filter_map (part_at c) (enumerate_from (k + 1 + 1) rest) ≡ all
+    → parts ++ filter_map (part_at c) (enumerate_from (k + 1) (s ∷ rest)) ≡ all → (parts ++ part ∷ [])
+    ++ filter_map (part_at c) (enumerate_from (k + 1 + 1) rest) ≡ all
 one_taken c s rest parts all k part e h =
     append_assoc parts (part ∷ []) (filter_map (part_at c) (enumerate_from (k + 1 + 1) rest))
     ∙ ap (λ found. parts ++ cons_option found (filter_map (part_at c) (enumerate_from (k + 1 + 1) rest))) e
     ∙ h
 
 -- one place on
-pub place_taken : (c : Cell) (known next : BTreeMap ℕ LineSweep) (parts : List Part) (k : ℕ) (places : List Spot) (d : Spot) (place : ℕ) (part : Part) → k < length places
-    → IsSoFar c known parts k places → HoldsSweeps c next → place ≡ k + 1 → Some part ≡ part_at c (place, get_or places k d) → IsSoFar c next (parts ++ part ∷ []) (k + 1) places
+pub place_taken : (c : Cell) (known next : BTreeMap ℕ LineSweep) (parts : List Part) (k : ℕ) (places : List Spot) (d : Spot)
+    (place : ℕ) (part : Part) → k < length places
+    → IsSoFar c known parts k places → HoldsSweeps c next → place ≡ k + 1 → Some part ≡ part_at c (place, get_or places k d)
+    → IsSoFar c next (parts ++ part ∷ []) (k + 1) places
 place_taken c known next parts k places d place part within so_far held number found =
     let s = get_or places k d in
     let is = found ∙ ap (λ n. part_at c (n, s)) number in
@@ -66,7 +118,8 @@ place_taken c known next parts k places d place part within so_far held number f
     record {
       held = held;
       usable = ap (λ b. b && list_all (has_points c) (drop (k + 1) places)) (sym has) ∙ ap (list_all (has_points c)) (sym left) ∙ so_far.usable;
-      parted = one_taken c s (drop (k + 1) places) parts _ k part is (ap (λ l. parts ++ filter_map (part_at c) (enumerate_from (k + 1) l)) (sym left) ∙ so_far.parted);
+      parted = one_taken c s (drop (k + 1) places) parts _ k part is
+          (ap (λ l. parts ++ filter_map (part_at c) (enumerate_from (k + 1) l)) (sym left) ∙ so_far.parted);
     }
 
 -- a place that names no edge with points
@@ -76,10 +129,12 @@ place_refused c known parts k places d place within so_far number found =
     let s = get_or places k d in
     let is = found ∙ ap (λ n. part_at c (n, s)) number in
     let left = drop_more places k d within in
-    let none = ap (λ b. b && list_all (has_points c) (drop (k + 1) places)) (sym (has_not_by s (k + 1) (edge_line_of c (target s)) is)) ∙ ap (list_all (has_points c)) (sym left) ∙ so_far.usable in
+    let none = ap (λ b. b && list_all (has_points c) (drop (k + 1) places)) (sym (has_not_by s (k + 1) (edge_line_of c (target s)) is))
+    ∙ ap (list_all (has_points c)) (sym left) ∙ so_far.usable in
     ap (λ b. if b then Some (filter_map (part_at c) (enumerate_from 1 places)) else None) none
 
-none_left : (c : Cell) (known : BTreeMap ℕ LineSweep) (parts : List Part) (k : ℕ) (places rest : List Spot) → length rest ≡ 0 → drop k places ≡ rest → IsSoFar c known parts k places
+none_left : (c : Cell) (known : BTreeMap ℕ LineSweep) (parts : List Part) (k : ℕ) (places rest : List Spot) → length rest ≡ 0
+    → drop k places ≡ rest → IsSoFar c known parts k places
     → Some parts ≡ parts_of c places
 none_left c known parts k places [] h left so_far =
     let usable = ap (list_all (has_points c)) (sym left) ∙ so_far.usable in
@@ -88,7 +143,8 @@ none_left c known parts k places [] h left so_far =
 none_left c known parts k places (s ∷ rest) h left so_far = absurd (omega (arith, h))
 
 -- all places
-pub all_taken : (c : Cell) (known : BTreeMap ℕ LineSweep) (parts : List Part) (k : ℕ) (places : List Spot) → length (drop k places) ≡ 0 → IsSoFar c known parts k places
+pub all_taken : (c : Cell) (known : BTreeMap ℕ LineSweep) (parts : List Part) (k : ℕ) (places : List Spot) → length (drop k places) ≡ 0
+    → IsSoFar c known parts k places
     → Some parts ≡ parts_of c places
 all_taken c known parts k places h so_far = none_left c known parts k places (drop k places) h refl so_far
 
@@ -103,11 +159,13 @@ all_asked c n f keys is_set found area = λ k d within. record {
 
 -- ---- the rows
 row_by : (place : ℕ) (s : Spot) (line : Option EdgeLine)
-    → option_map (part_along place s) (option_map sweep_of line) ≡ option_map part_of (option_map (λ (line : EdgeLine). record { place = place; usag = s.usag; line = line_along s.ornt line }) line)
+    → option_map (part_along place s) (option_map sweep_of line) ≡ option_map part_of
+    (option_map (λ (line : EdgeLine). record { place = place; usag = s.usag; line = line_along s.ornt line }) line)
 row_by place s None = refl
 row_by place s (Some line) = λ i. Some (record { place = place; usag = s.usag; sweep = sym (sweep-along s.ornt line) i })
 
-parts_by : (found : Option Part) (row : Option BoundaryRow) (parts : List Part) (rows : List BoundaryRow) → found ≡ option_map part_of row → parts ≡ map part_of rows
+parts_by : (found : Option Part) (row : Option BoundaryRow) (parts : List Part) (rows : List BoundaryRow) → found ≡ option_map part_of row
+    → parts ≡ map part_of rows
     → cons_option found parts ≡ map part_of (cons_option row rows)
 parts_by found None parts rows e h = (λ i. cons_option (e i) (h i))
 parts_by found (Some row) parts rows e h = (λ i. cons_option (e i) (h i))
@@ -115,7 +173,8 @@ parts_by found (Some row) parts rows e h = (λ i. cons_option (e i) (h i))
 parts_are : (c : Cell) (pointers : List (ℕ × Spot)) → filter_map (part_at c) pointers ≡ map part_of (filter_map (boundary_row c) pointers)
 parts_are c [] = refl
 parts_are c (p ∷ pointers) =
-    parts_by (part_at c p) (boundary_row c p) (filter_map (part_at c) pointers) (filter_map (boundary_row c) pointers) (row_by p.0 p.1 (edge_line_of c (target p.1))) (parts_are c pointers)
+    parts_by (part_at c p) (boundary_row c p) (filter_map (part_at c) pointers) (filter_map (boundary_row c) pointers)
+    (row_by p.0 p.1 (edge_line_of c (target p.1))) (parts_are c pointers)
 
 -- ---- every row has points
 HasSome : Option EdgeLine → Type 0
@@ -149,18 +208,25 @@ along_has true line h = omega (arith, h, length-reverse line.points)
 along_has false line h = h
 
 rows_by : (place : ℕ) (s : Spot) (line : Option EdgeLine) (rows : List BoundaryRow) → HasSome line → AllByRecursion HasPoints rows
-    → AllByRecursion HasPoints (cons_option (option_map (λ (line : EdgeLine). record { place = place; usag = s.usag; line = line_along s.ornt line }) line) rows)
+    → AllByRecursion HasPoints (cons_option (option_map (λ (line : EdgeLine). record {
+      place = place;
+      usag = s.usag;
+      line =
+          line_along s.ornt line;
+    }) line) rows)
 unfolding HasSome
 rows_by place s None rows has h = h
 rows_by place s (Some line) rows has h = (along_has (s.ornt == 2) line has, h)
 
 rows_have : (c : Cell) (pointers : List (ℕ × Spot)) → AllByRecursion HasPoints (filter_map (boundary_row c) pointers)
 rows_have c [] = tt
-rows_have c (p ∷ pointers) = rows_by p.0 p.1 (edge_line_of c (target p.1)) (filter_map (boundary_row c) pointers) (edge_has c (target p.1)) (rows_have c pointers)
+rows_have c (p ∷ pointers) = rows_by p.0 p.1 (edge_line_of c (target p.1)) (filter_map (boundary_row c) pointers) (edge_has c (target p.1))
+    (rows_have c pointers)
 
 -- ---- the findings
 abbrev pub area_rules : Cell → Feature → List Finding
-area_rules c f = map (finding OPEN_RING) (open_ring c f) ++ (map (finding MIXED_RING) (mixed_ring c f) ++ (map (finding OUTER_COUNT) (outer_count c f) ++ map (finding WRONG_TURN) (wrong_turn c f)))
+area_rules c f = map (finding OPEN_RING) (open_ring c f) ++ (map (finding MIXED_RING) (mixed_ring c f)
+    ++ (map (finding OUTER_COUNT) (outer_count c f) ++ map (finding WRONG_TURN) (wrong_turn c f)))
 
 module _ (c : Cell) (f : Feature) (area : (f.prim == 3) ≡ true) (fits : prim_refs c f ≡ []) (there : dangling_ref c f ≡ []) (coded : bad_codes c f ≡ []) where
   usable_by : has_usable_boundary c f ≡ list_all (has_points c) f.places

@@ -1,22 +1,84 @@
 -- What is found of the rows of a boundary is what is found of their parts.
-use Rattle.std.proofs.Common.{◌≡◌, ℕ, zero, suc, ◌==◌, Bool, true, false, not, ◌&&◌, ◌||◌, pos, List, [], ◌∷◌, ◌++◌, length, map, filter, take, drop, Option, None, Some, cond, refl, sym, ap, ◌∙◌, ne_eqb, arith}
+use Rattle.std.proofs.Common.{
+  ◌≡◌,
+  ℕ,
+  zero,
+  suc,
+  ◌==◌,
+  Bool,
+  true,
+  false,
+  not,
+  ◌&&◌,
+  ◌||◌,
+  pos,
+  List,
+  [],
+  ◌∷◌,
+  ◌++◌,
+  length,
+  map,
+  filter,
+  take,
+  drop,
+  Option,
+  None,
+  Some,
+  cond,
+  refl,
+  sym,
+  ap,
+  ◌∙◌,
+  ne_eqb,
+  arith,
+}
 use Rattle.std.specs.Prelude.{int_lt, if◌then◌else◌}
 use Rattle.std.specs.List.{AllByRecursion, list_any}
 use Rattle.std.proofs.lemmas.List.{append-nil, take-map, drop-map}
 use Rattle.cell_spec.specs.declared.finding.Finding.{Finding}
 use Rattle.rule_spec.specs.declared.kind.TheConstants.{MIXED_RING, OPEN_RING, OUTER_COUNT, WRONG_TURN}
 use Rattle.rule_spec.specs.declared.line.BoundaryRow.{BoundaryRow}
-use Rattle.rule_spec.specs.Boundary.{arc_of, first_place, is_clean, is_exterior, is_interior, is_interior_row, is_mixed, loops_of, mixed_ring_of, open_ring_of, outer_count_of, turns_wrongly, wrong_turn_of}
+use Rattle.rule_spec.specs.Boundary.{
+  arc_of,
+  first_place,
+  is_clean,
+  is_exterior,
+  is_interior,
+  is_interior_row,
+  is_mixed,
+  loops_of,
+  mixed_ring_of,
+  open_ring_of,
+  outer_count_of,
+  turns_wrongly,
+  wrong_turn_of,
+}
 use Rattle.rule_spec.specs.Findings.{finding}
 use Rattle.rule_spec.specs.Loops.{blocks_of, first_open_place, loop_lengths}
 use Rattle.rule_spec.specs.Rule.{Found, found_at, found_if}
 use Rattle.check_area.specs.declared.part.Part.{Part}
-use Rattle.check_area.specs.Parts.{arc_of_part, exterior_count, findings_by, findings_of_parts, is_exterior_loop, is_interior_loop, is_interior_part, is_mixed_loop, loops_of_parts, mixed_loops, part_of, place_of_loop, turns_against_usage, wrong_loops}
+use Rattle.check_area.specs.Parts.{
+  arc_of_part,
+  exterior_count,
+  findings_by,
+  findings_of_parts,
+  is_exterior_loop,
+  is_interior_loop,
+  is_interior_part,
+  is_mixed_loop,
+  loops_of_parts,
+  mixed_loops,
+  part_of,
+  place_of_loop,
+  turns_against_usage,
+  wrong_loops,
+}
 use Rattle.check_area.proofs.Turns.{HasPoints, turn-rows}
 
 blocks-map : {X Y : Type 0} (f : X → Y) (lengths : List ℕ) (xs : List X) → blocks_of lengths (map f xs) ≡ map (map f) (blocks_of lengths xs)
 blocks-map f [] xs = refl
-blocks-map f (n ∷ lengths) xs = (λ i. take-map f n xs i ∷ blocks_of lengths (drop-map f n xs i)) ∙ ap (λ bs. map f (take n xs) ∷ bs) (blocks-map f lengths (drop n xs))
+blocks-map f (n ∷ lengths) xs = (λ i. take-map f n xs i ∷ blocks_of lengths (drop-map f n xs i)) ∙ ap (λ bs. map f (take n xs) ∷ bs)
+    (blocks-map f lengths (drop n xs))
 
 arcs-map : (rows : List BoundaryRow) → map arc_of_part (map part_of rows) ≡ map arc_of rows
 arcs-map [] = refl
@@ -45,14 +107,16 @@ place-map : (loop : List BoundaryRow) → place_of_loop (map part_of loop) ≡ f
 place-map [] = refl
 place-map (row ∷ rows) = refl
 
-places_by : (p q : Bool) (loop : List BoundaryRow) (parts : List (List Part)) (rows : List (List BoundaryRow)) → p ≡ q → map place_of_loop parts ≡ map first_place rows
+places_by : (p q : Bool) (loop : List BoundaryRow) (parts : List (List Part)) (rows : List (List BoundaryRow)) → p ≡ q
+    → map place_of_loop parts ≡ map first_place rows
     → map place_of_loop (cond p (map part_of loop ∷ parts) parts) ≡ map first_place (cond q (loop ∷ rows) rows)
 places_by true true loop parts rows e h = λ i. place-map loop i ∷ h i
 places_by false false loop parts rows e h = h
 places_by true false loop parts rows e h = cc
 places_by false true loop parts rows e h = cc
 
-places-map : (p : List Part → Bool) (q : List BoundaryRow → Bool) (loops : List (List BoundaryRow)) → AllByRecursion (λ loop. p (map part_of loop) ≡ q loop) loops
+places-map : (p : List Part → Bool) (q : List BoundaryRow → Bool) (loops : List (List BoundaryRow))
+    → AllByRecursion (λ loop. p (map part_of loop) ≡ q loop) loops
     → map place_of_loop (filter p (map (map part_of) loops)) ≡ map first_place (filter q loops)
 places-map p q [] h = refl
 places-map p q (loop ∷ loops) h =
@@ -65,7 +129,8 @@ count_by false false loop parts rows e h = h
 count_by true false loop parts rows e h = cc
 count_by false true loop parts rows e h = cc
 
-count-map : (p : List Part → Bool) (q : List BoundaryRow → Bool) (loops : List (List BoundaryRow)) → AllByRecursion (λ loop. p (map part_of loop) ≡ q loop) loops
+count-map : (p : List Part → Bool) (q : List BoundaryRow → Bool) (loops : List (List BoundaryRow))
+    → AllByRecursion (λ loop. p (map part_of loop) ≡ q loop) loops
     → length (filter p (map (map part_of) loops)) ≡ length (filter q loops)
 count-map p q [] h = refl
 count-map p q (loop ∷ loops) h =
@@ -104,29 +169,39 @@ parted loops = map (map part_of) loops
 mixed_same : (loops : List (List BoundaryRow)) → mixed_loops (parted loops) ≡ map first_place (filter is_mixed loops)
 mixed_same loops = places-map is_mixed_loop is_mixed loops (each (λ loop. is_mixed_loop (map part_of loop) ≡ is_mixed loop) mixed-map loops)
 
-count_same : (loops : List (List BoundaryRow)) → exterior_count (parted loops) ≡ (let outer = length (filter is_exterior loops) in found_if (not (outer == 1)) (outer ∷ []))
+count_same : (loops : List (List BoundaryRow)) → exterior_count (parted loops) ≡ (let outer = length (filter is_exterior loops) in
+    found_if (not (outer == 1)) (outer ∷ []))
 count_same loops =
-    ap (λ outer. found_if (not (outer == 1)) (outer ∷ [])) (count-map is_exterior_loop is_exterior loops (each (λ loop. is_exterior_loop (map part_of loop) ≡ is_exterior loop) exterior-map loops))
+    ap (λ outer. found_if (not (outer == 1)) (outer ∷ [])) (count-map is_exterior_loop is_exterior loops
+    (each (λ loop. is_exterior_loop (map part_of loop) ≡ is_exterior loop) exterior-map loops))
 
-wrong_same : (loops : List (List BoundaryRow)) → AllByRecursion (AllByRecursion HasPoints) loops → wrong_loops (parted loops) ≡ map first_place (filter turns_wrongly loops)
+wrong_same : (loops : List (List BoundaryRow)) → AllByRecursion (AllByRecursion HasPoints) loops
+    → wrong_loops (parted loops) ≡ map first_place (filter turns_wrongly loops)
 wrong_same loops h =
-    places-map turns_against_usage turns_wrongly loops (each_if (AllByRecursion HasPoints) (λ loop. turns_against_usage (map part_of loop) ≡ turns_wrongly loop) wrong-map loops h)
+    places-map turns_against_usage turns_wrongly loops (each_if (AllByRecursion HasPoints)
+    (λ loop. turns_against_usage (map part_of loop) ≡ turns_wrongly loop) wrong-map loops h)
 
 -- four rules' findings, where three wait for the boundary to be closed and two for its loops to be of one usage
 abbrev pub four_rules : Found → Found → Found → Found → List Finding
 four_rules opens mixed outer wrong =
-    map (finding OPEN_RING) opens ++ (map (finding MIXED_RING) (if is_clean opens then mixed else []) ++ (map (finding OUTER_COUNT) (if is_clean opens && is_clean mixed then outer else []) ++ map (finding WRONG_TURN) (if is_clean opens && is_clean mixed then wrong else [])))
+    map (finding OPEN_RING) opens ++ (map (finding MIXED_RING) (if is_clean opens then mixed else [])
+    ++ (map (finding OUTER_COUNT) (if is_clean opens && is_clean mixed then outer else []) ++ map (finding WRONG_TURN)
+    (if is_clean opens && is_clean mixed then wrong else [])))
 
 clean_empty : (found : Found) → is_clean found ≡ true → found ≡ []
 clean_empty [] e = refl
 clean_empty (x ∷ found) e = let never : is_clean (x ∷ found) ≡ false = ne_eqb (suc (length found)) 0 (λ h. omega (arith, h)) in absurd cc
 
 loops_by : (mixed outer wrong : Found) (clean : Bool) → is_clean mixed ≡ clean
-    → (if clean then map (finding OUTER_COUNT) outer ++ map (finding WRONG_TURN) wrong else map (finding MIXED_RING) mixed) ≡ map (finding MIXED_RING) mixed ++ (map (finding OUTER_COUNT) (if clean then outer else []) ++ map (finding WRONG_TURN) (if clean then wrong else []))
-loops_by mixed outer wrong true e = ap (λ ms. map (finding MIXED_RING) ms ++ (map (finding OUTER_COUNT) outer ++ map (finding WRONG_TURN) wrong)) (sym (clean_empty mixed e))
+    → (if clean then map (finding OUTER_COUNT) outer ++ map (finding WRONG_TURN) wrong else map (finding MIXED_RING) mixed) ≡
+    map (finding MIXED_RING) mixed ++ (map (finding OUTER_COUNT) (if clean then outer else []) ++ map (finding WRONG_TURN)
+    (if clean then wrong else []))
+loops_by mixed outer wrong true e = ap (λ ms. map (finding MIXED_RING) ms ++ (map (finding OUTER_COUNT) outer ++ map (finding WRONG_TURN) wrong))
+    (sym (clean_empty mixed e))
 loops_by mixed outer wrong false e = sym (append-nil (map (finding MIXED_RING) mixed))
 
-found_by : (loops : List (List Part)) (place : Option ℕ) → findings_by loops place ≡ four_rules (found_at place) (mixed_loops loops) (exterior_count loops) (wrong_loops loops)
+found_by : (loops : List (List Part)) (place : Option ℕ) → findings_by loops place ≡ four_rules (found_at place) (mixed_loops loops)
+    (exterior_count loops) (wrong_loops loops)
 found_by loops None = loops_by (mixed_loops loops) (exterior_count loops) (wrong_loops loops) (is_clean (mixed_loops loops)) refl
 found_by loops (Some place) = refl
 
@@ -144,14 +219,16 @@ parts-rows rows h =
 -- the rules as they ask for a usable boundary
 pub rules_usable : (usable : Bool) (opens mixed outer wrong : Found) → usable ≡ true
     → map (finding OPEN_RING) (if usable then opens else []) ++ (map (finding MIXED_RING) (if usable && is_clean opens then mixed else [])
-    ++ (map (finding OUTER_COUNT) (if usable && (is_clean opens && is_clean mixed) then outer else []) ++ map (finding WRONG_TURN) (if usable && (is_clean opens && is_clean mixed) then wrong else [])))
+    ++ (map (finding OUTER_COUNT) (if usable && (is_clean opens && is_clean mixed) then outer else [])
+    ++ map (finding WRONG_TURN) (if usable && (is_clean opens && is_clean mixed) then wrong else [])))
     ≡ four_rules opens mixed outer wrong
 rules_usable true opens mixed outer wrong e = refl
 rules_usable false opens mixed outer wrong e = absurd cc
 
 pub rules_unusable : (usable : Bool) (opens mixed outer wrong : Found) → usable ≡ false
     → map (finding OPEN_RING) (if usable then opens else []) ++ (map (finding MIXED_RING) (if usable && is_clean opens then mixed else [])
-    ++ (map (finding OUTER_COUNT) (if usable && (is_clean opens && is_clean mixed) then outer else []) ++ map (finding WRONG_TURN) (if usable && (is_clean opens && is_clean mixed) then wrong else [])))
+    ++ (map (finding OUTER_COUNT) (if usable && (is_clean opens && is_clean mixed) then outer else [])
+    ++ map (finding WRONG_TURN) (if usable && (is_clean opens && is_clean mixed) then wrong else [])))
     ≡ []
 rules_unusable false opens mixed outer wrong e = refl
 rules_unusable true opens mixed outer wrong e = absurd cc

@@ -1,5 +1,32 @@
 -- The turn of a loop, by the sweeps of its lines.
-use Rattle.std.proofs.Common.{◌≡◌, ℕ, ◌<◌, ◌==◌, Bool, true, false, ℤ, pos, ◌+ℤ◌, ◌-ℤ◌, List, [], ◌∷◌, ◌++◌, length, map, flat_map, reverse, cond, refl, sym, ap, ◌∙◌, append_assoc, arith}
+use Rattle.std.proofs.Common.{
+  ◌≡◌,
+  ℕ,
+  ◌<◌,
+  ◌==◌,
+  Bool,
+  true,
+  false,
+  ℤ,
+  pos,
+  ◌+ℤ◌,
+  ◌-ℤ◌,
+  List,
+  [],
+  ◌∷◌,
+  ◌++◌,
+  length,
+  map,
+  flat_map,
+  reverse,
+  cond,
+  refl,
+  sym,
+  ap,
+  ◌∙◌,
+  append_assoc,
+  arith,
+}
 use Rattle.std.specs.List.{AllByRecursion}
 use Rattle.std.proofs.lemmas.Grind.{reverse_onto}
 use Rattle.std.proofs.lemmas.Int.{ints}
@@ -39,7 +66,14 @@ area-reverse (p ∷ q ∷ points) =
     ∙ omega (arith, ints, step_turned p q, sym (ap twice_area_along (reverse_onto points q [])) ∙ area-reverse (q ∷ points))
 
 sweep-reversed : (line : EdgeLine) → sweep_of (reversed_line line) ≡ turned_sweep (sweep_of line)
-sweep-reversed line = λ i. record { begins = line.ends; ends = line.begins; first = first-reverse line.points i; last = last-reverse line.points i; swept = area-reverse line.points i }
+sweep-reversed line = λ i. record {
+  begins = line.ends;
+  ends = line.begins;
+  first = first-reverse line.points i;
+  last =
+      last-reverse line.points i;
+  swept = area-reverse line.points i;
+}
 
 sweep_by : (turned : Bool) (line : EdgeLine) → sweep_of (cond turned (reversed_line line) line) ≡ cond turned (turned_sweep (sweep_of line)) (sweep_of line)
 sweep_by true line = sweep-reversed line
@@ -51,7 +85,8 @@ sweep-along ornt line = sweep_by (ornt == 2) line
 
 -- ---- a loop
 -- the sum along two lists, with the step from the last point of the one to the first of the other
-pub area-append : (p : Point) (points more : List Point) → twice_area_along (p ∷ (points ++ more)) ≡ (twice_area_along (p ∷ points) +ℤ twice_area_along (last_point (p ∷ points) ∷ more))
+pub area-append : (p : Point) (points more : List Point) → twice_area_along (p ∷ (points ++ more)) ≡
+    (twice_area_along (p ∷ points) +ℤ twice_area_along (last_point (p ∷ points) ∷ more))
 area-append p [] more = omega (arith, ints)
 area-append p (q ∷ points) more = omega (arith, ints, area-append q points more)
 
@@ -69,10 +104,12 @@ one_on home at (p ∷ points) rest area h e =
     omega (arith, ints, e, area-append p points (rest ++ home ∷ []), ap (λ l. twice_area_along (p ∷ l)) (append_assoc points rest (home ∷ [])))
 
 -- the sum of what parts sweep is the sum along the points of their rows
-home-rows : (home at : Point) (rows : List BoundaryRow) → AllByRecursion HasPoints rows → area_home home at (map part_of rows) ≡ twice_area_along (at ∷ (points_of rows ++ home ∷ []))
+home-rows : (home at : Point) (rows : List BoundaryRow) → AllByRecursion HasPoints rows
+    → area_home home at (map part_of rows) ≡ twice_area_along (at ∷ (points_of rows ++ home ∷ []))
 home-rows home at [] h = omega (arith, ints)
 home-rows home at (row ∷ rows) h =
-    one_on home at row.line.points (points_of rows) (area_home home (last_point row.line.points) (map part_of rows)) h.0 (home-rows home (last_point row.line.points) rows h.1)
+    one_on home at row.line.points (points_of rows) (area_home home (last_point row.line.points) (map part_of rows)) h.0
+    (home-rows home (last_point row.line.points) rows h.1)
 
 back_home : (points rest : List Point) (first : Point) → 0 < length points → first ≡ first_point points
     → twice_area_along (first ∷ ((points ++ rest) ++ first ∷ [])) ≡ signed_double_area (points ++ rest)
@@ -89,7 +126,8 @@ turn-rows (row ∷ rows) h =
     ∙ back_home row.line.points (points_of rows) (first_point row.line.points) h.0 refl
 
 -- what a line between two nodes sweeps: its inner points, and the step to the last
-pub between_is : (begins ends : LineEnd) (points : List Point) (swept : ℤ) → swept ≡ (twice_area_along (begins.at ∷ points) +ℤ twice_area_step (last_point (begins.at ∷ points)) ends.at)
+pub between_is : (begins ends : LineEnd) (points : List Point) (swept : ℤ)
+    → swept ≡ (twice_area_along (begins.at ∷ points) +ℤ twice_area_step (last_point (begins.at ∷ points)) ends.at)
     → sweep_between begins points ends ≡ record { begins = begins.node; ends = ends.node; first = begins.at; last = ends.at; swept = swept }
 between_is begins ends points swept e =
     let all : twice_area_along (begins.at ∷ (points ++ ends.at ∷ [])) ≡ swept = omega (arith, ints, e, area-append begins.at points (ends.at ∷ [])) in

@@ -10,7 +10,8 @@ use Rattle.check_area.specs.Sweeps.{last_point}
 
 -- the sum along what is left, one point on
 pub area_on : (at next : Point) (swept further : ℤ) (rest : List Point) (k : ℕ) (d : Point) → k < length rest → next ≡ get_or rest k d
-    → further ≡ (swept +ℤ twice_area_step at (get_or rest k d)) → (further +ℤ twice_area_along (next ∷ drop (k + 1) rest)) ≡ (swept +ℤ twice_area_along (at ∷ drop k rest))
+    → further ≡ (swept +ℤ twice_area_step at (get_or rest k d)) → (further +ℤ twice_area_along (next ∷ drop (k + 1) rest)) ≡
+    (swept +ℤ twice_area_along (at ∷ drop k rest))
 area_on at next swept further rest k d h e f =
     (λ i. f i +ℤ twice_area_along (e i ∷ drop (k + 1) rest))
     ∙ +ℤ_assoc swept (twice_area_step at (get_or rest k d)) (twice_area_along (get_or rest k d ∷ drop (k + 1) rest))

@@ -1,5 +1,28 @@
 -- The boundary of an area as parts without their points (S-57 Part 3, 7.6.8; Appendix B.1).
-use Rattle.std.specs.Prelude.{ℕ, ◌+◌, ◌-◌, ◌==◌, ◌&&◌, Bool, not, List, [], ◌∷◌, ◌++◌, Option, None, Some, length, map, filter, ℤ, pos, ◌+ℤ◌, int_lt, if◌then◌else◌}
+use Rattle.std.specs.Prelude.{
+  ℕ,
+  ◌+◌,
+  ◌-◌,
+  ◌==◌,
+  ◌&&◌,
+  Bool,
+  not,
+  List,
+  [],
+  ◌∷◌,
+  ◌++◌,
+  Option,
+  None,
+  Some,
+  length,
+  map,
+  filter,
+  ℤ,
+  pos,
+  ◌+ℤ◌,
+  int_lt,
+  if◌then◌else◌,
+}
 use Rattle.std.specs.List.{list_any, list_all}
 use Rattle.geometry_spec.specs.Areas.{twice_area_step}
 use Rattle.geometry_spec.specs.Points.{Point}
@@ -71,7 +94,8 @@ wrong_loops loops = map place_of_loop (filter turns_against_usage loops)
 
 -- MixedRing, or where no loop is mixed OuterCount and WrongTurn
 abbrev pub findings_of_loops : List (List Part) → List Finding
-findings_of_loops loops = if is_clean (mixed_loops loops) then map (finding OUTER_COUNT) (exterior_count loops) ++ map (finding WRONG_TURN) (wrong_loops loops) else map (finding MIXED_RING) (mixed_loops loops)
+findings_of_loops loops = if is_clean (mixed_loops loops) then map (finding OUTER_COUNT) (exterior_count loops)
+    ++ map (finding WRONG_TURN) (wrong_loops loops) else map (finding MIXED_RING) (mixed_loops loops)
 
 abbrev pub findings_by : List (List Part) → Option ℕ → List Finding
 findings_by loops None = findings_of_loops loops

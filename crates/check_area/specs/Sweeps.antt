@@ -16,7 +16,14 @@ last_point (p ∷ []) = p
 last_point (p ∷ q ∷ rest) = last_point (q ∷ rest)
 
 abbrev pub sweep_of : EdgeLine → LineSweep
-sweep_of line = record { begins = line.begins; ends = line.ends; first = first_point line.points; last = last_point line.points; swept = twice_area_along line.points }
+sweep_of line = record {
+  begins = line.begins;
+  ends = line.ends;
+  first = first_point line.points;
+  last = last_point line.points;
+  swept =
+      twice_area_along line.points;
+}
 
 -- the same line from its end to its beginning
 abbrev pub turned_sweep : LineSweep → LineSweep

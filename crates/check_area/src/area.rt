@@ -17,7 +17,8 @@ ghost use Rattle.rule_spec.specs.Boundary.{mixed_ring, open_ring, outer_count, w
 ghost use Rattle.rule_spec.specs.Features.{bad_codes, dangling_ref, prim_refs};
 ghost use Rattle.rule_spec.specs.Findings.{finding};
 ghost use Rattle.rule_spec.specs.Reads.{read_set};
-ghost use Rattle.check_area.specs.Lines.{AsksForLine, HoldsSweeps, edge_name, part_along as spec_part_along, part_at as spec_part_at, parts_of as spec_parts_of, sweep_named as spec_sweep_named};
+ghost use Rattle.check_area.specs.Lines.{AsksForLine, HoldsSweeps, edge_name, part_along as spec_part_along, part_at as spec_part_at};
+ghost use Rattle.check_area.specs.Lines.{parts_of as spec_parts_of, sweep_named as spec_sweep_named};
 
 use crate::line::sweep_named;
 use crate::part::Part;
@@ -47,8 +48,10 @@ fn kept_sweep(
     known: &mut BTreeMap<u32, LineSweep>,
     id: u32,
 ) -> Result<Option<LineSweep>, AllocError>
-    ensures sweep { (c : SpecCell) (keys : List SpecKey) → IsNear c keys near.now → AsksForLine c keys (edge_name id) → HoldsSweeps c known.old → IfOk result (λ sweep. sweep ≡ spec_sweep_named c (edge_name id)) }
-    ensures known { (c : SpecCell) (keys : List SpecKey) → IsNear c keys near.now → AsksForLine c keys (edge_name id) → HoldsSweeps c known.old → OnOk result (HoldsSweeps c known.new) }
+    ensures sweep { (c : SpecCell) (keys : List SpecKey) → IsNear c keys near.now → AsksForLine c keys (edge_name id) → HoldsSweeps c known.old
+        → IfOk result (λ sweep. sweep ≡ spec_sweep_named c (edge_name id)) }
+    ensures known { (c : SpecCell) (keys : List SpecKey) → IsNear c keys near.now → AsksForLine c keys (edge_name id) → HoldsSweeps c known.old
+        → OnOk result (HoldsSweeps c known.new) }
 {
     if let Some(sweep) = known.get(&id) {
         return Ok(Some(*sweep));
@@ -67,8 +70,10 @@ fn sweep_at(
     known: &mut BTreeMap<u32, LineSweep>,
     name: RecName,
 ) -> Result<Option<LineSweep>, AllocError>
-    ensures sweep { (c : SpecCell) (keys : List SpecKey) → IsNear c keys near.now → AsksForLine c keys name → HoldsSweeps c known.old → IfOk result (λ sweep. sweep ≡ spec_sweep_named c name) }
-    ensures known { (c : SpecCell) (keys : List SpecKey) → IsNear c keys near.now → AsksForLine c keys name → HoldsSweeps c known.old → OnOk result (HoldsSweeps c known.new) }
+    ensures sweep { (c : SpecCell) (keys : List SpecKey) → IsNear c keys near.now → AsksForLine c keys name → HoldsSweeps c known.old
+        → IfOk result (λ sweep. sweep ≡ spec_sweep_named c name) }
+    ensures known { (c : SpecCell) (keys : List SpecKey) → IsNear c keys near.now → AsksForLine c keys name → HoldsSweeps c known.old
+        → OnOk result (HoldsSweeps c known.new) }
 {
     match name.kind {
         Kind::Ve => kept_sweep(near, known, name.id),
@@ -94,8 +99,10 @@ fn part_at(
     place: u32,
     spot: &Spot,
 ) -> Result<Option<Part>, AllocError>
-    ensures part { (c : SpecCell) (keys : List SpecKey) → IsNear c keys near.now → AsksForLine c keys spot.now.to → HoldsSweeps c known.old → IfOk result (λ part. part ≡ spec_part_at c (place, spot.now)) }
-    ensures known { (c : SpecCell) (keys : List SpecKey) → IsNear c keys near.now → AsksForLine c keys spot.now.to → HoldsSweeps c known.old → OnOk result (HoldsSweeps c known.new) }
+    ensures part { (c : SpecCell) (keys : List SpecKey) → IsNear c keys near.now → AsksForLine c keys spot.now.to → HoldsSweeps c known.old
+        → IfOk result (λ part. part ≡ spec_part_at c (place, spot.now)) }
+    ensures known { (c : SpecCell) (keys : List SpecKey) → IsNear c keys near.now → AsksForLine c keys spot.now.to → HoldsSweeps c known.old
+        → OnOk result (HoldsSweeps c known.new) }
 {
     let Some(sweep) = sweep_at(near, known, spot.to)? else {
         return Ok(None);
@@ -111,7 +118,8 @@ fn parts_of(
     near: &NearRecords,
     places: &[Spot],
 ) -> Result<Option<Vec<Part>>, AllocError>
-    ensures { (c : SpecCell) (keys : List SpecKey) → IsNear c keys near.now → All (λ (s : SpecSpot). AsksForLine c keys s.to) places.now → IfOk result (λ parts. option_map (λ list. list.items) parts ≡ spec_parts_of c places.now) }
+    ensures { (c : SpecCell) (keys : List SpecKey) → IsNear c keys near.now → All (λ (s : SpecSpot). AsksForLine c keys s.to) places.now
+        → IfOk result (λ parts. option_map (λ list. list.items) parts ≡ spec_parts_of c places.now) }
 {
     let mut known = BTreeMap::new(alloc);
     let mut parts = Vec::new(alloc);
@@ -136,9 +144,12 @@ pub fn area_findings(
     near: &NearRecords,
     feature: &Feature,
 ) -> Result<Vec<Finding>, AllocError>
-    ensures { (c : SpecCell) (n : SpecName) (keys : List SpecKey) → IsNear c keys near.now → keys ≡ read_set c (SubjectRec n) → lookup_record c n ≡ Some (F feature.now)
+    ensures { (c : SpecCell) (n : SpecName) (keys : List SpecKey) → IsNear c keys near.now → keys ≡ read_set c (SubjectRec n)
+        → lookup_record c n ≡ Some (F feature.now)
         → (feature.now.prim == 3) ≡ true → prim_refs c feature.now ≡ [] → dangling_ref c feature.now ≡ [] → bad_codes c feature.now ≡ []
-        → IfOk result (λ findings. findings.items ≡ map (finding OPEN_RING) (open_ring c feature.now) ++ (map (finding MIXED_RING) (mixed_ring c feature.now) ++ (map (finding OUTER_COUNT) (outer_count c feature.now) ++ map (finding WRONG_TURN) (wrong_turn c feature.now)))) }
+        → IfOk result (λ findings. findings.items ≡ map (finding OPEN_RING) (open_ring c feature.now)
+        ++ (map (finding MIXED_RING) (mixed_ring c feature.now)
+        ++ (map (finding OUTER_COUNT) (outer_count c feature.now) ++ map (finding WRONG_TURN) (wrong_turn c feature.now)))) }
 {
     match parts_of(alloc, near, feature.places.as_slice())? {
         Some(parts) => ring_findings(alloc, &parts),

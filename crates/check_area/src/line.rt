@@ -45,7 +45,8 @@ fn end_at(near: &NearRecords, node: RecName) -> Option<LineEnd>
 
 /// The node at the one end of an edge with a topology indicator, if it is a connected node with exactly one position.
 fn line_end(near: &NearRecords, topi: u8, edge: &Vector) -> Option<LineEnd>
-    ensures { (c : SpecCell) (keys : List SpecKey) → IsNear c keys near.now → All (λ (e : SpecEnd). has_key keys (KeyName e.to) ≡ true) edge.now.ends → result ≡ spec_line_end c (spec_node_at topi edge.now) }
+    ensures { (c : SpecCell) (keys : List SpecKey) → IsNear c keys near.now
+        → All (λ (e : SpecEnd). has_key keys (KeyName e.to) ≡ true) edge.now.ends → result ≡ spec_line_end c (spec_node_at topi edge.now) }
 {
     match node_at(topi, edge) {
         Some(node) => end_at(near, node),
@@ -70,7 +71,9 @@ fn sweep_between(begins: LineEnd, points: &[Point], ends: LineEnd) -> Result<Lin
 
 /// What the line of an edge sweeps, if the edge has one.
 fn sweep_of_edge(near: &NearRecords, edge: &Vector) -> Result<Option<LineSweep>, AllocError>
-    ensures { (c : SpecCell) (keys : List SpecKey) → IsNear c keys near.now → All (λ (e : SpecEnd). has_key keys (KeyName e.to) ≡ true) edge.now.ends → IfOk result (λ sweep. sweep ≡ option_map sweep_of (line_of c edge.now)) }
+    ensures { (c : SpecCell) (keys : List SpecKey) → IsNear c keys near.now
+        → All (λ (e : SpecEnd). has_key keys (KeyName e.to) ≡ true) edge.now.ends
+        → IfOk result (λ sweep. sweep ≡ option_map sweep_of (line_of c edge.now)) }
 {
     let begins = line_end(near, 1, edge);
     let ends = line_end(near, 2, edge);

@@ -4,7 +4,8 @@ ghost use Rattle.std.specs.Prelude.{◌≡◌, ◌++◌, ◌∷◌, [], IfOk, On
 ghost use Rattle.rule_spec.specs.declared.kind.TheConstants.{MIXED_RING, OPEN_RING, OUTER_COUNT, WRONG_TURN};
 ghost use Rattle.rule_spec.specs.Findings.{finding};
 ghost use Rattle.rule_spec.specs.Loops.{blocks_of};
-ghost use Rattle.check_area.specs.Parts.{arc_of_part, exterior_count as spec_exterior_count, findings_of_loops, findings_of_parts, is_exterior_loop, length_of_block, mixed_loops, place_of_loop, wrong_loops};
+ghost use Rattle.check_area.specs.Parts.{arc_of_part, exterior_count as spec_exterior_count, findings_of_loops, findings_of_parts, is_exterior_loop};
+ghost use Rattle.check_area.specs.Parts.{length_of_block, mixed_loops, place_of_loop, wrong_loops};
 
 use crate::part::{Part, is_exterior, is_mixed, turns_wrongly};
 use cell_spec::Finding;

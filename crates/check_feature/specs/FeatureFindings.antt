@@ -15,4 +15,5 @@ pointer_findings c f = map (finding PRIM_REFS) (prim_refs c f) ++ map (finding D
 -- the findings about the boundary of an area
 unfoldable pub boundary_findings : Cell → Feature → List Finding
 boundary_findings c f =
-    map (finding OPEN_RING) (open_ring c f) ++ (map (finding MIXED_RING) (mixed_ring c f) ++ (map (finding OUTER_COUNT) (outer_count c f) ++ map (finding WRONG_TURN) (wrong_turn c f)))
+    map (finding OPEN_RING) (open_ring c f) ++ (map (finding MIXED_RING) (mixed_ring c f)
+    ++ (map (finding OUTER_COUNT) (outer_count c f) ++ map (finding WRONG_TURN) (wrong_turn c f)))

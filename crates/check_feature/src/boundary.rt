@@ -33,7 +33,9 @@ pub(crate) fn push_boundary_findings(
     near: &NearRecords,
     feature: &Feature,
 ) -> Result<(), AllocError>
-    ensures { (c : SpecCell) (n : SpecName) (keys : List SpecKey) → IsNear c keys near.now → keys ≡ read_set c (SubjectRec n) → lookup_record c n ≡ Some (F feature.now) → findings.old.items ≡ pointer_findings c feature.now → OnOk result (findings.new.items ≡ findings.old.items ++ boundary_findings c feature.now) }
+    ensures { (c : SpecCell) (n : SpecName) (keys : List SpecKey) → IsNear c keys near.now → keys ≡ read_set c (SubjectRec n)
+        → lookup_record c n ≡ Some (F feature.now) → findings.old.items ≡ pointer_findings c feature.now
+        → OnOk result (findings.new.items ≡ findings.old.items ++ boundary_findings c feature.now) }
 {
     if !may_be_judged(findings.as_slice(), feature) {
         return Ok(());

@@ -95,7 +95,8 @@ pub(crate) fn push_bad_level(
     near: &NearRecords,
     feature: &Feature,
 ) -> Result<(), AllocError>
-    ensures { (c : SpecCell) (keys : List SpecKey) → IsNear c keys near.now → has_key keys (KeyName head_name) ≡ true → OnOk result (findings.new.items ≡ findings.old.items ++ map (finding BAD_LEVEL) (bad_level c feature.now)) }
+    ensures { (c : SpecCell) (keys : List SpecKey) → IsNear c keys near.now → has_key keys (KeyName head_name) ≡ true
+        → OnOk result (findings.new.items ≡ findings.old.items ++ map (finding BAD_LEVEL) (bad_level c feature.now)) }
 {
     if !is_at_level_zero(near) {
         return Ok(());

@@ -32,7 +32,9 @@ pub fn feature_findings(
     near: &NearRecords,
     feature: &Feature,
 ) -> Result<Vec<Finding>, AllocError>
-    ensures { (c : SpecCell) (n : SpecName) (keys : List SpecKey) → IsNear c keys near.now → keys ≡ read_set c (SubjectRec n) → lookup_record c n ≡ Some (F feature.now) → IfOk result (λ found. found.items ≡ findings_of_rules (λ rule. rule c feature.now) feature_rules) }
+    ensures { (c : SpecCell) (n : SpecName) (keys : List SpecKey) → IsNear c keys near.now → keys ≡ read_set c (SubjectRec n)
+        → lookup_record c n ≡ Some (F feature.now) → IfOk result
+        (λ found. found.items ≡ findings_of_rules (λ rule. rule c feature.now) feature_rules) }
 {
     let mut findings = Vec::new(alloc);
     push_prim_refs(&mut findings, feature)?;

@@ -20,7 +20,8 @@ use s57_types::{Feature, Partner};
 use std::alloc::AllocError;
 
 fn has_no_bearer(near: &NearRecords, partner: &Partner) -> bool
-    ensures { (c : SpecCell) (keys : List SpecKey) → IsNear c keys near.now → has_key keys (KeyFoid partner.now.to) ≡ true → result ≡ (length (lookup_identity c partner.now.to) == 0) }
+    ensures { (c : SpecCell) (keys : List SpecKey) → IsNear c keys near.now → has_key keys (KeyFoid partner.now.to) ≡ true
+        → result ≡ (length (lookup_identity c partner.now.to) == 0) }
 {
     !near.is_borne(partner.to)
 }
@@ -31,7 +32,9 @@ pub(crate) fn push_dangling_features(
     near: &NearRecords,
     feature: &Feature,
 ) -> Result<(), AllocError>
-    ensures { (c : SpecCell) (keys : List SpecKey) → IsNear c keys near.now → All (λ (p : SpecPartner). has_key keys (KeyFoid p.to) ≡ true) feature.now.partners → OnOk result (findings.new.items ≡ findings.old.items ++ map (finding DANGLING_FEATURE) (dangling_feature c feature.now)) }
+    ensures { (c : SpecCell) (keys : List SpecKey) → IsNear c keys near.now
+        → All (λ (p : SpecPartner). has_key keys (KeyFoid p.to) ≡ true) feature.now.partners
+        → OnOk result (findings.new.items ≡ findings.old.items ++ map (finding DANGLING_FEATURE) (dangling_feature c feature.now)) }
 {
     for (k, partner) in feature.partners.as_slice().iter().enumerate() {
         push_place_if(

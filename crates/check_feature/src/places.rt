@@ -66,7 +66,8 @@ pub(crate) fn push_prim_refs(
 }
 
 fn dangles(near: &NearRecords, spot: &Spot) -> bool
-    ensures { (c : SpecCell) (keys : List SpecKey) → IsNear c keys near.now → has_key keys (KeyName spot.now.to) ≡ true → result ≡ not (is_some (lookup_record c (target spot.now))) }
+    ensures { (c : SpecCell) (keys : List SpecKey) → IsNear c keys near.now → has_key keys (KeyName spot.now.to) ≡ true
+        → result ≡ not (is_some (lookup_record c (target spot.now))) }
 {
     match near.record(spot.to) {
         Some(_) => false,
@@ -80,7 +81,9 @@ pub(crate) fn push_dangling_refs(
     near: &NearRecords,
     feature: &Feature,
 ) -> Result<(), AllocError>
-    ensures { (c : SpecCell) (keys : List SpecKey) → IsNear c keys near.now → All (λ (s : SpecSpot). has_key keys (KeyName s.to) ≡ true) feature.now.places → OnOk result (findings.new.items ≡ findings.old.items ++ map (finding DANGLING_REF) (dangling_ref c feature.now)) }
+    ensures { (c : SpecCell) (keys : List SpecKey) → IsNear c keys near.now
+        → All (λ (s : SpecSpot). has_key keys (KeyName s.to) ≡ true) feature.now.places
+        → OnOk result (findings.new.items ≡ findings.old.items ++ map (finding DANGLING_REF) (dangling_ref c feature.now)) }
 {
     for (k, spot) in feature.places.as_slice().iter().enumerate() {
         push_place_if(findings, DANGLING_REF, dangles(near, spot), k + 1)?;

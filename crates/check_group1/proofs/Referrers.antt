@@ -1,5 +1,35 @@
 -- The record that points to an edge is found among the edge's read set.
-use Rattle.std.proofs.Common.{◌≡◌, ℕ, zero, suc, ◌+◌, ◌<◌, ◌≤◌, ◌⊎◌, inl, inr, Bool, true, false, ◌||◌, List, [], ◌∷◌, length, map, get_or, Option, None, Some, refl, sym, ap, ◌∙◌, subst, arith}
+use Rattle.std.proofs.Common.{
+  ◌≡◌,
+  ℕ,
+  zero,
+  suc,
+  ◌+◌,
+  ◌<◌,
+  ◌≤◌,
+  ◌⊎◌,
+  inl,
+  inr,
+  Bool,
+  true,
+  false,
+  ◌||◌,
+  List,
+  [],
+  ◌∷◌,
+  length,
+  map,
+  get_or,
+  Option,
+  None,
+  Some,
+  refl,
+  sym,
+  ap,
+  ◌∙◌,
+  subst,
+  arith,
+}
 use Rattle.std.specs.Borrow.{Bor}
 use Rattle.std.specs.List.{list_any, HoldsAt, All}
 use Rattle.std.specs.List.Sorted.{IsStrictlySortedBy, IsSorted, IsNonDecreasingBy, IsPartitionPoint}
@@ -53,10 +83,14 @@ true_is_not_false b e f = cc
 
 side_of : (k i : ℕ) → (k < i) ⊎ (i ≤ k)
 side_of k zero = inr (omega arith)
-side_of k (suc i) = elim (side_of k i) [ inl h ↦ inl (omega (arith, h)) | inr h ↦ elim (eq-or-lt_of_le h) [ inl e ↦ inl (omega (arith, e)) | inr l ↦ inr (omega (arith, l)) ] ]
+side_of k (suc i) = elim (side_of k i) [
+  | inl h ↦ inl (omega (arith, h))
+  | inr h ↦ elim (eq-or-lt_of_le h) [ inl e ↦ inl (omega (arith, e)) | inr l ↦ inr (omega (arith, l)) ]
+]
 
 pub never_missing : (keys : List Key) (n : RecName) (i : ℕ) → CanBeFound keys n
-    → (IsNonDecreasingBy (λ y. ordering_index (key_order y (Name n))) keys → IsPartitionPoint (λ y. key_order y (Name n) ≡ Less) (λ y. key_order y (Name n) ≡ Greater) keys i) → ⊥
+    → (IsNonDecreasingBy (λ y. ordering_index (key_order y (Name n))) keys → IsPartitionPoint (λ y. key_order y (Name n) ≡ Less)
+    (λ y. key_order y (Name n) ≡ Greater) keys i) → ⊥
 never_missing keys n i found cut =
     let parts = cut (searchable_from_sorted total_keys (λ k. k) keys (Name n) (sorted_keys keys found.rises)) in
     let apart : All (λ key. is_eq (key_order (Name n) key) ≡ false) keys = λ k d within.
@@ -66,7 +100,8 @@ never_missing keys n i found cut =
     ap is_eq (total_keys.antisymm (Name n) key) ∙ no_tie (key_order key (Name n)) either in
     true_is_not_false (asks_for keys n) found.asked (list_any_none (λ key. is_eq (key_order (Name n) key)) keys apart)
 
-pub found_there : (keys : List Key) (features : List (Option (Bor Feature))) (n : RecName) (place : ℕ) (f : Option (Bor Feature)) → place < length keys → length features ≡ length keys
+pub found_there : (keys : List Key) (features : List (Option (Bor Feature))) (n : RecName) (place : ℕ) (f : Option (Bor Feature))
+    → place < length keys → length features ≡ length keys
     → f ≡ get_or features place f → HoldsAt (λ y. key_order y (Name n) ≡ Equal) keys place
     → (c : Cell) → map (λ (f : Option (Bor Feature)). option_copied f) features ≡ map (feature_of_key c) keys → option_copied f ≡ feature_named c n
 found_there keys features n place f within as_many is ties c all =
@@ -79,7 +114,8 @@ found_there keys features n place f within as_many is ties c all =
     ∙ ap (feature_of_key c) key
 
 -- ---- the key of a record that points to an edge is among the edge's read set
-any-map : (test : Key → Bool) (pointers : List Ref) → list_any test (map (λ (r : Ref). Name r.from) pointers) ≡ list_any (λ (r : Ref). test (Name r.from)) pointers
+any-map : (test : Key → Bool) (pointers : List Ref) → list_any test (map (λ (r : Ref). Name r.from) pointers) ≡ list_any
+    (λ (r : Ref). test (Name r.from)) pointers
 any-map test [] = refl
 any-map test (r ∷ pointers) = ap (λ b. test (Name r.from) || b) (any-map test pointers)
 
@@ -93,7 +129,8 @@ or_true true b c e = refl
 or_true false true c e = refl
 or_true false false c e = e
 
-pub referrer_is_read : (c : Cell) (n : RecName) (keys : List Key) (pointers : List Ref) (k : ℕ) (none : Ref) → keys ≡ read_set c (Side n) → pointers ≡ lookup_pointers c n
+pub referrer_is_read : (c : Cell) (n : RecName) (keys : List Key) (pointers : List Ref) (k : ℕ) (none : Ref) → keys ≡ read_set c (Side n)
+    → pointers ≡ lookup_pointers c n
     → k < length pointers → CanBeFound keys (get_or pointers k none).from
 unfolding read_set
 referrer_is_read c n keys pointers k none is_set are within =
@@ -114,7 +151,8 @@ single : {Y : Type 0} (o : Option Y) → cons_option o [] ≡ option_to_list o
 single None = refl
 single (Some y) = refl
 
-pub use_more : {X Y : Type 0} (f : X → Option Y) (xs : List X) (i : ℕ) (d : X) → i < length xs → filter_map f (take (i + 1) xs) ≡ filter_map f (take i xs) ++ option_to_list (f (get_or xs i d))
+pub use_more : {X Y : Type 0} (f : X → Option Y) (xs : List X) (i : ℕ) (d : X) → i < length xs
+    → filter_map f (take (i + 1) xs) ≡ filter_map f (take i xs) ++ option_to_list (f (get_or xs i d))
 use_more f xs i d within =
     ap (filter_map f) (take_more xs i d within) ∙ filter_map-append f (take i xs) (get_or xs i d ∷ [])
     ∙ ap (λ rest. filter_map f (take i xs) ++ rest) (single (f (get_or xs i d)))

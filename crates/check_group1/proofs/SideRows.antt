@@ -35,7 +35,8 @@ unfolding read_set
 some_side_key c n = some_fold key_order (Name n ∷ []) (Refs n ∷ map (λ (r : Ref). Name r.from) (lookup_pointers c n)) (omega arith)
 
 -- ---- four rules' findings appended one after the other
-pub four_appended : (none first second third fourth a b c d : List Finding) → none ≡ [] → first ≡ none ++ a → second ≡ first ++ b → third ≡ second ++ c → fourth ≡ third ++ d
+pub four_appended : (none first second third fourth a b c d : List Finding) → none ≡ [] → first ≡ none ++ a → second ≡ first ++ b
+    → third ≡ second ++ c → fourth ≡ third ++ d
     → fourth ≡ a ++ (b ++ (c ++ (d ++ [])))
 four_appended none first second third fourth a b c d start e f g h =
     let appended : fourth ≡ ((a ++ b) ++ c) ++ d = h ∙ ap (λ xs. xs ++ d) (g ∙ ap (λ xs. xs ++ c) (f ∙ ap (λ xs. xs ++ b) (e ∙ ap (λ xs. xs ++ a) start))) in

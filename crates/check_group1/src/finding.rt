@@ -7,7 +7,8 @@ ghost use Rattle.rule_spec.specs.declared.kind.TheConstants.{FALSE_TRUNCATION, O
 ghost use Rattle.rule_spec.specs.Findings.{finding as finding_of, findings_of_rules};
 ghost use Rattle.rule_spec.specs.Rule.{found_if};
 ghost use Rattle.rule_spec.specs.Rules.{side_rules};
-ghost use Rattle.rule_spec.specs.Sides.{found_use, is_balanced as are_balanced, is_truncated, numbers_of as counts_as_numbers, overlaps as do_overlap, side_counts as counts_of, uses_of as uses_in};
+ghost use Rattle.rule_spec.specs.Sides.{found_use, is_balanced as are_balanced, is_truncated, numbers_of as counts_as_numbers};
+ghost use Rattle.rule_spec.specs.Sides.{overlaps as do_overlap, side_counts as counts_of, uses_of as uses_in};
 
 use crate::uses::{first_truncated, side_counts};
 use cell_spec::Finding;
@@ -66,7 +67,8 @@ fn is_balanced(n: EdgeSideCounts) -> bool
 
 /// SideUnbalanced: Group 1 and the coverage don't change alike from one side of the edge to the other.
 fn push_unbalanced(findings: &mut Vec<Finding>, n: EdgeSideCounts) -> Result<(), AllocError>
-    ensures { OnOk result (findings.new.items ≡ findings.old.items ++ map (finding_of SIDE_UNBALANCED) (found_if (not (are_balanced n)) (counts_as_numbers n))) }
+    ensures { OnOk result (findings.new.items ≡ findings.old.items ++ map (finding_of SIDE_UNBALANCED)
+        (found_if (not (are_balanced n)) (counts_as_numbers n))) }
 {
     if !is_balanced(n) {
         findings.push(Finding {
@@ -83,7 +85,8 @@ fn push_truncation(
     n: EdgeSideCounts,
     first: Option<EdgeUse>,
 ) -> Result<(), AllocError>
-    ensures { OnOk result (findings.new.items ≡ findings.old.items ++ map (finding_of FALSE_TRUNCATION) (if n.coverage_forward == n.coverage_reverse then found_use first else [])) }
+    ensures { OnOk result (findings.new.items ≡ findings.old.items ++ map (finding_of FALSE_TRUNCATION)
+        (if n.coverage_forward == n.coverage_reverse then found_use first else [])) }
 {
     if n.coverage_forward != n.coverage_reverse {
         return Ok(());
@@ -102,7 +105,8 @@ fn push_truncation(
 
 /// The findings about the two sides of an edge, by its uses, ascending by kind.
 pub(crate) fn side_findings(alloc: Global, uses: &[EdgeUse]) -> Result<Vec<Finding>, AllocError>
-    ensures { (c : SpecCell) (n : SpecRecName) → uses.now ≡ uses_in c n → IfOk result (λ findings. findings.items ≡ findings_of_rules (λ rule. rule c n) side_rules) }
+    ensures { (c : SpecCell) (n : SpecRecName) → uses.now ≡ uses_in c n
+        → IfOk result (λ findings. findings.items ≡ findings_of_rules (λ rule. rule c n) side_rules) }
 {
     let n = side_counts(uses)?;
     let first = first_truncated(uses);

@@ -44,7 +44,8 @@ fn use_of_row(pointer: Ref, feature: &Feature, row: &Spot) -> EdgeUse
 
 /// The use that a pointer of a feature is.
 fn use_by(pointer: Ref, feature: Option<&Feature>) -> Option<EdgeUse>
-    ensures { result ≡ option_and_then (λ (f : SpecFeature). option_map (use_at_row pointer f) (slice_get f.places (pointer.place - 1))) (option_copied feature.entry) }
+    ensures { result ≡ option_and_then (λ (f : SpecFeature). option_map (use_at_row pointer f) (slice_get f.places (pointer.place - 1)))
+        (option_copied feature.entry) }
 {
     let feature = feature?;
     let place = pointer.place.saturating_sub(1) as usize;

@@ -75,10 +75,13 @@ no_node_on c a b h =
 
 -- ---- the findings of the rules that speak
 abbrev all_five : Found → Found → Found → Found → Found → List Finding
-all_five x7 x8 x9 x10 x11 = map (finding CROSS) x7 ++ (map (finding TOUCH) x8 ++ (map (finding COINCIDE) x9 ++ (map (finding SAME_PLACE) x10 ++ (map (finding NODE_ON_EDGE) x11 ++ []))))
+all_five x7 x8 x9 x10 x11 = map (finding CROSS) x7 ++ (map (finding TOUCH) x8
+    ++ (map (finding COINCIDE) x9 ++ (map (finding SAME_PLACE) x10 ++ (map (finding NODE_ON_EDGE) x11 ++ []))))
 
-first_three : (x7 x8 x9 x10 x11 : Found) → x10 ≡ [] → x11 ≡ [] → all_five x7 x8 x9 x10 x11 ≡ map (finding CROSS) x7 ++ (map (finding TOUCH) x8 ++ map (finding COINCIDE) x9)
-first_three x7 x8 x9 x10 x11 h10 h11 = rw h10 (rw h11 (ap (λ z. map (finding CROSS) x7 ++ (map (finding TOUCH) x8 ++ z)) (append-nil (map (finding COINCIDE) x9))))
+first_three : (x7 x8 x9 x10 x11 : Found) → x10 ≡ [] → x11 ≡ [] → all_five x7 x8 x9 x10 x11 ≡ map (finding CROSS) x7
+    ++ (map (finding TOUCH) x8 ++ map (finding COINCIDE) x9)
+first_three x7 x8 x9 x10 x11 h10 h11 = rw h10 (rw h11 (ap (λ z. map (finding CROSS) x7 ++ (map (finding TOUCH) x8 ++ z))
+    (append-nil (map (finding COINCIDE) x9))))
 
 fourth : (x7 x8 x9 x10 x11 : Found) → x7 ≡ [] → x8 ≡ [] → x9 ≡ [] → x11 ≡ [] → all_five x7 x8 x9 x10 x11 ≡ map (finding SAME_PLACE) x10
 fourth x7 x8 x9 x10 x11 h7 h8 h9 h11 = rw h7 (rw h8 (rw h9 (rw h11 (append-nil (map (finding SAME_PLACE) x10)))))
@@ -87,13 +90,16 @@ fifth : (x7 x8 x9 x10 x11 : Found) → x7 ≡ [] → x8 ≡ [] → x9 ≡ [] →
 fifth x7 x8 x9 x10 x11 h7 h8 h9 h10 = rw h7 (rw h8 (rw h9 (rw h10 (append-nil (map (finding NODE_ON_EDGE) x11)))))
 
 pub of_edges : (c : Cell) (a b : RecName) → node_named c a ≡ None → findings_about c (Pair a b) ≡ edge_contacts c a b
-of_edges c a b h = first_three (cross c a b) (touch c a b) (coincide c a b) (same_place c a b) (node_on_edge c a b) (not_same_first c a b h) (no_node_on c a b h)
+of_edges c a b h = first_three (cross c a b) (touch c a b) (coincide c a b) (same_place c a b) (node_on_edge c a b) (not_same_first c a b h)
+    (no_node_on c a b h)
 
-pub of_nodes : (c : Cell) (a b : RecName) → edge_named c a ≡ None → edge_named c b ≡ None → findings_about c (Pair a b) ≡ map (finding SAME_PLACE) (same_place c a b)
+pub of_nodes : (c : Cell) (a b : RecName) → edge_named c a ≡ None → edge_named c b ≡ None
+    → findings_about c (Pair a b) ≡ map (finding SAME_PLACE) (same_place c a b)
 of_nodes c a b h k = fourth (cross c a b) (touch c a b) (coincide c a b) (same_place c a b) (node_on_edge c a b)
     (none_with_first 7 c a b h) (none_with_first 8 c a b h) (none_with_first 9 c a b h) (not_on_node c a b k)
 
-pub of_node_and_edge : (c : Cell) (a b : RecName) → edge_named c a ≡ None → node_named c b ≡ None → findings_about c (Pair a b) ≡ map (finding NODE_ON_EDGE) (node_on_edge c a b)
+pub of_node_and_edge : (c : Cell) (a b : RecName) → edge_named c a ≡ None → node_named c b ≡ None
+    → findings_about c (Pair a b) ≡ map (finding NODE_ON_EDGE) (node_on_edge c a b)
 of_node_and_edge c a b h k = fifth (cross c a b) (touch c a b) (coincide c a b) (same_place c a b) (node_on_edge c a b)
     (none_with_first 7 c a b h) (none_with_first 8 c a b h) (none_with_first 9 c a b h) (not_same_second c a b k)
 

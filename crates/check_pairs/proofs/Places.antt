@@ -1,5 +1,28 @@
 -- The places of the nodes that two lines share are points of the first.
-use Rattle.std.proofs.Common.{◌≡◌, ◌-◌, Bool, true, false, cond, List, [], ◌∷◌, ◌++◌, length, Option, None, Some, filter_map, map, refl, ap, subst, ◌∙◌, sym, arith}
+use Rattle.std.proofs.Common.{
+  ◌≡◌,
+  ◌-◌,
+  Bool,
+  true,
+  false,
+  cond,
+  List,
+  [],
+  ◌∷◌,
+  ◌++◌,
+  length,
+  Option,
+  None,
+  Some,
+  filter_map,
+  map,
+  refl,
+  ap,
+  subst,
+  ◌∙◌,
+  sym,
+  arith,
+}
 use Rattle.std.specs.List.{slice_get}
 use Rattle.std.specs.Option.{option_map, option_and_then}
 use Rattle.std.proofs.lemmas.List.{append-nil, length_push}
@@ -78,7 +101,8 @@ shared_found c a b h = two_places (node_position c) a.begins a.ends (is_end_of b
 -- ---- the findings about two edges with lines are those about the first contact away from shared places
 abbrev findings_of_lines : Cell → Option EdgeLine → Option EdgeLine → List Finding
 findings_of_lines c x y =
-    map (finding CROSS) (contact_of_lines CROSS c x y) ++ (map (finding TOUCH) (contact_of_lines TOUCH c x y) ++ map (finding COINCIDE) (contact_of_lines COINCIDE c x y))
+    map (finding CROSS) (contact_of_lines CROSS c x y) ++ (map (finding TOUCH) (contact_of_lines TOUCH c x y)
+    ++ map (finding COINCIDE) (contact_of_lines COINCIDE c x y))
 
 pub contacts_found : (c : Cell) (a b : RecName) (first second : EdgeLine) → edge_line_of c a ≡ Some first → edge_line_of c b ≡ Some second →
     edge_contacts c a b ≡ contact_findings (first_contact (shared_places first second) first second)

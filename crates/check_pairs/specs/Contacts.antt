@@ -10,7 +10,8 @@ use Rattle.rule_spec.specs.Vectors.{Numbered}
 
 -- Cross, Touch or Coincide of the two segments that there are
 abbrev pub contact_findings : Option (Numbered × Numbered) → List Finding
-contact_findings pair = map (finding CROSS) (found_contact CROSS pair) ++ (map (finding TOUCH) (found_contact TOUCH pair) ++ map (finding COINCIDE) (found_contact COINCIDE pair))
+contact_findings pair = map (finding CROSS) (found_contact CROSS pair)
+    ++ (map (finding TOUCH) (found_contact TOUCH pair) ++ map (finding COINCIDE) (found_contact COINCIDE pair))
 
 -- Cross, Touch or Coincide of two edges
 abbrev pub edge_contacts : Cell → RecName → RecName → List Finding

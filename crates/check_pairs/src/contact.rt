@@ -5,9 +5,11 @@ ghost use Rattle.std.specs.List.{enumerate_from};
 ghost use Rattle.std.specs.Option.{option_copied};
 ghost use Rattle.rule_spec.specs.EdgePoints.{segments_of as spec_segments};
 ghost use Rattle.rule_spec.specs.Vectors.{each_with_each, meeting_of_segments as spec_meeting};
-ghost use Rattle.rule_spec.specs.Contacts.{is_on as spec_is_on, meet_at_one_of as spec_meet_at, is_illegal as spec_illegal, have_illegal_contact as spec_have_illegal};
+ghost use Rattle.rule_spec.specs.Contacts.{is_on as spec_is_on, meet_at_one_of as spec_meet_at, is_illegal as spec_illegal};
+ghost use Rattle.rule_spec.specs.Contacts.{have_illegal_contact as spec_have_illegal};
 ghost use Rattle.line_boxes.specs.LineBoxes.{line_box};
-ghost use Rattle.check_pairs.specs.SharedPlaces.{is_end_of as spec_is_end_of, place_if, shared_places as spec_shared_places, first_contact as spec_first_contact};
+ghost use Rattle.check_pairs.specs.SharedPlaces.{is_end_of as spec_is_end_of, place_if, shared_places as spec_shared_places};
+ghost use Rattle.check_pairs.specs.SharedPlaces.{first_contact as spec_first_contact};
 
 use check_words::{Numbered, Segment, numbered, segments_of};
 use geo_exact::{meeting, on_segment};

@@ -74,7 +74,8 @@ pub(crate) fn pair_keys(
     b: RecName,
     second: &Vector,
 ) -> Result<Keys, AllocError>
-    ensures { (c : SpecCell) → lookup_record c a ≡ Some (SpecV first.now) → lookup_record c b ≡ Some (SpecV second.now) → IfOk result (λ keys. keys ≡ read_set c (SpecPair a b)) }
+    ensures { (c : SpecCell) → lookup_record c a ≡ Some (SpecV first.now) → lookup_record c b ≡ Some (SpecV second.now)
+        → IfOk result (λ keys. keys ≡ read_set c (SpecPair a b)) }
 {
     let mut keys = Vec::new(alloc);
     push_vector_keys(&mut keys, a, first)?;

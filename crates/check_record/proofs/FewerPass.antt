@@ -6,7 +6,8 @@ use Rattle.std.proofs.lemmas.List.Sums.{sum_by-cons, count_by-le-length}
 worth : Bool → ℕ
 worth b = cond b 1 0
 
-count_by_step : {X : Type 0} (p : X → Bool) (x : X) (xs : List X) (passes : Bool) → p x ≡ passes → (list_any (λ y. not (p y)) xs ≡ true → count_by p xs + 1 ≤ length xs)
+count_by_step : {X : Type 0} (p : X → Bool) (x : X) (xs : List X) (passes : Bool) → p x ≡ passes
+    → (list_any (λ y. not (p y)) xs ≡ true → count_by p xs + 1 ≤ length xs)
     → (not passes || list_any (λ y. not (p y)) xs) ≡ true → count_by p (x ∷ xs) + 1 ≤ length (x ∷ xs)
 unfolding worth
 count_by_step p x xs true e more h = omega (arith, sum_by-cons (λ y. worth (p y)) x xs, ap worth e, more h)

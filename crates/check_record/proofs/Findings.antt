@@ -22,9 +22,12 @@ use Rattle.rule_spec.specs.Vectors.{bad_shape, node_pointer, self_meet, self_mee
 -- six rules' findings one after the other, where four are on edges and the last is on nodes
 six_rules : Bool → Bool → Found → Found → Found → Found → Found → Found → List Finding
 six_rules edge node one two three four five six =
-    map (finding BAD_SHAPE) one ++ (map (finding END_COUNT) (cond edge two []) ++ (map (finding DANGLING_END) (cond edge three []) ++ (map (finding STACKED) (cond edge four []) ++ (map (finding SELF_MEET) (cond edge five []) ++ (map (finding NODE_POINTER) (cond node six []) ++ [])))))
+    map (finding BAD_SHAPE) one ++ (map (finding END_COUNT) (cond edge two [])
+    ++ (map (finding DANGLING_END) (cond edge three []) ++ (map (finding STACKED) (cond edge four [])
+    ++ (map (finding SELF_MEET) (cond edge five []) ++ (map (finding NODE_POINTER) (cond node six []) ++ [])))))
 
-are_six_rules : (c : Cell) (v : Vector) → findings_of_record c (V v) ≡ six_rules (is_edge_name v.name) (is_node_name v.name) (bad_shape c v) (end_count c v) (dangling_end c v) (stacked c v) (self_meet c v) (node_pointer c v)
+are_six_rules : (c : Cell) (v : Vector) → findings_of_record c (V v) ≡ six_rules (is_edge_name v.name) (is_node_name v.name)
+    (bad_shape c v) (end_count c v) (dangling_end c v) (stacked c v) (self_meet c v) (node_pointer c v)
 unfolding six_rules
 are_six_rules c v = refl
 
@@ -43,7 +46,8 @@ edge_is_no_node Fe h = absurd cc
 edge_is_no_node Head h = absurd cc
 
 -- the findings about a node
-pub node_kinds : (c : Cell) (v : Vector) → is_node_name v.name ≡ true → map (finding BAD_SHAPE) (bad_shape c v) ++ map (finding NODE_POINTER) (node_pointer c v) ≡ findings_of_record c (V v)
+pub node_kinds : (c : Cell) (v : Vector) → is_node_name v.name ≡ true → map (finding BAD_SHAPE) (bad_shape c v)
+    ++ map (finding NODE_POINTER) (node_pointer c v) ≡ findings_of_record c (V v)
 unfolding six_rules
 node_kinds c v h =
     let all = λ (edge node : Bool). six_rules edge node (bad_shape c v) (end_count c v) (dangling_end c v) (stacked c v) (self_meet c v) (node_pointer c v) in
@@ -54,14 +58,17 @@ node_kinds c v h =
 -- the findings about an edge
 pub edge_kinds : (c : Cell) (v : Vector) (places : Found) (line : Option EdgeLine) → is_edge_name v.name ≡ true → places ≡ dangling_end c v → line ≡ line_of c v
     → ((map (finding BAD_SHAPE) (bad_shape c v) ++ map (finding END_COUNT) (end_count c v)) ++ map (finding DANGLING_END) places)
-    ++ (map (finding STACKED) (option_map_or (λ (line : EdgeLine). found_at (stacked_segment line.points)) line []) ++ map (finding SELF_MEET) (option_map_or (λ (line : EdgeLine). self_meet_of line.points) line []))
+    ++ (map (finding STACKED) (option_map_or (λ (line : EdgeLine). found_at (stacked_segment line.points)) line [])
+    ++ map (finding SELF_MEET) (option_map_or (λ (line : EdgeLine). self_meet_of line.points) line []))
     ≡ findings_of_record c (V v)
 unfolding six_rules
 edge_kinds c v places line h dangling is_line =
     let all = λ (edge node : Bool). six_rules edge node (bad_shape c v) (end_count c v) (dangling_end c v) (stacked c v) (self_meet c v) (node_pointer c v) in
     (λ i. ((map (finding BAD_SHAPE) (bad_shape c v) ++ map (finding END_COUNT) (end_count c v)) ++ map (finding DANGLING_END) (dangling i))
-    ++ (map (finding STACKED) (option_map_or (λ (line : EdgeLine). found_at (stacked_segment line.points)) (is_line i) []) ++ map (finding SELF_MEET) (option_map_or (λ (line : EdgeLine). self_meet_of line.points) (is_line i) [])))
-    ∙ regroup (map (finding BAD_SHAPE) (bad_shape c v)) (map (finding END_COUNT) (end_count c v)) (map (finding DANGLING_END) (dangling_end c v)) (map (finding STACKED) (stacked c v)) (map (finding SELF_MEET) (self_meet c v))
+    ++ (map (finding STACKED) (option_map_or (λ (line : EdgeLine). found_at (stacked_segment line.points)) (is_line i) [])
+    ++ map (finding SELF_MEET) (option_map_or (λ (line : EdgeLine). self_meet_of line.points) (is_line i) [])))
+    ∙ regroup (map (finding BAD_SHAPE) (bad_shape c v)) (map (finding END_COUNT) (end_count c v)) (map (finding DANGLING_END) (dangling_end c v))
+    (map (finding STACKED) (stacked c v)) (map (finding SELF_MEET) (self_meet c v))
     ∙ ap (all true) (sym (edge_is_no_node v.name.kind h)) ∙ ap (λ edge. all edge (is_node_name v.name)) (sym h)
     ∙ sym (are_six_rules c v)
   where
@@ -77,8 +84,10 @@ pub four_appended : (shape third fourth a b c d : List Finding) → shape ≡ a 
 four_appended shape third fourth a b c d e f g = g ∙ ap (λ xs. xs ++ d) (f ∙ ap (λ xs. xs ++ c) e)
 
 -- the findings about a vector record that is neither a node nor an edge
-pub shape_kinds : (c : Cell) (v : Vector) → is_node_name v.name ≡ false → is_edge_name v.name ≡ false → map (finding BAD_SHAPE) (bad_shape c v) ≡ findings_of_record c (V v)
+pub shape_kinds : (c : Cell) (v : Vector) → is_node_name v.name ≡ false → is_edge_name v.name ≡ false
+    → map (finding BAD_SHAPE) (bad_shape c v) ≡ findings_of_record c (V v)
 unfolding six_rules
 shape_kinds c v node edge =
     let all = λ (edge node : Bool). six_rules edge node (bad_shape c v) (end_count c v) (dangling_end c v) (stacked c v) (self_meet c v) (node_pointer c v) in
-    sym (append-nil (map (finding BAD_SHAPE) (bad_shape c v))) ∙ ap (all false) (sym node) ∙ ap (λ edge. all edge (is_node_name v.name)) (sym edge) ∙ sym (are_six_rules c v)
+    sym (append-nil (map (finding BAD_SHAPE) (bad_shape c v))) ∙ ap (all false) (sym node) ∙ ap (λ edge. all edge (is_node_name v.name))
+    (sym edge) ∙ sym (are_six_rules c v)

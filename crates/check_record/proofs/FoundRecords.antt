@@ -15,7 +15,8 @@ use Rattle.rule_spec.specs.Records.{is_edge_name, vector_of}
 use Rattle.std.specs.Prelude.{option_and_then}
 use Rattle.cell_spec.proofs.Orders.{one_when_same}
 
-passes_by : {X : Type 0} (p : X → Bool) (x r : X) (rest : Option X) (hit : Bool) → p x ≡ hit → (rest ≡ Some r → p r ≡ true) → cond hit (Some x) rest ≡ Some r → p r ≡ true
+passes_by : {X : Type 0} (p : X → Bool) (x r : X) (rest : Option X) (hit : Bool) → p x ≡ hit → (rest ≡ Some r → p r ≡ true)
+    → cond hit (Some x) rest ≡ Some r → p r ≡ true
 passes_by p x r rest true e more h = let same : x ≡ r = cc in ap p (sym same) ∙ e
 passes_by p x r rest false e more h = more h
 

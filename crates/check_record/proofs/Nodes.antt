@@ -1,5 +1,31 @@
 -- Which of an edge's ends name a connected node of the cell, by the nodes among its read set.
-use Rattle.std.proofs.Common.{◌≡◌, ℕ, ◌+◌, Bool, true, false, ◌&&◌, ◌||◌, not, is_some, List, [], ◌∷◌, ◌++◌, map, filter, Option, None, Some, cond, refl, sym, ap, ◌∙◌, arith}
+use Rattle.std.proofs.Common.{
+  ◌≡◌,
+  ℕ,
+  ◌+◌,
+  Bool,
+  true,
+  false,
+  ◌&&◌,
+  ◌||◌,
+  not,
+  is_some,
+  List,
+  [],
+  ◌∷◌,
+  ◌++◌,
+  map,
+  filter,
+  Option,
+  None,
+  Some,
+  cond,
+  refl,
+  sym,
+  ap,
+  ◌∙◌,
+  arith,
+}
 use Rattle.std.specs.Prelude.{◌==◌, option_and_then}
 use Rattle.std.proofs.lemmas.Bool.Decides.{nat_tests}
 use Rattle.std.specs.BTreeSet.{BTreeSet, contains}
@@ -48,7 +74,8 @@ any_none : {X : Type 0} (b : X → Bool) → ((x : X) → b x ≡ false) → (xs
 any_none b h [] = refl
 any_none b h (x ∷ xs) = ap (λ z. z || list_any b xs) (h x) ∙ any_none b h xs
 
-node_by : (c : Cell) (m : RecName) (found : Option Rec) → lookup_record c m ≡ found → is_of_kind Vc m ≡ false → is_some (option_and_then (vector_of (is_of_kind Vc)) found) ≡ false
+node_by : (c : Cell) (m : RecName) (found : Option Rec) → lookup_record c m ≡ found → is_of_kind Vc m ≡ false
+    → is_some (option_and_then (vector_of (is_of_kind Vc)) found) ≡ false
 node_by c m None e h = refl
 node_by c m (Some (F f)) e h = refl
 node_by c m (Some (H head)) e h = refl
@@ -63,15 +90,18 @@ no_node c m h = node_by c m (lookup_record c m) refl h
 and_true : (a b c : Bool) → a ≡ true → b ≡ true → c ≡ true → (a && b && c) ≡ true
 and_true a b c e f g = cc
 
-key_names : (c : Cell) (m : RecName) → is_of_kind Vc m ≡ true → is_some (node_named c m) ≡ true → (key : Key) → is_key_of m key ≡ true → names_node_of c m.id key ≡ true
+key_names : (c : Cell) (m : RecName) → is_of_kind Vc m ≡ true → is_some (node_named c m) ≡ true → (key : Key) → is_key_of m key ≡ true
+    → names_node_of c m.id key ≡ true
 key_names c m kind there (Name n) h = by (one_when_same m n h)
   where
     by : m ≡ n → names_node_of c m.id (Name n) ≡ true
-    by e = ap (λ (z : RecName). is_of_kind Vc z && (m.id == z.id) && is_some (node_named c z)) (sym e) ∙ and_true (is_of_kind Vc m) (m.id == m.id) (is_some (node_named c m)) kind (grind arith) there
+    by e = ap (λ (z : RecName). is_of_kind Vc z && (m.id == z.id) && is_some (node_named c z)) (sym e)
+        ∙ and_true (is_of_kind Vc m) (m.id == m.id) (is_some (node_named c m)) kind (grind arith) there
 key_names c m kind there (Refs n) h = absurd cc
 key_names c m kind there (Foid l) h = absurd cc
 
-names_none_by : (c : Cell) (m n : RecName) → is_of_kind Vc m ≡ true → is_some (node_named c m) ≡ false → (kind one there : Bool) → is_of_kind Vc n ≡ kind → (m.id == n.id) ≡ one → is_some (node_named c n) ≡ there → (kind && one && there) ≡ false
+names_none_by : (c : Cell) (m n : RecName) → is_of_kind Vc m ≡ true → is_some (node_named c m) ≡ false → (kind one there : Bool)
+    → is_of_kind Vc n ≡ kind → (m.id == n.id) ≡ one → is_some (node_named c n) ≡ there → (kind && one && there) ≡ false
 names_none_by c m n h missing false one there e f g = refl
 names_none_by c m n h missing true false there e f g = refl
 names_none_by c m n h missing true true false e f g = refl
@@ -85,7 +115,8 @@ names_none c m kind missing (Name n) = names_none_by c m n kind missing (is_of_k
 names_none c m kind missing (Refs n) = refl
 names_none c m kind missing (Foid l) = refl
 
-named_by : (c : Cell) (keys : List Key) (m : RecName) → list_any (is_key_of m) keys ≡ true → (kind there : Bool) → is_of_kind Vc m ≡ kind → is_some (node_named c m) ≡ there → (kind && list_any (names_node_of c m.id) keys) ≡ there
+named_by : (c : Cell) (keys : List Key) (m : RecName) → list_any (is_key_of m) keys ≡ true → (kind there : Bool) → is_of_kind Vc m ≡ kind
+    → is_some (node_named c m) ≡ there → (kind && list_any (names_node_of c m.id) keys) ≡ there
 named_by c keys m asked false there e f = sym (no_node c m e) ∙ f
 named_by c keys m asked true true e f = any_implies (is_key_of m) (names_node_of c m.id) (key_names c m e f) keys asked
 named_by c keys m asked true false e f = any_none (names_node_of c m.id) (names_none c m e f) keys
@@ -98,9 +129,11 @@ named_node c keys nodes h m asked = ap (λ b. is_of_kind Vc m && b) (h m.id) ∙
 -- the places of the ends behind one, with its own place where it fails the test
 places_with : (RecName → Bool) → Bool → ℕ → End → List End → List (List ℕ)
 places_with f passes k e ends =
-    let more = filter (λ (item : ℕ × End). not (f item.1.to)) (enumerate_from (k + 1) ends) in map (λ (item : ℕ × End). item.0 ∷ []) (cond (not passes) ((k, e) ∷ more) more)
+    let more = filter (λ (item : ℕ × End). not (f item.1.to)) (enumerate_from (k + 1) ends) in
+    map (λ (item : ℕ × End). item.0 ∷ []) (cond (not passes) ((k, e) ∷ more) more)
 
-places_by : (f g : RecName → Bool) (k : ℕ) (e : End) (ends : List End) (p q : Bool) → p ≡ q → places_from (λ (e : End). not (f e.to)) (k + 1) ends ≡ places_from (λ (e : End). not (g e.to)) (k + 1) ends
+places_by : (f g : RecName → Bool) (k : ℕ) (e : End) (ends : List End) (p q : Bool) → p ≡ q
+    → places_from (λ (e : End). not (f e.to)) (k + 1) ends ≡ places_from (λ (e : End). not (g e.to)) (k + 1) ends
     → places_with f p k e ends ≡ places_with g q k e ends
 unfolding places_with
 places_by f g k e ends true true h more = more
@@ -109,15 +142,21 @@ places_by f g k e ends true false h more = absurd cc
 places_by f g k e ends false true h more = absurd cc
 
 -- tests that answer the same of each end find the same places
-pub same_places : (f g : RecName → Bool) (k : ℕ) (ends : List End) → AllByRecursion (λ (e : End). f e.to ≡ g e.to) ends → places_from (λ (e : End). not (f e.to)) k ends ≡ places_from (λ (e : End). not (g e.to)) k ends
+pub same_places : (f g : RecName → Bool) (k : ℕ) (ends : List End) → AllByRecursion (λ (e : End). f e.to ≡ g e.to) ends
+    → places_from (λ (e : End). not (f e.to)) k ends ≡ places_from (λ (e : End). not (g e.to)) k ends
 unfolding places_with
 same_places f g k [] h = refl
 same_places f g k (e ∷ ends) h = places_by f g k e ends (f e.to) (g e.to) h.0 (same_places f g (k + 1) ends h.1)
 
 -- what holds of each name that is asked for holds of each end
-pub each_end : (P : RecName → Type 0) (ends : List End) → ((m : RecName) → list_any (is_key_of m) (map (λ (e : End). Name e.to) ends) ≡ true → P m) → AllByRecursion (λ (e : End). P e.to) ends
+pub each_end : (P : RecName → Type 0) (ends : List End) → ((m : RecName) → list_any (is_key_of m) (map (λ (e : End). Name e.to) ends) ≡ true
+    → P m) → AllByRecursion (λ (e : End). P e.to) ends
 each_end P [] h = tt
-each_end P (e ∷ ends) h = (h e.to (own e.to), each_end P ends (λ m asked. h m (later (same_name m e.to) (list_any (is_key_of m) (map (λ (e : End). Name e.to) ends)) asked)))
+each_end P (e ∷ ends) h = (
+  h e.to (own e.to),
+  each_end P ends
+      (λ m asked. h m (later (same_name m e.to) (list_any (is_key_of m) (map (λ (e : End). Name e.to) ends)) asked)),
+)
   where
     same : (a b : ℕ) → ((a == a) && (b == b)) ≡ true
     same a b = grind (arith, nat_tests)
@@ -141,9 +180,11 @@ later_any : (a b : Bool) → b ≡ true → (a || b) ≡ true
 later_any true b h = refl
 later_any false b h = h
 
-keys_at : (c : Cell) (n : RecName) (v : Vector) → lookup_record c n ≡ Some (V v) → is_edge_name v.name ≡ true → keys_read c (Record n) ≡ Name n ∷ (end_keys v ++ [])
+keys_at : (c : Cell) (n : RecName) (v : Vector) → lookup_record c n ≡ Some (V v) → is_edge_name v.name ≡ true
+    → keys_read c (Record n) ≡ Name n ∷ (end_keys v ++ [])
 keys_at c n v h e =
-    (λ i. Name n ∷ (option_map_or end_keys (option_and_then (vector_of is_edge_name) (h i)) [] ++ option_map_or (feature_keys c) (option_and_then feature_of (h i)) []))
+    (λ i. Name n ∷ (option_map_or end_keys (option_and_then (vector_of is_edge_name) (h i)) [] ++ option_map_or (feature_keys c)
+    (option_and_then feature_of (h i)) []))
     ∙ ap (λ b. Name n ∷ (option_map_or end_keys (cond b (Some v) None) [] ++ [])) e
 
 -- the names of an edge's ends are asked for in its read set

@@ -1,5 +1,32 @@
 -- The read set of a record, by what the cell has under its name.
-use Rattle.std.proofs.Common.{◌≡◌, ◌+◌, ◌≤◌, Bool, true, false, ◌||◌, not, is_some, List, [], ◌∷◌, ◌++◌, length, count_by, map, flat_map, None, Some, cond, refl, sym, ap, ◌∙◌, append_assoc, arith}
+use Rattle.std.proofs.Common.{
+  ◌≡◌,
+  ◌+◌,
+  ◌≤◌,
+  Bool,
+  true,
+  false,
+  ◌||◌,
+  not,
+  is_some,
+  List,
+  [],
+  ◌∷◌,
+  ◌++◌,
+  length,
+  count_by,
+  map,
+  flat_map,
+  None,
+  Some,
+  cond,
+  refl,
+  sym,
+  ap,
+  ◌∙◌,
+  append_assoc,
+  arith,
+}
 use Rattle.std.specs.Prelude.{◌==◌, option_and_then}
 use Rattle.std.specs.List.{list_any}
 use Rattle.std.specs.Option.{option_map_or}
@@ -51,7 +78,8 @@ or_true : (a b : Bool) → a ≡ true → (a || b) ≡ true
 or_true a b h = ap (λ z. z || b) h
 
 -- an edge's own key asks for no connected node
-pub edge_keys : (c : Cell) (n : RecName) (v : Vector) → lookup_record c n ≡ Some (V v) → is_edge_name v.name ≡ true → count_by is_node_key (read_set c (Rec n)) + 1 ≤ length (read_set c (Rec n))
+pub edge_keys : (c : Cell) (n : RecName) (v : Vector) → lookup_record c n ≡ Some (V v) → is_edge_name v.name ≡ true
+    → count_by is_node_key (read_set c (Rec n)) + 1 ≤ length (read_set c (Rec n))
 unfolding read_set
 edge_keys c n v h e =
     let own : not (is_of_kind Vc n) ≡ true = ap (λ (m : RecName). not (is_of_kind Vc m)) (found_name c n (V v) h) ∙ edge_no_node v.name.kind e in
@@ -71,7 +99,8 @@ no_ends : (c : Cell) (n : RecName) (f : Feature) → lookup_record c n ≡ Some 
 no_ends c n f h = ap (λ found. option_map_or end_keys (option_and_then (vector_of is_edge_name) found) []) h
 
 -- the keys of a feature
-feature_reads : (c : Cell) (n : RecName) (f : Feature) → lookup_record c n ≡ Some (F f) → keys_read c (Rec n) ≡ Name n ∷ (Name head_name ∷ ((place_keys f ++ boundary_keys c f) ++ partner_keys f))
+feature_reads : (c : Cell) (n : RecName) (f : Feature) → lookup_record c n ≡ Some (F f)
+    → keys_read c (Rec n) ≡ Name n ∷ (Name head_name ∷ ((place_keys f ++ boundary_keys c f) ++ partner_keys f))
 unfolding place_keys partner_keys boundary_keys
 feature_reads c n f h = λ i. Name n ∷ (no_ends c n f h i ++ option_map_or (feature_keys c) (option_and_then feature_of (h i)) [])
 
@@ -80,8 +109,13 @@ pub feature_places : (c : Cell) (n : RecName) (f : Feature) → lookup_record c 
     → length (ascending key_order (Name n ∷ (Name head_name ∷ map (λ (s : Spot). Name s.to) f.places))) ≤ length (read_set c (Rec n))
 unfolding read_set place_keys
 feature_places c n f h =
-    let same : keys_read c (Rec n) ≡ (Name n ∷ (Name head_name ∷ place_keys f)) ++ (boundary_keys c f ++ partner_keys f) = feature_reads c n f h ∙ ap (λ xs. Name n ∷ (Name head_name ∷ xs)) (append_assoc (place_keys f) (boundary_keys c f) (partner_keys f)) in
-    omega (arith, longer_ascending key_order (Name n ∷ (Name head_name ∷ place_keys f)) (boundary_keys c f ++ partner_keys f), ap (λ xs. length (ascending key_order xs)) same)
+    let same : keys_read c (Rec n) ≡ (Name n ∷ (Name head_name ∷ place_keys f)) ++ (boundary_keys c f ++ partner_keys f) =
+    feature_reads c n f h ∙ ap (λ xs. Name n ∷ (Name head_name ∷ xs)) (append_assoc (place_keys f) (boundary_keys c f) (partner_keys f)) in
+    omega (
+      arith,
+      longer_ascending key_order (Name n ∷ (Name head_name ∷ place_keys f)) (boundary_keys c f ++ partner_keys f),
+      ap (λ xs. length (ascending key_order xs)) same,
+    )
 
 any-flat_map : {X : Type 0} (t : Key → Bool) (f : X → List Key) (xs : List X) → list_any t (flat_map f xs) ≡ list_any (λ x. list_any t (f x)) xs
 any-flat_map t f [] = refl
@@ -100,7 +134,8 @@ module _ (c : Cell) (n : RecName) (f : Feature) (found : lookup_record c n ≡ S
   unfolding named
   any_named = any-ascending key_order exact_keys t (Name n ∷ (Name head_name ∷ place_keys f))
 
-  any_boundary_by : (area : Bool) → list_any t (cond area (flat_map (ends_of_key c) named) []) ≡ list_any t (cond area (flat_map (λ (s : Spot). end_keys_at c s.to) f.places) [])
+  any_boundary_by : (area : Bool) → list_any t (cond area (flat_map (ends_of_key c) named) []) ≡ list_any t
+      (cond area (flat_map (λ (s : Spot). end_keys_at c s.to) f.places) [])
   unfolding named place_keys
   any_boundary_by false = refl
   any_boundary_by true =
@@ -128,8 +163,10 @@ module _ (c : Cell) (n : RecName) (f : Feature) (found : lookup_record c n ≡ S
       ∙ ap (list_any t) (sym (feature_reads c n f found))
 
 -- the read set of a feature from its own name, the records that it names, the ends of these, and its partners
-pub feature_set : (c : Cell) (n : RecName) (f : Feature) → lookup_record c n ≡ Some (F f) → (named : List Key) → named ≡ ascending key_order (Name n ∷ (Name head_name ∷ map (λ (s : Spot). Name s.to) f.places))
-    → ascending key_order ((named ++ cond (f.prim == 3) (flat_map (ends_of_key c) named) []) ++ map (λ (p : Partner). Foid p.to) f.partners) ≡ read_set c (Rec n)
+pub feature_set : (c : Cell) (n : RecName) (f : Feature) → lookup_record c n ≡ Some (F f) → (named : List Key)
+    → named ≡ ascending key_order (Name n ∷ (Name head_name ∷ map (λ (s : Spot). Name s.to) f.places))
+    → ascending key_order ((named ++ cond (f.prim == 3) (flat_map (ends_of_key c) named) []) ++ map (λ (p : Partner). Foid p.to) f.partners) ≡
+    read_set c (Rec n)
 unfolding read_set named place_keys partner_keys
 feature_set c n f found held is =
     let all = λ (named : List Key). (named ++ cond (f.prim == 3) (flat_map (ends_of_key c) named) []) ++ map (λ (p : Partner). Foid p.to) f.partners in
@@ -137,19 +174,22 @@ feature_set c n f found held is =
     ap (λ named. ascending key_order (all named)) is
     ∙ same_when_sorted key_order total_keys exact_keys (ascending key_order (all own)) (ascending key_order (keys_read c (Rec n)))
     (sorted-ascending key_order total_keys (all own)) (sorted-ascending key_order total_keys (keys_read c (Rec n)))
-    (λ q. holds-ascending key_order exact_keys q (all own) ∙ any_read c n f found (λ y. is_eq (key_order q y)) ∙ sym (holds-ascending key_order exact_keys q (keys_read c (Rec n))))
+    (λ q. holds-ascending key_order exact_keys q (all own) ∙ any_read c n f found (λ y. is_eq (key_order q y))
+    ∙ sym (holds-ascending key_order exact_keys q (keys_read c (Rec n))))
 
 -- the read set of a name that no record has
 pub absent_set : (c : Cell) (n : RecName) → lookup_record c n ≡ None → read_set c (Rec n) ≡ ascending key_order (Name n ∷ [])
 unfolding read_set
 absent_set c n h =
-    λ i. ascending key_order (Name n ∷ (option_map_or end_keys (option_and_then (vector_of is_edge_name) (h i)) [] ++ option_map_or (feature_keys c) (option_and_then feature_of (h i)) []))
+    λ i. ascending key_order (Name n ∷ (option_map_or end_keys (option_and_then (vector_of is_edge_name) (h i)) []
+    ++ option_map_or (feature_keys c) (option_and_then feature_of (h i)) []))
 
 -- and that of the head
 pub head_set : (c : Cell) (n : RecName) (head : CellHead) → lookup_record c n ≡ Some (H head) → read_set c (Rec n) ≡ ascending key_order (Name n ∷ [])
 unfolding read_set
 head_set c n head h =
-    λ i. ascending key_order (Name n ∷ (option_map_or end_keys (option_and_then (vector_of is_edge_name) (h i)) [] ++ option_map_or (feature_keys c) (option_and_then feature_of (h i)) []))
+    λ i. ascending key_order (Name n ∷ (option_map_or end_keys (option_and_then (vector_of is_edge_name) (h i)) []
+    ++ option_map_or (feature_keys c) (option_and_then feature_of (h i)) []))
 
 -- the findings about a name by what the cell has under it
 pub vector_found : (c : Cell) (n : RecName) (v : Vector) → lookup_record c n ≡ Some (V v) → findings_of_subject c (Rec n) ≡ findings_of_record c (V v)
@@ -166,8 +206,10 @@ same_either false found = refl
 
 pub findings_absent : (c : Cell) (n : RecName) → lookup_record c n ≡ None → findings_of_subject c (Rec n) ≡ []
 unfolding findings_of_subject
-findings_absent c n h = (λ i. cond (is_some (listed_record c n)) (option_map_or (findings_of_record c) (h i) []) []) ∙ same_either (is_some (listed_record c n)) []
+findings_absent c n h = (λ i. cond (is_some (listed_record c n)) (option_map_or (findings_of_record c) (h i) []) [])
+    ∙ same_either (is_some (listed_record c n)) []
 
 pub findings_at_head : (c : Cell) (n : RecName) (head : CellHead) → lookup_record c n ≡ Some (H head) → findings_of_subject c (Rec n) ≡ []
 unfolding findings_of_subject
-findings_at_head c n head h = (λ i. cond (is_some (listed_record c n)) (option_map_or (findings_of_record c) (h i) []) []) ∙ same_either (is_some (listed_record c n)) []
+findings_at_head c n head h = (λ i. cond (is_some (listed_record c n)) (option_map_or (findings_of_record c) (h i) []) [])
+    ∙ same_either (is_some (listed_record c n)) []

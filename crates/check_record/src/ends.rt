@@ -111,7 +111,8 @@ pub(crate) fn push_dangling_ends(
     nodes: &BTreeSet<u32>,
     edge: &Vector,
 ) -> Result<(), AllocError>
-    ensures { OnOk result (findings.new.items ≡ findings.old.items ++ map (finding DANGLING_END) (places_where (λ (end : SpecEnd). not (names_node nodes.now end.to)) edge.now.ends)) }
+    ensures { OnOk result (findings.new.items ≡ findings.old.items ++ map (finding DANGLING_END)
+        (places_where (λ (end : SpecEnd). not (names_node nodes.now end.to)) edge.now.ends)) }
 {
     for (k, end) in edge.ends.as_slice().iter().enumerate() {
         if !is_among(nodes, end.to) {

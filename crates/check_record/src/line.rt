@@ -60,7 +60,10 @@ pub(crate) fn push_line_findings(
     findings: &mut Vec<Finding>,
     line: Option<&EdgeLine>,
 ) -> Result<(), AllocError>
-    ensures { OnOk result (findings.new.items ≡ findings.old.items ++ (map (finding STACKED) (option_map_or (λ (line : SpecLine). found_at (spec_stacked_segment line.points)) (option_copied line.entry) []) ++ map (finding SELF_MEET) (option_map_or (λ (line : SpecLine). self_meet_of line.points) (option_copied line.entry) []))) }
+    ensures { OnOk result (findings.new.items ≡ findings.old.items
+        ++ (map (finding STACKED) (option_map_or (λ (line : SpecLine). found_at (spec_stacked_segment line.points))
+        (option_copied line.entry) []) ++ map (finding SELF_MEET)
+        (option_map_or (λ (line : SpecLine). self_meet_of line.points) (option_copied line.entry) []))) }
 {
     let Some(line) = line else {
         return Ok(());

@@ -105,7 +105,9 @@ fn gathered_keys<B: Look, L: Ledger>(
     named: &[Key],
     steps: &mut Steps<L>,
 ) -> Result<Vec<Key>, AllocError>
-    ensures keys { IfOk result (λ keys. keys.items ≡ (named.now ++ (if feature.now.prim == 3 then flat_map (ends_of_key (B.cell look.now)) named.now else [])) ++ map (λ (p : SpecPartner). KeyFoid p.to) feature.now.partners) }
+    ensures keys { IfOk result (λ keys. keys.items ≡ (named.now
+        ++ (if feature.now.prim == 3 then flat_map (ends_of_key (B.cell look.now)) named.now else []))
+        ++ map (λ (p : SpecPartner). KeyFoid p.to) feature.now.partners) }
     ensures steps { steps.new ≤ steps.old + length named.now }
 {
     let mut keys = Vec::new(alloc);

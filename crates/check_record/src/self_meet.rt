@@ -3,7 +3,8 @@
 ghost use Rattle.std.specs.Prelude.{◌≡◌, ◌++◌, All, OnOk, find, map};
 ghost use Rattle.rule_spec.specs.declared.kind.TheConstants.{SELF_MEET};
 ghost use Rattle.rule_spec.specs.Findings.{finding};
-ghost use Rattle.rule_spec.specs.Vectors.{is_bad_meeting as spec_bad_meeting, is_closed_line as spec_closed, meets_wrongly as spec_meets_wrongly, first_wrong_meeting as spec_first_wrong, found_pair as spec_found_pair, self_meet_of};
+ghost use Rattle.rule_spec.specs.Vectors.{is_bad_meeting as spec_bad_meeting, is_closed_line as spec_closed, meets_wrongly as spec_meets_wrongly};
+ghost use Rattle.rule_spec.specs.Vectors.{first_wrong_meeting as spec_first_wrong, found_pair as spec_found_pair, self_meet_of};
 ghost use Rattle.check_record.specs.Blocks.{IsBoxed, segments_in};
 
 use crate::blocks::{Block, blocks_of};

@@ -17,7 +17,8 @@ use Rattle.cell_spec.proofs.Ascending.{holds, holds-ascending, same_when_sorted,
 use Rattle.cell_spec.proofs.Orders.{exact_names, total_names}
 use Rattle.history_spec.specs.Steps.{contested_names, first_of}
 
-first_filtered_by : {X : Type 0} (x : X) (passes : Bool) (rest : List X) (later : Option X) → first_of rest ≡ later → first_of (cond passes (x ∷ rest) rest) ≡ cond passes (Some x) later
+first_filtered_by : {X : Type 0} (x : X) (passes : Bool) (rest : List X) (later : Option X) → first_of rest ≡ later
+    → first_of (cond passes (x ∷ rest) rest) ≡ cond passes (Some x) later
 first_filtered_by x true rest later is = refl
 first_filtered_by x false rest later is = is
 
@@ -49,7 +50,8 @@ module _ {X : Type 0} (order : X → X → Ordering) (total : IsTotalOrder order
   -- what passes a test among the ascending is ascending
   filtered_ascending : (xs : List X) → filter p (ascending order xs) ≡ ascending order (filter p xs)
   filtered_ascending xs =
-      same_when_sorted order total exact (filter p (ascending order xs)) (ascending order (filter p xs)) (IsStrictlySortedBy-filter order p (ascending order xs) (sorted-ascending order total xs))
+      same_when_sorted order total exact (filter p (ascending order xs)) (ascending order (filter p xs))
+      (IsStrictlySortedBy-filter order p (ascending order xs) (sorted-ascending order total xs))
       (sorted-ascending order total (filter p xs))
       (λ q. holds_filtered q (ascending order xs)
       ∙ ap (λ b. p q && b) (holds-ascending order exact q xs)
@@ -58,7 +60,8 @@ module _ {X : Type 0} (order : X → X → Ordering) (total : IsTotalOrder order
 
 -- the least name that is contested is the first of all names in order that is
 pub least_contested : (edits : List Edit) (guards : List RecName) (others : List Edit)
-    → find (λ n. list_any (λ other. same_name n (name_of_edit other)) others) (ascending name_order (map name_of_edit edits ++ guards)) ≡ first_of (ascending name_order (contested_names edits guards others))
+    → find (λ n. list_any (λ other. same_name n (name_of_edit other)) others) (ascending name_order (map name_of_edit edits ++ guards)) ≡
+    first_of (ascending name_order (contested_names edits guards others))
 least_contested edits guards others =
     let p : RecName → Bool = λ n. list_any (λ other. same_name n (name_of_edit other)) others in
     let names : List RecName = map name_of_edit edits ++ guards in

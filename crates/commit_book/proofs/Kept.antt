@@ -16,13 +16,27 @@ use Rattle.history_spec.specs.Entries.{AreTold, AreToldFrom, brief_of, entry_ste
 use Rattle.history_spec.specs.Steps.{History, answer, left_after, opening}
 use Rattle.room_laws.proofs.Steps.{level_left}
 use Rattle.commit_book.specs.declared.accepted.Accepted.{Accepted as Taken}
-use Rattle.commit_book.specs.Books.{HaveLines, IsKept, LeavesCommits, accepted_by, accepted_in, accepted_sets, commit_of, entry_of, set_in}
+use Rattle.commit_book.specs.Books.{
+  AreTakenFrom,
+  HaveLines,
+  IsKept,
+  IsTakenAt,
+  LeavesCommits,
+  accepted_by,
+  accepted_in,
+  accepted_sets,
+  commit_of,
+  entry_of,
+  set_in,
+}
+use Rattle.commit_book.proofs.Taken.{newest, taken_more}
 
 -- the state after one entry more
 pub replayed_more : (c : Cell) (entries : List Entry) (e : Entry) → replayed c (entries ++ e ∷ []) ≡ stepped (replayed c entries) e
 replayed_more c entries e = fold-append stepped (opening c) entries (e ∷ [])
 
-told_more : (h : History) (entries : List Entry) (e : Entry) → AreToldFrom h entries → e.brief ≡ brief_of (entry_step (fold stepped h entries) e).0 → AreToldFrom h (entries ++ e ∷ [])
+told_more : (h : History) (entries : List Entry) (e : Entry) → AreToldFrom h entries
+    → e.brief ≡ brief_of (entry_step (fold stepped h entries) e).0 → AreToldFrom h (entries ++ e ∷ [])
 told_more h [] e told is = (is, tt)
 told_more h (x ∷ entries) e told is = (told.0, told_more (stepped h x) entries e told.1 is)
 
@@ -48,7 +62,8 @@ pub replayed_entered : (c : Cell) (entries : List Entry) (desk : ℕ) (asked : A
 replayed_entered c entries desk asked reply is =
     replayed_more c entries (entered desk asked reply) ∙ ap (λ r. after_reply (replayed c entries) desk asked r) (sym is)
 
-pub told_entered : (c : Cell) (entries : List Entry) (desk : ℕ) (asked : Asked) (reply : Reply) → AreTold c entries → reply ≡ answer (replayed c entries) (event_asked asked)
+pub told_entered : (c : Cell) (entries : List Entry) (desk : ℕ) (asked : Asked) (reply : Reply) → AreTold c entries
+    → reply ≡ answer (replayed c entries) (event_asked asked)
     → AreTold c (entries ++ entered desk asked reply ∷ [])
 told_entered c entries desk asked reply told is = told_more (opening c) entries (entered desk asked reply) told (ap brief_of is)
 
@@ -76,7 +91,8 @@ no_set (Commit base set) (Refused refusal) leaves = refl
 no_set (Commit base set) (Accepted number findings) leaves = absurd leaves
 
 -- the edit sets that are accepted, after one entry more
-pub sets_left : (entries : List Entry) (desk : ℕ) (asked : Asked) (reply : Reply) → LeavesCommits reply → accepted_sets (entries ++ entered desk asked reply ∷ []) ≡ accepted_sets entries
+pub sets_left : (entries : List Entry) (desk : ℕ) (asked : Asked) (reply : Reply) → LeavesCommits reply
+    → accepted_sets (entries ++ entered desk asked reply ∷ []) ≡ accepted_sets entries
 sets_left entries desk asked reply leaves =
     filter_map-append accepted_in entries (entered desk asked reply ∷ [])
     ∙ ap (λ one. accepted_sets entries ++ cons_option one []) (no_set asked reply leaves)
@@ -87,8 +103,10 @@ pub sets_pushed : (entries : List Entry) (desk base : ℕ) (set : GuardedEdits) 
 sets_pushed entries desk base set number findings = filter_map-append accepted_in entries (entered desk (Commit base set) (Accepted number findings) ∷ [])
 
 -- an entry whose answer leaves the cell and its commits
-pub kept_entered : (c : Cell) (entries after : List Entry) (cell : Cell) (accepted : List Taken) (desk : ℕ) (asked : Asked) (reply : Reply) → IsKept c entries cell accepted
-    → length entries < 1000000 → reply ≡ answer (replayed c entries) (event_asked asked) → LeavesCommits reply → after ≡ entries ++ entered desk asked reply ∷ [] → IsKept c after cell accepted
+pub kept_entered : (c : Cell) (entries after : List Entry) (cell : Cell) (accepted : List Taken) (desk : ℕ) (asked : Asked) (reply : Reply)
+    → IsKept c entries cell accepted
+    → length entries < 1000000 → reply ≡ answer (replayed c entries) (event_asked asked) → LeavesCommits reply
+    → after ≡ entries ++ entered desk asked reply ∷ [] → IsKept c after cell accepted
 kept_entered c entries after cell accepted desk asked reply kept room is leaves more =
     let left = sym (replayed_entered c entries desk asked reply is) ∙ ap (replayed c) (sym more) in
     let longer = ap length more ∙ length-append entries (entered desk asked reply ∷ []) in
@@ -99,28 +117,39 @@ kept_entered c entries after cell accepted desk asked reply kept room is leaves 
       sets_are = kept.sets_are ∙ sym (ap accepted_sets more ∙ sets_left entries desk asked reply leaves);
       levels = kept.levels;
       lines = subst (All HaveLines) (sym (ap accepted_sets more ∙ sets_left entries desk asked reply leaves)) kept.lines;
+      taken = kept.taken;
       few = let few = kept.few in omega (arith, few, longer);
       within = omega (arith, room, longer);
     }
 
 -- an entry of an accepted commit
-pub kept_accepted : (c : Cell) (entries after : List Entry) (cell planned : Cell) (accepted taken : List Taken) (desk base : ℕ) (set : GuardedEdits) (number findings : ℕ) → IsKept c entries cell accepted
-    → length entries < 1000000 → Accepted number findings ≡ answer (replayed c entries) (event_asked (Commit base set)) → set.nall ≡ c.head.nall → HaveLines set → planned ≡ apply_edits set.edits (replayed c entries).cell
-    → taken ≡ accepted ++ record { desk = desk; set = set } ∷ [] → after ≡ entries ++ entered desk (Commit base set) (Accepted number findings) ∷ [] → IsKept c after planned taken
-kept_accepted c entries after cell planned accepted taken desk base set number findings kept room is level lines edited pushed more =
+pub kept_accepted : (c : Cell) (entries after : List Entry) (cell planned : Cell) (accepted pushed : List Taken) (one : Taken)
+    (base number findings : ℕ) → IsKept c entries cell accepted → length entries < 1000000
+    → Accepted number findings ≡ answer (replayed c entries) (event_asked (Commit base one.set)) → one.set.nall ≡ c.head.nall
+    → HaveLines one.set → IsTakenAt (replayed c entries).cell one
+    → planned ≡ apply_edits one.set.edits (replayed c entries).cell → pushed ≡ accepted ++ one ∷ []
+    → after ≡ entries ++ entered one.desk (Commit base one.set) (Accepted number findings) ∷ []
+    → IsKept c after planned pushed
+kept_accepted c entries after cell planned accepted pushed one base number findings kept room is level lines taken edits one_more more =
+    let desk = one.desk in
+    let set = one.set in
     let left = sym (replayed_entered c entries desk (Commit base set) (Accepted number findings) is) ∙ ap (replayed c) (sym more) in
     let longer = ap length more ∙ length-append entries (entered desk (Commit base set) (Accepted number findings) ∷ []) in
-    let one : Taken = record { desk = desk; set = set } in
     record {
       told = subst (AreTold c) (sym more) (told_entered c entries desk (Commit base set) (Accepted number findings) kept.told is);
-      cell_is = edited ∙ ap (λ (h : History). h.cell) left;
-      commits_are = ap (map commit_of) pushed ∙ map-append commit_of accepted (one ∷ []) ∙ ap (λ commits. commits ++ commit_of one ∷ []) kept.commits_are ∙ ap (λ (h : History). h.commits) left;
-      sets_are = ap (map set_in) pushed
+      cell_is = edits ∙ ap (λ (h : History). h.cell) left;
+      commits_are = ap (map commit_of) one_more ∙ map-append commit_of accepted (one ∷ [])
+          ∙ ap (λ commits. commits ++ commit_of one ∷ []) kept.commits_are ∙ ap (λ (h : History). h.commits) left;
+      sets_are = ap (map set_in) one_more
           ∙ map-append set_in accepted (one ∷ [])
           ∙ ap (λ sets. sets ++ set ∷ []) kept.sets_are
           ∙ sym (ap accepted_sets more ∙ sets_pushed entries desk base set number findings);
-      levels = subst (All (λ (t : Taken). t.set.nall ≡ c.head.nall)) (sym pushed) (All-push (λ (t : Taken). t.set.nall ≡ c.head.nall) accepted one kept.levels level);
-      lines = subst (All HaveLines) (sym (ap accepted_sets more ∙ sets_pushed entries desk base set number findings)) (All-push HaveLines (accepted_sets entries) set kept.lines lines);
-      few = let few = kept.few in let one_more = ap length pushed ∙ length-append accepted (one ∷ []) in omega (arith, few, longer, one_more);
+      levels = subst (All (λ (t : Taken). t.set.nall ≡ c.head.nall)) (sym one_more)
+          (All-push (λ (t : Taken). t.set.nall ≡ c.head.nall) accepted one kept.levels level);
+      lines = subst (All HaveLines) (sym (ap accepted_sets more ∙ sets_pushed entries desk base set number findings))
+          (All-push HaveLines (accepted_sets entries) set kept.lines lines);
+      taken = subst (AreTakenFrom c) (sym one_more)
+          (taken_more c accepted one kept.taken (subst (λ d. IsTakenAt d one) (newest c entries accepted kept.commits_are) taken));
+      few = let few = kept.few in let longer_too = ap length one_more ∙ length-append accepted (one ∷ []) in omega (arith, few, longer, longer_too);
       within = omega (arith, room, longer);
     }

@@ -1,6 +1,9 @@
 pub mod Merging
 pub mod Contested
+pub mod Taken
 pub mod Kept
 pub mod Numbered
 pub mod News
+pub mod Ready
+pub mod LookUps
 pub mod Sent

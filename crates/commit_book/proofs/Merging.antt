@@ -1,10 +1,10 @@
 -- The first name that stands in both of two lists in order, gone through side by side.
-use Rattle.std.proofs.Common.{◌≡◌, ◌||◌, false, List, [], ◌∷◌, Option, Some, None, cond, length, map, refl, sym, ap, ◌∙◌, arith}
+use Rattle.std.proofs.Common.{◌≡◌, ◌||◌, true, false, List, [], ◌∷◌, Option, Some, None, cond, length, map, refl, sym, ap, ◌∙◌, arith}
 use Rattle.std.specs.Prelude.{find}
 use Rattle.std.specs.List.{list_any, AllByRecursion}
 use Rattle.std.specs.List.Sorted.{IsStrictlySortedBy}
 use Rattle.std.specs.Ordering.{is_eq, ordering_reverse}
-use Rattle.std.specs.declared.cmp.Ordering.TheVariants.{Less, Greater}
+use Rattle.std.specs.declared.cmp.Ordering.TheVariants.{Less, Equal, Greater}
 use Rattle.s57_types.specs.declared.name.RecName.{RecName}
 use Rattle.cell_spec.specs.Names.{name_order, same_name}
 use Rattle.cell_spec.specs.Ascending.{ascending}
@@ -48,6 +48,13 @@ right_is_less name other names others e sorted =
     let below : name_order other name ≡ Less = total_names.antisymm other name ∙ ap ordering_reverse e in
     sym (passed_by other (name ∷ names) others (below, behind_both other name names below sorted.0))
 
+-- the name at the front of both is the first
+pub found_equal : (name other : RecName) (names others : List RecName) → name_order name other ≡ Equal
+    → Some name ≡ first_in_both (name ∷ names) (other ∷ others)
+found_equal name other names others e =
+    let same : same_name name other ≡ true = same_from_either name other ∙ sym (names_tie name other) ∙ ap is_eq e in
+    ap (λ b. cond (b || list_any (λ o. same_name name o) others) (Some name) (first_in_both names (other ∷ others))) (sym same)
+
 pub none_in_none : (names others : List RecName) → length others ≡ 0 → None ≡ first_in_both names others
 none_in_none [] others none = refl
 none_in_none (n ∷ names) [] none = none_in_none names [] none
@@ -57,11 +64,13 @@ pub sorted_behind : (name : RecName) (names : List RecName) → IsStrictlySorted
 unfolding IsStrictlySortedBy
 sorted_behind name names sorted = sorted.1
 
-any_named : (name : RecName) (edits : List Edit) → list_any (λ other. same_name name other) (map name_of_edit edits) ≡ list_any (λ edit. same_name name (name_of_edit edit)) edits
+any_named : (name : RecName) (edits : List Edit) → list_any (λ other. same_name name other) (map name_of_edit edits) ≡ list_any
+    (λ edit. same_name name (name_of_edit edit)) edits
 any_named name [] = refl
 any_named name (e ∷ edits) = ap (λ b. same_name name (name_of_edit e) || b) (any_named name edits)
 
 -- among the names of edits in order are those of the edits
 pub first_named : (names : List RecName) (edits : List Edit)
     → first_in_both names (ascending name_order (map name_of_edit edits)) ≡ find (λ name. list_any (λ edit. same_name name (name_of_edit edit)) edits) names
-first_named names edits = λ i. find (λ name. (any-ascending name_order exact_names (λ other. same_name name other) (map name_of_edit edits) ∙ any_named name edits) i) names
+first_named names edits = λ i. find (λ name. (any-ascending name_order exact_names (λ other. same_name name other) (map name_of_edit edits)
+    ∙ any_named name edits) i) names

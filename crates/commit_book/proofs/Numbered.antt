@@ -12,18 +12,20 @@ use Rattle.commit_book.specs.declared.accepted.Accepted.{Accepted as Taken}
 use Rattle.commit_book.specs.Books.{AreSetsOf, IsKept, accepted_sets, commit_of, set_in}
 
 -- the items behind the first, with their numbers
-numbered_behind : {X : Type 0} (b n : ℕ) (xs : List X) → enumerate_from (n + b) (drop b xs) ≡ drop b (enumerate_from n xs)
+pub numbered_behind : {X : Type 0} (b n : ℕ) (xs : List X) → enumerate_from (n + b) (drop b xs) ≡ drop b (enumerate_from n xs)
 numbered_behind zero n xs = (let e : n + 0 ≡ n = omega arith in ap (λ k. enumerate_from k xs) e)
 numbered_behind (suc b) n [] = refl
 numbered_behind (suc b) n (x ∷ xs) = (let e : n + suc b ≡ n + 1 + b = omega arith in ap (λ k. enumerate_from k (drop b xs)) e) ∙ numbered_behind b (n + 1) xs
 
-pub commits_behind : (base : ℕ) (accepted : List Taken) → enumerate_from (base + 1) (map commit_of (drop base accepted)) ≡ drop base (enumerate_from 1 (map commit_of accepted))
+pub commits_behind : (base : ℕ) (accepted : List Taken) → enumerate_from (base + 1) (map commit_of (drop base accepted)) ≡
+    drop base (enumerate_from 1 (map commit_of accepted))
 commits_behind base accepted =
     (let e : base + 1 ≡ 1 + base = omega arith in ap (λ k. enumerate_from k (map commit_of (drop base accepted))) e)
     ∙ ap (enumerate_from (1 + base)) (sym (drop-map commit_of base accepted))
     ∙ numbered_behind base 1 (map commit_of accepted)
 
-same_edits : (accepted : List Taken) → map (λ (set : GuardedEdits). set.edits) (map set_in accepted) ≡ map (λ (commit : AcceptedCommit). commit.edits) (map commit_of accepted)
+same_edits : (accepted : List Taken) → map (λ (set : GuardedEdits). set.edits) (map set_in accepted) ≡ map
+    (λ (commit : AcceptedCommit). commit.edits) (map commit_of accepted)
 same_edits [] = refl
 same_edits (taken ∷ accepted) = ap (λ all. taken.set.edits ∷ all) (same_edits accepted)
 
@@ -37,6 +39,8 @@ module _ (c : Cell) (entries : List Entry) (cell : Cell) (accepted : List Taken)
 
   pub sets_of_commits : AreSetsOf c.head.nall (replayed c entries).commits (accepted_sets entries)
   sets_of_commits = record {
-    edits = ap (map (λ (set : GuardedEdits). set.edits)) (sym kept.sets_are) ∙ same_edits accepted ∙ ap (map (λ (commit : AcceptedCommit). commit.edits)) kept.commits_are;
-    levels = subst (All (λ (set : GuardedEdits). set.nall ≡ c.head.nall)) kept.sets_are (All-map (λ (set : GuardedEdits). set.nall ≡ c.head.nall) set_in accepted kept.levels);
+    edits = ap (map (λ (set : GuardedEdits). set.edits)) (sym kept.sets_are) ∙ same_edits accepted
+        ∙ ap (map (λ (commit : AcceptedCommit). commit.edits)) kept.commits_are;
+    levels = subst (All (λ (set : GuardedEdits). set.nall ≡ c.head.nall)) kept.sets_are
+        (All-map (λ (set : GuardedEdits). set.nall ≡ c.head.nall) set_in accepted kept.levels);
   }

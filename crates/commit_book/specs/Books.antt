@@ -3,6 +3,10 @@ use Rattle.std.specs.Prelude.{◌≡◌, ℕ, ◌≤◌, true, List, [], ◌∷�
 use Rattle.s57_types.specs.declared.cell.Cell.{Cell}
 use Rattle.s57_types.specs.declared.name.RecName.{RecName}
 use Rattle.cell_spec.specs.declared.edit.Edit.{Edit}
+use Rattle.cell_spec.specs.declared.key.Key.{Key}
+use Rattle.cell_spec.specs.Edits.{apply_edits, touched_keys}
+use Rattle.cell_spec.specs.Writable.{IsWritable}
+use Rattle.answer_laws.specs.EditedAnswers.{FindTheirRecords}
 use Rattle.edit_sets.specs.FormFault.{GuardedEdits}
 use Rattle.rule_spec.specs.Findings.{finding_total}
 use Rattle.text_spec.specs.EditLine.{has_line}
@@ -47,6 +51,9 @@ commit_of taken = record { desk = taken.desk; edits = taken.set.edits }
 abbrev pub set_in : Taken → GuardedEdits
 set_in taken = taken.set
 
+abbrev pub touched_in : Taken → List Key
+touched_in taken = taken.touched
+
 -- the edit set of an entry whose answer accepts it
 abbrev pub accepted_by : Asked → Brief → Option GuardedEdits
 accepted_by View told = None
@@ -73,8 +80,20 @@ pub record AreSetsOf (level : ℕ) (commits : List AcceptedCommit) (sets : List 
 abbrev pub HaveLines : GuardedEdits → Type 0
 HaveLines set = All (λ (edit : Edit). has_line edit ≡ true) set.edits
 
+-- an accepted commit at the cell that it found: that cell can be written, the edits find their records there, and the keys kept are those that
+-- they touch there
+pub record IsTakenAt (c : Cell) (taken : Taken) : Type 0 where
+  pub writable : IsWritable c
+  pub found : FindTheirRecords taken.set.edits c
+  pub touched : taken.touched ≡ touched_keys taken.set.edits c
+
+-- accepted commits from a cell on, each at the cell that those before it leave
+abbrev pub AreTakenFrom : Cell → List Taken → Type 0
+AreTakenFrom c [] = Unit {0}
+AreTakenFrom c (taken ∷ more) = IsTakenAt c taken × AreTakenFrom (apply_edits taken.set.edits c) more
+
 -- each entry has the answer at its point; the cell and the accepted commits are those that the entries leave, and each of these commits is for
--- the opening's level of national texts, with edits that have lines
+-- the opening's level of national texts, with edits that have lines, and was taken at the cell that those before it leave
 pub record IsKept (c : Cell) (entries : List Entry) (cell : Cell) (accepted : List Taken) : Type 0 where
   pub told : AreTold c entries
   pub cell_is : cell ≡ (replayed c entries).cell
@@ -82,6 +101,7 @@ pub record IsKept (c : Cell) (entries : List Entry) (cell : Cell) (accepted : Li
   pub sets_are : map set_in accepted ≡ accepted_sets entries
   pub levels : All (λ (taken : Taken). taken.set.nall ≡ c.head.nall) accepted
   pub lines : All HaveLines (accepted_sets entries)
+  pub taken : AreTakenFrom c accepted
   pub few : length accepted ≤ length entries
   pub within : length entries ≤ entry_limit
 

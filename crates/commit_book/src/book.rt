@@ -1,10 +1,12 @@
 //! The log of the editing history of a cell.
 
-ghost use Rattle.std.specs.Prelude.{◌≡◌, ◌≤◌, [], All, Err, IfOk, IfErr, MatchResult, drop, length};
+ghost use Rattle.std.specs.Prelude.{◌≡◌, ◌+◌, ◌*◌, ◌≤◌, [], All, Err, IfOk, IfErr, MatchResult, drop, length};
+ghost use Rattle.cell_spec.specs.Edits.{touched_keys};
 ghost use Rattle.cell_spec.specs.Writable.{IsWritable};
 ghost use Rattle.history_spec.specs.Entries.{AreTold};
 ghost use Rattle.cell_bench.specs.Benches.{IsLoadRefusal};
 ghost use Rattle.commit_book.specs.Books.{AreSetsOf, HaveLines, IsBookRefusal, IsEntered, IsNews, IsOpened, accepted_sets, entry_limit, history_of};
+ghost use Rattle.commit_book.specs.Prepared.{AreRight, commit_budget};
 
 use crate::accepted::Accepted;
 use crate::refusal::BookRefusal;
@@ -173,7 +175,9 @@ impl Book {
     }
 
     /// Commits the edits that a desk prepared, unless a newer commit edits what they edit or guard, or the cell doesn't take them;
-    /// an accepted commit tells the edit sets that were accepted after its base, its own the last. No rows can be ready yet.
+    /// an accepted commit tells the edit sets that were accepted after its base, its own the last. Its rows are right on the cell of
+    /// its base: those that hold no key that a newer commit touched count, and only what none of them tells is judged; with no newer
+    /// commit that is nothing.
     ///
     /// An `Err` is as that of a view.
     pub fn commit<L: Ledger>(
@@ -185,11 +189,14 @@ impl Book {
     ) -> Result<Told, BookRefusal>
         requires base { prepared.now.base ≤ length (history_of self.old).commits }
         requires level { prepared.now.edits.nall ≡ self.old.opening.head.nall }
-        requires rows { prepared.now.rows ≡ [] }
+        requires rows { AreRight self.old.opening self.old.entries prepared.now }
         ensures ok { IfOk result (λ told. IsEntered self.old desk (Asked.Commit prepared.now.base prepared.now.edits) self.new told.reply) }
         ensures news { IfOk result (IsNews prepared.now.base self.new) }
         ensures err { IfErr result (λ why. IsBookRefusal self.old.entries why × (self.new ≡ self.old)) }
         ensures full { length self.old.entries ≡ entry_limit → result ≡ Err BookRefusal.LogFull }
+        ensures steps { steps.new ≤ steps.old + commit_budget self.old prepared.now }
+        ensures alone { prepared.now.base ≡ length (history_of self.old).commits → steps.new
+            ≤ steps.old + 4 * (length (touched_keys prepared.now.edits.edits (history_of self.old).cell) + length prepared.now.edits.edits) }
     {
         self.need_room()?;
         let newer = self.sets_after(alloc, prepared.base())?;

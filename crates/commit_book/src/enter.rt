@@ -1,21 +1,29 @@
 //! What is entered: an answer that leaves the cell and its commits as they are, or an accepted commit.
 
-ghost use Rattle.std.specs.Prelude.{◌≡◌, ◌+◌, ◌≤◌, ◌<◌, [], Err, IfOk, IfErr, MatchResult, OnOk, length};
-ghost use Rattle.cell_spec.specs.Edits.{apply_edits};
+ghost use Rattle.std.specs.Prelude.{◌≡◌, ◌+◌, ◌*◌, ◌≤◌, ◌<◌, Err, IfOk, IfErr, MatchResult, None, OnOk, length};
+ghost use Rattle.cell_spec.specs.Edits.{apply_edits, touched_keys};
+ghost use Rattle.cell_spec.specs.Writable.{IsWritable};
 ghost use Rattle.rule_spec.specs.Findings.{finding_total};
+ghost use Rattle.answer_laws.specs.EditedAnswers.{FindTheirRecords};
 ghost use Rattle.history_spec.specs.Entries.{event_asked};
-ghost use Rattle.history_spec.specs.Steps.{answer};
-ghost use Rattle.commit_book.specs.Books.{HaveLines, IsBookRefusal, IsEntered, IsFull, IsVerdict, LeavesCommits, answer_to, entry_limit, history_of};
+ghost use Rattle.history_spec.specs.Steps.{answer, newer_answer};
+ghost use Rattle.cell_bench.specs.Benches.{IsPlanRefusal, IsPlanned};
+ghost use Rattle.commit_book.specs.Books.{HaveLines, IsBookRefusal, IsEntered, IsFull, IsTakenAt, IsVerdict, LeavesCommits, answer_to, entry_limit, history_of};
+ghost use Rattle.commit_book.specs.Prepared.{AreRight, commit_budget};
 
 use crate::accepted::Accepted;
 use crate::book::Book;
 use crate::newer::newer_answer;
 use crate::refusal::BookRefusal;
+use crate::stale::stale_keys;
 use crate::told::{Answered, brief_of};
+use answer_laws::{formed_edits_find_their_records, untouched_keys_keep_answers};
 use cell_bench::{BenchPlan, PlanRefusal, Prepared};
+use cell_spec::writable_cells_are_readable;
 use chain_topo::Steps;
 use edit_laws::{refusals_tell_what_a_cell_takes, taken_edits_have_lines};
 use edit_sets::{EditSet, FormFault};
+use finding_laws::valid_rows_stay_exact;
 use history_spec::{Asked, Brief, Entry, Reply};
 use s57_types::Duplicate;
 use std::alloc::Global;
@@ -80,27 +88,24 @@ impl Book {
     fn accept(
         &mut self,
         alloc: Global,
-        desk: u32,
         base: u32,
-        set: &EditSet,
+        accepted: Accepted,
         plan: BenchPlan,
     ) -> Result<Answered, BookRefusal>
         requires room { length self.old.entries < entry_limit }
-        requires level { set.now.nall ≡ self.old.opening.head.nall }
-        requires lines { HaveLines set.now }
-        requires planned { plan ≡ apply_edits set.now.edits (history_of self.old).cell }
-        requires answered { answer_to self.old base set.now ≡ Reply.Accepted (length (history_of self.old).commits + 1) (finding_total plan) }
-        ensures ok { IfOk result (λ answered. IsEntered self.old desk (Asked.Commit base set.now) self.new answered.reply) }
+        requires level { accepted.set.nall ≡ self.old.opening.head.nall }
+        requires lines { HaveLines accepted.set }
+        requires taken { IsTakenAt (history_of self.old).cell accepted }
+        requires planned { plan ≡ apply_edits accepted.set.edits (history_of self.old).cell }
+        requires answered { answer_to self.old base accepted.set ≡ Reply.Accepted (length (history_of self.old).commits + 1) (finding_total plan) }
+        ensures ok { IfOk result (λ answered. IsEntered self.old accepted.desk (Asked.Commit base accepted.set) self.new answered.reply) }
         ensures verdict { IfOk result (λ answered. IsVerdict answered.reply) }
         ensures err { IfErr result (λ why. (why ≡ BookRefusal.NoMemory) × (self.new ≡ self.old)) }
     {
+        let desk = accepted.desk;
         let asked = Asked::Commit {
             base,
-            edits: set.copy(alloc)?,
-        };
-        let accepted = Accepted {
-            desk,
-            set: set.copy(alloc)?,
+            edits: accepted.set.copy(alloc)?,
         };
         self.entries.reserve(1)?;
         self.accepted.reserve(1)?;
@@ -115,6 +120,40 @@ impl Book {
         Ok(Answered { reply, replaced })
     }
 
+    /// The bench after a commit against which no newer one stands. Of the rows that were prepared those count that hold no key that a
+    /// newer commit touched: what they tell of the edited cell of the base they tell of today's. Of the look-ups that deciding takes one
+    /// for each edit is left.
+    fn plan<L: Ledger>(
+        &self,
+        alloc: Global,
+        prepared: &Prepared,
+        steps: &mut Steps<L>,
+    ) -> Result<BenchPlan, PlanRefusal>
+        requires base { prepared.now.base ≤ length (history_of self.now).commits }
+        requires level { prepared.now.edits.nall ≡ self.now.opening.head.nall }
+        requires rows { AreRight self.now.opening self.now.entries prepared.now }
+        requires alone { newer_answer (history_of self.now).commits prepared.now.base prepared.now.edits.edits prepared.now.edits.guards ≡ None }
+        ensures planned { MatchResult result (IsPlanned (history_of self.now).cell prepared.now.edits.edits)
+            (IsPlanRefusal (history_of self.now).cell prepared.now.edits.edits) }
+        ensures writable { IsWritable (history_of self.now).cell }
+        ensures found { OnOk result (FindTheirRecords prepared.now.edits.edits (history_of self.now).cell) }
+        ensures lines { OnOk result (HaveLines prepared.now.edits) }
+        ensures steps { steps.new ≤ steps.old + commit_budget self.now prepared.now }
+        ensures left { OnOk result (steps.new + length prepared.now.edits.edits ≤ steps.old + commit_budget self.now prepared.now) }
+    {
+        let set = prepared.edits();
+        set.known();
+        self.bench.known();
+        taken_edits_have_lines();
+        refusals_tell_what_a_cell_takes();
+        writable_cells_are_readable();
+        formed_edits_find_their_records();
+        untouched_keys_keep_answers();
+        valid_rows_stay_exact();
+        let stale = stale_keys(alloc, self.accepted.as_slice(), prepared.base())?;
+        self.bench.plan(alloc, set, prepared.rows(), &stale, steps)
+    }
+
     /// Decides a commit and enters it with its answer.
     fn enter_commit<L: Ledger>(
         &mut self,
@@ -126,23 +165,23 @@ impl Book {
         requires room { length self.old.entries < entry_limit }
         requires base { prepared.now.base ≤ length (history_of self.old).commits }
         requires level { prepared.now.edits.nall ≡ self.old.opening.head.nall }
-        requires rows { prepared.now.rows ≡ [] }
+        requires rows { AreRight self.old.opening self.old.entries prepared.now }
         ensures ok { IfOk result (λ answered. IsEntered self.old desk (Asked.Commit prepared.now.base prepared.now.edits) self.new answered.reply) }
         ensures verdict { IfOk result (λ answered. IsVerdict answered.reply) }
         ensures err { IfErr result (λ why. (why ≡ BookRefusal.NoMemory) × (self.new ≡ self.old)) }
+        ensures steps { steps.new ≤ steps.old + commit_budget self.old prepared.now }
     {
         let base = prepared.base();
         let set = prepared.edits();
-        set.known();
-        self.bench.known();
-        taken_edits_have_lines();
-        refusals_tell_what_a_cell_takes();
         if let Some(reply) = newer_answer(alloc, self.accepted.as_slice(), base, set)? {
             self.refuse(alloc, desk, base, set, &reply)?;
             return Ok(Answered::alone(reply));
         }
-        match self.bench.plan(alloc, set, prepared.rows(), &[], steps) {
-            Ok(plan) => self.accept(alloc, desk, base, set, plan),
+        match self.plan(alloc, prepared, steps) {
+            Ok(plan) => {
+                let accepted = Accepted::make(alloc, desk, set, &self.bench, steps)?;
+                self.accept(alloc, base, accepted, plan)
+            }
             Err(PlanRefusal::State(refusal)) => {
                 let reply = Reply::Refused(refusal);
                 self.refuse(alloc, desk, base, set, &reply)?;
@@ -183,7 +222,8 @@ impl Book {
         Ok(Answered::alone(reply))
     }
 
-    /// A commit without its news, for a desk that takes a copy of the bench. No rows can be ready yet.
+    /// A commit without its news, for a desk that takes a copy of the bench. Its rows are right on the cell of its base, and only what no
+    /// valid row tells is judged; with no newer commit that is nothing.
     ///
     /// An `Err` is as that of a view.
     pub fn answer_commit<L: Ledger>(
@@ -195,11 +235,14 @@ impl Book {
     ) -> Result<Answered, BookRefusal>
         requires base { prepared.now.base ≤ length (history_of self.old).commits }
         requires level { prepared.now.edits.nall ≡ self.old.opening.head.nall }
-        requires rows { prepared.now.rows ≡ [] }
+        requires rows { AreRight self.old.opening self.old.entries prepared.now }
         ensures ok { IfOk result (λ answered. IsEntered self.old desk (Asked.Commit prepared.now.base prepared.now.edits) self.new answered.reply) }
         ensures verdict { IfOk result (λ answered. IsVerdict answered.reply) }
         ensures err { IfErr result (λ why. IsBookRefusal self.old.entries why × (self.new ≡ self.old)) }
         ensures full { length self.old.entries ≡ entry_limit → result ≡ Err BookRefusal.LogFull }
+        ensures steps { steps.new ≤ steps.old + commit_budget self.old prepared.now }
+        ensures alone { prepared.now.base ≡ length (history_of self.old).commits → steps.new
+            ≤ steps.old + 4 * (length (touched_keys prepared.now.edits.edits (history_of self.old).cell) + length prepared.now.edits.edits) }
     {
         self.need_room()?;
         self.enter_commit(alloc, desk, prepared, steps)

@@ -7,6 +7,7 @@ mod enter;
 mod names;
 mod newer;
 mod refusal;
+mod stale;
 mod told;
 
 pub use accepted::Accepted;

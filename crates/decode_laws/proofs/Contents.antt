@@ -1,11 +1,68 @@
 -- What is known of the values of fields that have no fault: plain texts, levels in range and names of vector records.
-use Rattle.std.proofs.Common.{◌≡◌, ℕ, zero, suc, ◌&&◌, ◌||◌, ◌==◌, Bool, true, false, not, List, [], ◌∷◌, ◌++◌, map, length, nat_le, Option, Some, None, Result, Ok, Err, refl, subst}
+use Rattle.std.proofs.Common.{
+  ◌≡◌,
+  ℕ,
+  zero,
+  suc,
+  ◌&&◌,
+  ◌||◌,
+  ◌==◌,
+  Bool,
+  true,
+  false,
+  not,
+  List,
+  [],
+  ◌∷◌,
+  ◌++◌,
+  map,
+  length,
+  nat_le,
+  Option,
+  Some,
+  None,
+  Result,
+  Ok,
+  Err,
+  refl,
+  subst,
+}
 use Rattle.std.specs.Prelude.{if◌then◌else◌}
 use Rattle.std.specs.List.{list_all}
 use Rattle.std.specs.Option.{option_map}
 use Rattle.std.specs.Result.{result_map_both}
-use Rattle.s57_types.specs.Subfield.{Form, Subfield, unsigned, signed, text, wide_text, fixed, unsigned_of, signed_of, text_of, wide_text_of, fixed_of, is_plain, row_bytes, field_terminator}
-use Rattle.s57_types.specs.FieldRows.{attribute_forms, attribute_row, partner_forms, partner_row, dsid_forms, dsid_row, dssi_forms, dssi_row, dspm_forms, dspm_row, vrid_forms, end_forms, place_forms}
+use Rattle.s57_types.specs.Subfield.{
+  Form,
+  Subfield,
+  unsigned,
+  signed,
+  text,
+  wide_text,
+  fixed,
+  unsigned_of,
+  signed_of,
+  text_of,
+  wide_text_of,
+  fixed_of,
+  is_plain,
+  row_bytes,
+  field_terminator,
+}
+use Rattle.s57_types.specs.FieldRows.{
+  attribute_forms,
+  attribute_row,
+  partner_forms,
+  partner_row,
+  dsid_forms,
+  dsid_row,
+  dssi_forms,
+  dssi_row,
+  dspm_forms,
+  dspm_row,
+  vrid_forms,
+  end_forms,
+  place_forms,
+}
 use Rattle.s57_types.specs.Fitness.{is_vector_kind}
 use Rattle.s57_types.specs.declared.name.Kind.TheVariants.{Vi, Vc, Ve, Fe}
 use Rattle.s57_types.specs.declared.field.Dsid.{Dsid}
@@ -16,7 +73,35 @@ use Rattle.s57_types.specs.declared.record.Attr.{Attr}
 use Rattle.s57_types.specs.declared.record.End.{End}
 use Rattle.s57_types.specs.declared.record.Spot.{Spot}
 use Rattle.s57_types.specs.declared.record.Partner.{Partner}
-use Rattle.field_spec.specs.Contents.{text_value, text_in, number_in, name_in, judged, judged_row, row_as, rows_as, any_row, names_a_vector, has_good_levels, dsid_value, dsid_content, dssi_value, dssi_content, dspm_value, dspm_content, vrid_value, vrid_content, attribute_value, attribute_content, partner_value, partner_content, place_value, place_content, end_value, end_content}
+use Rattle.field_spec.specs.Contents.{
+  text_value,
+  text_in,
+  number_in,
+  name_in,
+  judged,
+  judged_row,
+  row_as,
+  rows_as,
+  any_row,
+  names_a_vector,
+  has_good_levels,
+  dsid_value,
+  dsid_content,
+  dssi_value,
+  dssi_content,
+  dspm_value,
+  dspm_content,
+  vrid_value,
+  vrid_content,
+  attribute_value,
+  attribute_content,
+  partner_value,
+  partner_content,
+  place_value,
+  place_content,
+  end_value,
+  end_content,
+}
 use Rattle.field_spec.specs.Cutting.{front, split, split_units, cut_row, cut_rows, field_row, field_rows, whole, before_terminator, body_at_level}
 use Rattle.field_spec.specs.declared.fault.FieldFault.TheVariants.{BadField, BadText}
 use Rattle.field_spec.proofs.CutBack.{mapped_back, bound_back}
@@ -52,36 +137,48 @@ front_fits wide text b x ok is = mapped_back _ (λ (y : Subfield × List ℕ). f
 front_fits wide wide_text b x ok is = mapped_back _ (λ (y : Subfield × List ℕ). fits wide y.0 ≡ true) (split_units b) x is (λ y _. ok)
 front_fits wide (fixed n) b x ok is = mapped_back _ (λ (y : Subfield × List ℕ). fits wide y.0 ≡ true) (split n b) x is (λ y _. ok)
 
-row_fits : (wide : Bool) (forms : List Form) (b : List ℕ) (x : List Subfield × List ℕ) → list_all (form_fits wide) forms ≡ true → cut_row forms b ≡ Some x → list_all (fits wide) x.0 ≡ true
+row_fits : (wide : Bool) (forms : List Form) (b : List ℕ) (x : List Subfield × List ℕ) → list_all (form_fits wide) forms ≡ true
+    → cut_row forms b ≡ Some x → list_all (fits wide) x.0 ≡ true
 row_fits wide [] b x ok is = let same : ([], b) ≡ x = cc in subst (λ (y : List Subfield × List ℕ). list_all (fits wide) y.0 ≡ true) same refl
 row_fits wide (form ∷ forms) b x ok is =
     let parts = both_parts (form_fits wide form) (list_all (form_fits wide) forms) ok in
-    bound_back (λ (f : Subfield × List ℕ). option_map (λ (y : List Subfield × List ℕ). (f.0 ∷ y.0, y.1)) (cut_row forms f.1)) (list_all (fits wide) x.0 ≡ true) (front form b) x is (λ f found more.
-    mapped_back (λ (y : List Subfield × List ℕ). (f.0 ∷ y.0, y.1)) (λ (z : List Subfield × List ℕ). list_all (fits wide) z.0 ≡ true) (cut_row forms f.1) x more (λ y cut.
+    bound_back (λ (f : Subfield × List ℕ). option_map (λ (y : List Subfield × List ℕ). (f.0 ∷ y.0, y.1)) (cut_row forms f.1))
+    (list_all (fits wide) x.0 ≡ true) (front form b) x is (λ f found more.
+    mapped_back (λ (y : List Subfield × List ℕ). (f.0 ∷ y.0, y.1)) (λ (z : List Subfield × List ℕ). list_all (fits wide) z.0 ≡ true)
+    (cut_row forms f.1) x more (λ y cut.
     and_true (fits wide f.0) (list_all (fits wide) y.0) (front_fits wide form b f parts.0 found) (row_fits wide forms f.1 y parts.1 cut)))
 
-rows_fit : (wide : Bool) (n : ℕ) (forms : List Form) (b : List ℕ) (rows : List (List Subfield)) → list_all (form_fits wide) forms ≡ true → cut_rows n forms b ≡ Some rows → list_all (list_all (fits wide)) rows ≡ true
+rows_fit : (wide : Bool) (n : ℕ) (forms : List Form) (b : List ℕ) (rows : List (List Subfield)) → list_all (form_fits wide) forms ≡ true
+    → cut_rows n forms b ≡ Some rows → list_all (list_all (fits wide)) rows ≡ true
 rows_fit wide zero forms [] rows ok is = let same : [] ≡ rows = cc in subst (λ (y : List (List Subfield)). list_all (list_all (fits wide)) y ≡ true) same refl
-rows_fit wide (suc n) forms [] rows ok is = let same : [] ≡ rows = cc in subst (λ (y : List (List Subfield)). list_all (list_all (fits wide)) y ≡ true) same refl
+rows_fit wide (suc n) forms [] rows ok is = let same : [] ≡ rows = cc in
+    subst (λ (y : List (List Subfield)). list_all (list_all (fits wide)) y ≡ true) same refl
 rows_fit wide zero forms (c ∷ b) rows ok is = absurd cc
 rows_fit wide (suc n) forms (c ∷ b) rows ok is =
-    bound_back (λ (x : List Subfield × List ℕ). option_map (λ (more : List (List Subfield)). x.0 ∷ more) (cut_rows n forms x.1)) (list_all (list_all (fits wide)) rows ≡ true) (cut_row forms (c ∷ b)) rows is (λ x cut more.
-    mapped_back (λ (others : List (List Subfield)). x.0 ∷ others) (λ (all : List (List Subfield)). list_all (list_all (fits wide)) all ≡ true) (cut_rows n forms x.1) rows more (λ others is.
-    and_true (list_all (fits wide) x.0) (list_all (list_all (fits wide)) others) (row_fits wide forms (c ∷ b) x ok cut) (rows_fit wide n forms x.1 others ok is)))
+    bound_back (λ (x : List Subfield × List ℕ). option_map (λ (more : List (List Subfield)). x.0 ∷ more) (cut_rows n forms x.1))
+    (list_all (list_all (fits wide)) rows ≡ true) (cut_row forms (c ∷ b)) rows is (λ x cut more.
+    mapped_back (λ (others : List (List Subfield)). x.0 ∷ others) (λ (all : List (List Subfield)). list_all (list_all (fits wide)) all ≡ true)
+    (cut_rows n forms x.1) rows more (λ others is.
+    and_true (list_all (fits wide) x.0) (list_all (list_all (fits wide)) others) (row_fits wide forms (c ∷ b) x ok cut)
+    (rows_fit wide n forms x.1 others ok is)))
 
-whole_fits : (wide : Bool) (forms : List Form) (b : List ℕ) (row : List Subfield) → list_all (form_fits wide) forms ≡ true → field_row forms b ≡ Some row → list_all (fits wide) row ≡ true
+whole_fits : (wide : Bool) (forms : List Form) (b : List ℕ) (row : List Subfield) → list_all (form_fits wide) forms ≡ true
+    → field_row forms b ≡ Some row → list_all (fits wide) row ≡ true
 whole_fits wide forms b row ok is =
     bound_back (λ (body : List ℕ). whole (cut_row forms body)) (list_all (fits wide) row ≡ true) (before_terminator b) row is (λ body _ cut.
-    bound_back (λ (x : List Subfield × List ℕ). if length x.1 == 0 then Some x.0 else None) (list_all (fits wide) row ≡ true) (cut_row forms body) row cut (λ x found ends.
+    bound_back (λ (x : List Subfield × List ℕ). if length x.1 == 0 then Some x.0 else None) (list_all (fits wide) row ≡ true)
+    (cut_row forms body) row cut (λ x found ends.
     by (length x.1 == 0) x ends (row_fits wide forms body x ok found)))
   where
     by : (b : Bool) (x : List Subfield × List ℕ) → (if b then Some x.0 else None) ≡ Some row → list_all (fits wide) x.0 ≡ true → list_all (fits wide) row ≡ true
     by true x ends all = let same : x.0 ≡ row = cc in subst (λ (y : List Subfield). list_all (fits wide) y ≡ true) same all
     by false x ends all = absurd cc
 
-all_fit : (wide : Bool) (level : ℕ) (forms : List Form) (b : List ℕ) (rows : List (List Subfield)) → list_all (form_fits wide) forms ≡ true → field_rows level forms b ≡ Some rows → list_all (list_all (fits wide)) rows ≡ true
+all_fit : (wide : Bool) (level : ℕ) (forms : List Form) (b : List ℕ) (rows : List (List Subfield)) → list_all (form_fits wide) forms ≡ true
+    → field_rows level forms b ≡ Some rows → list_all (list_all (fits wide)) rows ≡ true
 all_fit wide level forms b rows ok is =
-    bound_back (λ (body : List ℕ). cut_rows (length body) forms body) (list_all (list_all (fits wide)) rows ≡ true) (body_at_level level b) rows is (λ body _ cut. rows_fit wide (length body) forms body rows ok cut)
+    bound_back (λ (body : List ℕ). cut_rows (length body) forms body) (list_all (list_all (fits wide)) rows ≡ true)
+    (body_at_level level b) rows is (λ body _ cut. rows_fit wide (length body) forms body rows ok cut)
 
 -- ---- what a judged field has
 pub record Row (forms : List Form) (good : List Subfield → Bool) (row : List Subfield) : Type 0 where
@@ -108,12 +205,16 @@ no_text : (wide : Bool) → is_plain (as_text wide []) ≡ true
 no_text true = refl
 no_text false = refl
 
-text_is_plain : (wide : Bool) (row : List Subfield) (k : ℕ) → list_all (fits wide) row ≡ true → list_all is_plain row ≡ true → is_plain (as_text wide (text_in row k)) ≡ true
+text_is_plain : (wide : Bool) (row : List Subfield) (k : ℕ) → list_all (fits wide) row ≡ true → list_all is_plain row ≡ true
+    → is_plain (as_text wide (text_in row k)) ≡ true
 text_is_plain wide [] k f p = no_text wide
-text_is_plain wide (s ∷ row) zero f p = plain_text wide s (both_parts (fits wide s) (list_all (fits wide) row) f).0 (both_parts (is_plain s) (list_all is_plain row) p).0
-text_is_plain wide (s ∷ row) (suc k) f p = text_is_plain wide row k (both_parts (fits wide s) (list_all (fits wide) row) f).1 (both_parts (is_plain s) (list_all is_plain row) p).1
+text_is_plain wide (s ∷ row) zero f p = plain_text wide s (both_parts (fits wide s) (list_all (fits wide) row) f).0
+    (both_parts (is_plain s) (list_all is_plain row) p).0
+text_is_plain wide (s ∷ row) (suc k) f p = text_is_plain wide row k (both_parts (fits wide s) (list_all (fits wide) row) f).1
+    (both_parts (is_plain s) (list_all is_plain row) p).1
 
-judged_row_is : (forms : List Form) (good : List Subfield → Bool) (b : List ℕ) (row : List Subfield) → judged_row good (field_row forms b) ≡ Ok row → Row forms good row
+judged_row_is : (forms : List Form) (good : List Subfield → Bool) (b : List ℕ) (row : List Subfield)
+    → judged_row good (field_row forms b) ≡ Ok row → Row forms good row
 judged_row_is forms good b row is = by (field_row forms b) refl is
   where
     told : (r : List Subfield) → field_row forms b ≡ Some r → (g p : Bool) → good r ≡ g → list_all is_plain r ≡ p
@@ -127,7 +228,8 @@ judged_row_is forms good b row is = by (field_row forms b) refl is
     by None found is = absurd cc
     by (Some r) found is = told r found (good r) (list_all is_plain r) refl refl is
 
-pub row_value : {X : Type 0} (value : List Subfield → X) (forms : List Form) (good : List Subfield → Bool) (b : List ℕ) (x : X) → row_as value forms good b ≡ Ok x → (row : List Subfield) × Row forms good row × (value row ≡ x)
+pub row_value : {X : Type 0} (value : List Subfield → X) (forms : List Form) (good : List Subfield → Bool) (b : List ℕ) (x : X)
+    → row_as value forms good b ≡ Ok x → (row : List Subfield) × Row forms good row × (value row ≡ x)
 row_value value forms good b x is = let m = mapped_ok value (judged_row good (field_row forms b)) x is in (m.0, judged_row_is forms good b m.0 m.1, m.2)
 
 -- every row of a field of rows
@@ -136,13 +238,15 @@ pub record Rows (forms : List Form) (good : List Subfield → Bool) (rows : List
   pub plain : list_all (list_all is_plain) rows ≡ true
   pub fit : (wide : Bool) → list_all (form_fits wide) forms ≡ true → list_all (list_all (fits wide)) rows ≡ true
 
-judged_are : (level : ℕ) (forms : List Form) (good : List Subfield → Bool) (b : List ℕ) (rows : List (List Subfield)) → judged good (field_rows level forms b) ≡ Ok rows → Rows forms good rows
+judged_are : (level : ℕ) (forms : List Form) (good : List Subfield → Bool) (b : List ℕ) (rows : List (List Subfield))
+    → judged good (field_rows level forms b) ≡ Ok rows → Rows forms good rows
 judged_are level forms good b rows is = by (field_rows level forms b) refl is
   where
     told : (r : List (List Subfield)) → field_rows level forms b ≡ Some r → (g p : Bool) → list_all good r ≡ g → list_all (list_all is_plain) r ≡ p
         → (if not g then Err BadField else (if not p then Err BadText else Ok r)) ≡ Ok rows → Rows forms good rows
     told r found true true g p is = let same : r ≡ rows = cc in
-        subst (λ (y : List (List Subfield)). Rows forms good y) same (record { are_good = g; plain = p; fit = λ wide ok. all_fit wide level forms b r ok found })
+        subst (λ (y : List (List Subfield)). Rows forms good y) same
+        (record { are_good = g; plain = p; fit = λ wide ok. all_fit wide level forms b r ok found })
     told r found true false g p is = absurd cc
     told r found false p g q is = absurd cc
 
@@ -150,9 +254,11 @@ judged_are level forms good b rows is = by (field_rows level forms b) refl is
     by None found is = absurd cc
     by (Some r) found is = told r found (list_all good r) (list_all (list_all is_plain) r) refl refl is
 
-pub rows_value : {X : Type 0} (value : List Subfield → X) (level : ℕ) (forms : List Form) (good : List Subfield → Bool) (b : List ℕ) (xs : List X) → rows_as value level forms good b ≡ Ok xs
+pub rows_value : {X : Type 0} (value : List Subfield → X) (level : ℕ) (forms : List Form) (good : List Subfield → Bool) (b : List ℕ)
+    (xs : List X) → rows_as value level forms good b ≡ Ok xs
     → (rows : List (List Subfield)) × Rows forms good rows × (map value rows ≡ xs)
-rows_value value level forms good b xs is = let m = mapped_ok (map value) (judged good (field_rows level forms b)) xs is in (m.0, judged_are level forms good b m.0 m.1, m.2)
+rows_value value level forms good b xs is = let m = mapped_ok (map value) (judged good (field_rows level forms b)) xs is in
+    (m.0, judged_are level forms good b m.0 m.1, m.2)
 
 -- ---- the head fields
 pub dsid_is_plain : (b : List ℕ) (d : Dsid) → dsid_content b ≡ Ok d → list_all is_plain (dsid_row d) ≡ true
@@ -163,7 +269,8 @@ dsid_is_plain b d is =
     subst (λ (x : Dsid). list_all is_plain (dsid_row x) ≡ true) v.2
     (and_true _ _ (text_is_plain false row 4 f p) (and_true _ _ (text_is_plain false row 5 f p) (and_true _ _ (text_is_plain false row 6 f p)
     (and_true _ _ (text_is_plain false row 7 f p) (and_true _ _ (text_is_plain false row 8 f p) (and_true _ _ (text_is_plain false row 9 f p)
-    (and_true _ _ (text_is_plain false row 11 f p) (and_true _ _ (text_is_plain false row 12 f p) (and_true _ true (text_is_plain false row 15 f p) refl)))))))))
+    (and_true _ _ (text_is_plain false row 11 f p) (and_true _ _ (text_is_plain false row 12 f p)
+    (and_true _ true (text_is_plain false row 15 f p) refl)))))))))
 
 pub dspm_is_plain : (b : List ℕ) (d : Dspm) → dspm_content b ≡ Ok d → list_all is_plain (dspm_row d) ≡ true
 unfolding dspm_content
@@ -202,7 +309,8 @@ vrid_names_vector b d is =
 -- ---- rows
 module _ {X : Type 0} (value : List Subfield → X) (forms : List Form) (good : List Subfield → Bool) (wide : Bool) (test : X → Bool)
     (each : (row : List Subfield) → good row ≡ true → list_all (fits wide) row ≡ true → list_all is_plain row ≡ true → test (value row) ≡ true) where
-  rows_pass : (rows : List (List Subfield)) → list_all good rows ≡ true → list_all (list_all (fits wide)) rows ≡ true → list_all (list_all is_plain) rows ≡ true → list_all test (map value rows) ≡ true
+  rows_pass : (rows : List (List Subfield)) → list_all good rows ≡ true → list_all (list_all (fits wide)) rows ≡ true
+      → list_all (list_all is_plain) rows ≡ true → list_all test (map value rows) ≡ true
   rows_pass [] g f p = refl
   rows_pass (row ∷ rows) g f p =
       let gs = both_parts (good row) (list_all good rows) g in
@@ -210,7 +318,8 @@ module _ {X : Type 0} (value : List Subfield → X) (forms : List Form) (good : 
       let ps = both_parts (list_all is_plain row) (list_all (list_all is_plain) rows) p in
       and_true (test (value row)) (list_all test (map value rows)) (each row gs.0 fs.0 ps.0) (rows_pass rows gs.1 fs.1 ps.1)
 
-  pub values_pass : (level : ℕ) (b : List ℕ) (xs : List X) → list_all (form_fits wide) forms ≡ true → rows_as value level forms good b ≡ Ok xs → list_all test xs ≡ true
+  pub values_pass : (level : ℕ) (b : List ℕ) (xs : List X) → list_all (form_fits wide) forms ≡ true → rows_as value level forms good b ≡ Ok xs
+      → list_all test xs ≡ true
   values_pass level b xs ok is =
       let v = rows_value value level forms good b xs is in
       subst (λ (ys : List X). list_all test ys ≡ true) v.2 (rows_pass v.0 v.1.are_good (v.1.fit wide ok) v.1.plain)

@@ -1,5 +1,34 @@
 -- The cell of a file grows record by record, and can be written at each.
-use Rattle.std.proofs.Common.{◌≡◌, ◌≤◌, ℕ, ◌+◌, ◌==◌, ◌&&◌, ◌||◌, Bool, true, false, List, [], ◌∷◌, ◌++◌, length, map, leb, None, Result, Ok, Err, refl, sym, ap, subst, ◌∙◌, arith, length-append}
+use Rattle.std.proofs.Common.{
+  ◌≡◌,
+  ◌≤◌,
+  ℕ,
+  ◌+◌,
+  ◌==◌,
+  ◌&&◌,
+  ◌||◌,
+  Bool,
+  true,
+  false,
+  List,
+  [],
+  ◌∷◌,
+  ◌++◌,
+  length,
+  map,
+  leb,
+  None,
+  Result,
+  Ok,
+  Err,
+  refl,
+  sym,
+  ap,
+  subst,
+  ◌∙◌,
+  arith,
+  length-append,
+}
 use Rattle.std.specs.List.{list_all, list_any, AllByRecursion, IsDistinct}
 use Rattle.std.specs.List.Sorted.{IsPermutation}
 use Rattle.std.specs.Result.{result_map_both}
@@ -29,7 +58,20 @@ use Rattle.cell_spec.specs.Lookup.{all_records, is_named, name_of}
 use Rattle.cell_spec.specs.Names.{kind_rank, same_name}
 use Rattle.cell_spec.specs.Writable.{IsWritable, AreFit, HaveDistinctNames, record_limit}
 use Rattle.file_spec.specs.CellRecords.{empty_cell, head_with, with_record, with_record_of_kind}
-use Rattle.file_spec.specs.DecodedCell.{decoded_cell, decoded_records, general_information, geographic_reference, is_general_information, is_geographic_reference, fits_general_information, fits_geographic_reference, record_behind, said_by, said_by_next, with_following}
+use Rattle.file_spec.specs.DecodedCell.{
+  decoded_cell,
+  decoded_records,
+  general_information,
+  geographic_reference,
+  is_general_information,
+  is_geographic_reference,
+  fits_general_information,
+  fits_geographic_reference,
+  record_behind,
+  said_by,
+  said_by_next,
+  with_following,
+}
 use Rattle.file_spec.specs.FileRecords.{FileRecord, file_records}
 use Rattle.file_spec.specs.RecordFaults.{◌>>=◌, ◌>>◌, demand, fault_at, of_frame}
 use Rattle.file_spec.specs.RecordReading.{record_type, fields_fault, required}
@@ -55,23 +97,31 @@ abbrev with_dsid : List Field → Dsid → Result (Dsid × Dssi) RecordFault
 with_dsid fields d = required tags.Dssi dssi_content fields >>= judged_general d
 
 abbrev of_general_type : List Field → RecordType → Result (Dsid × Dssi) RecordFault
-of_general_type fields type = demand (is_general_information type) HeadOrder >> (fields_fault 0 types.GeneralInformation [] fields >> (required tags.Dsid dsid_content fields >>= with_dsid fields))
+of_general_type fields type = demand (is_general_information type) HeadOrder >>
+    (fields_fault 0 types.GeneralInformation [] fields >> (required tags.Dsid dsid_content fields >>= with_dsid fields))
 
 general_is : (fields : List Field) (x : Dsid × Dssi) → general_information fields ≡ Ok x → IsGeneral x.0 x.1
 unfolding general_information
 general_is fields x is =
     let type = step (record_type fields) (of_general_type fields) x is in
-    let right = demanded (is_general_information type.0) HeadOrder (fields_fault 0 types.GeneralInformation [] fields >> (required tags.Dsid dsid_content fields >>= with_dsid fields)) x type.2 in
+    let right = demanded (is_general_information type.0) HeadOrder
+    (fields_fault 0 types.GeneralInformation [] fields >> (required tags.Dsid dsid_content fields >>= with_dsid fields)) x type.2 in
     let read = passed (fields_fault 0 types.GeneralInformation [] fields) (required tags.Dsid dsid_content fields >>= with_dsid fields) x right.1 in
     let d = step (required tags.Dsid dsid_content fields) (with_dsid fields) x read.1 in
     let s = step (required tags.Dssi dssi_content fields) (judged_general d.0) x d.2 in
-    let base = demanded (d.0.expp == 1) NotBase (demand (s.0.dstr == 2) NotChainNode >> (demand (fits_general_information d.0 s.0) TooLong >> Ok (d.0, s.0))) x s.2 in
+    let base = demanded (d.0.expp == 1) NotBase (demand (s.0.dstr == 2) NotChainNode >>
+    (demand (fits_general_information d.0 s.0) TooLong >> Ok (d.0, s.0))) x s.2 in
     let chain = demanded (s.0.dstr == 2) NotChainNode (demand (fits_general_information d.0 s.0) TooLong >> Ok (d.0, s.0)) x base.1 in
     let short = demanded (fits_general_information d.0 s.0) TooLong (Ok (d.0, s.0)) x chain.1 in
     let same : (d.0, s.0) ≡ x = cc in
     let dsid = required_is tags.Dsid dsid_content fields d.0 d.1 in
     let dssi = required_is tags.Dssi dssi_content fields s.0 s.1 in
-    subst (λ (y : Dsid × Dssi). IsGeneral y.0 y.1) same (record { plain = dsid_is_plain dsid.0 d.0 dsid.1; levels = dssi_has_levels dssi.0 s.0 dssi.1; short = short.0 })
+    subst (λ (y : Dsid × Dssi). IsGeneral y.0 y.1) same (record {
+      plain = dsid_is_plain dsid.0 d.0 dsid.1;
+      levels =
+          dssi_has_levels dssi.0 s.0 dssi.1;
+      short = short.0;
+    })
 
 record IsGeographic (p : Dspm) : Type 0 where
   plain : list_all is_plain (dspm_row p) ≡ true
@@ -81,13 +131,15 @@ abbrev judged_geographic : Dspm → Result Dspm RecordFault
 judged_geographic p = demand (fits_geographic_reference p) TooLong >> Ok p
 
 abbrev of_geographic_type : List Field → RecordType → Result Dspm RecordFault
-of_geographic_type fields type = demand (is_geographic_reference type) HeadOrder >> (fields_fault 0 types.GeographicReference [] fields >> (required tags.Dspm dspm_content fields >>= judged_geographic))
+of_geographic_type fields type = demand (is_geographic_reference type) HeadOrder >>
+    (fields_fault 0 types.GeographicReference [] fields >> (required tags.Dspm dspm_content fields >>= judged_geographic))
 
 geographic_is : (fields : List Field) (x : Dspm) → geographic_reference fields ≡ Ok x → IsGeographic x
 unfolding geographic_reference
 geographic_is fields x is =
     let type = step (record_type fields) (of_geographic_type fields) x is in
-    let right = demanded (is_geographic_reference type.0) HeadOrder (fields_fault 0 types.GeographicReference [] fields >> (required tags.Dspm dspm_content fields >>= judged_geographic)) x type.2 in
+    let right = demanded (is_geographic_reference type.0) HeadOrder
+    (fields_fault 0 types.GeographicReference [] fields >> (required tags.Dspm dspm_content fields >>= judged_geographic)) x type.2 in
     let read = passed (fields_fault 0 types.GeographicReference [] fields) (required tags.Dspm dspm_content fields >>= judged_geographic) x right.1 in
     let p = step (required tags.Dspm dspm_content fields) judged_geographic x read.1 in
     let short = demanded (fits_geographic_reference p.0) TooLong (Ok p.0) x p.2 in
@@ -101,22 +153,28 @@ six a b c d e f p q r s t u = rw (p, q, r, s, t, u) refl
 -- the lengths of DSID and DSSI don't depend on their numbers
 general_fits : (d : Dsid) (s : Dssi) → Levels s → fits_general_information d s ≡ true
     → leb (record_length (3 ∷ length (row_bytes (dsid_row d) ++ (field_terminator ∷ [])) ∷ 36 ∷ [])) length_limit ≡ true
-general_fits d s levels short = subst (λ n. leb (record_length (3 ∷ length (row_bytes (dsid_row d) ++ (field_terminator ∷ [])) ∷ n ∷ [])) length_limit ≡ true) levels.length_is short
+general_fits d s levels short = subst (λ n. leb (record_length (3 ∷ length (row_bytes (dsid_row d) ++ (field_terminator ∷ [])) ∷ n ∷ []))
+    length_limit ≡ true) levels.length_is short
 
 head_is_fit : (d : Dsid) (s : Dssi) (p : Dspm) → IsGeneral d s → IsGeographic p → is_fit_head (head_with d s p) ≡ true
 unfolding is_fit_head
-head_is_fit d s p general geographic = six _ _ _ _ _ _ general.levels.attributes general.levels.nationals general.plain geographic.plain (general_fits d s general.levels general.short) geographic.short
+head_is_fit d s p general geographic = six _ _ _ _ _ _ general.levels.attributes general.levels.nationals general.plain geographic.plain
+    (general_fits d s general.levels general.short) geographic.short
 
 -- ---- one record more
 names_flip : (n m : RecName) → same_name n m ≡ same_name m n
-names_flip n m = ap (λ b. b && (n.id == m.id)) (flip (kind_rank n.kind) (kind_rank m.kind)) ∙ ap (λ b. (kind_rank m.kind == kind_rank n.kind) && b) (flip n.id m.id)
+names_flip n m = ap (λ b. b && (n.id == m.id)) (flip (kind_rank n.kind) (kind_rank m.kind))
+    ∙ ap (λ b. (kind_rank m.kind == kind_rank n.kind) && b) (flip n.id m.id)
   where
     flip : (x y : ℕ) → (x == y) ≡ (y == x)
     flip x y = grind (arith, nat_tests)
 
 none_named : (n : RecName) (rs : List Rec) → list_any (is_named n) rs ≡ false → AllByRecursion (λ m. same_name n m ≡ false) (map name_of rs)
 none_named n [] h = tt
-none_named n (r ∷ rs) h = (neither (same_name n (name_of r)) (list_any (is_named n) rs) h, none_named n rs (nor (same_name n (name_of r)) (list_any (is_named n) rs) h))
+none_named n (r ∷ rs) h = (
+  neither (same_name n (name_of r)) (list_any (is_named n) rs) h,
+  none_named n rs (nor (same_name n (name_of r)) (list_any (is_named n) rs) h),
+)
   where
     neither : (a b : Bool) → (a || b) ≡ false → a ≡ false
     neither true b h = absurd cc
@@ -133,17 +191,20 @@ no_fault c r f = rw (f.good.names, f.good.texts, le-ltb length_limit (written_le
 module _ (kind : Kind) (listed : (kind_rank kind == kind_rank HeadKind) ≡ false) (r : Rec) (c : Cell) (w : IsWritable c) (f : Follows c r) where
   moved : IsPermutation (all_records (with_record_of_kind kind r c)) (r ∷ all_records c)
   moved = let s = stands kind r c listed in
-      subst (λ xs. IsPermutation xs (r ∷ all_records c)) (sym s.with) (subst (λ xs. IsPermutation (s.before ++ (r ∷ s.behind)) (r ∷ xs)) (sym s.without) (IsPermutation-middle s.before r s.behind))
+      subst (λ xs. IsPermutation xs (r ∷ all_records c)) (sym s.with)
+      (subst (λ xs. IsPermutation (s.before ++ (r ∷ s.behind)) (r ∷ xs)) (sym s.without) (IsPermutation-middle s.before r s.behind))
 
   all_fit : AreFit c.head.nall (all_records (with_record_of_kind kind r c))
   all_fit = let P : Rec → Type 0 = λ x. unfitness c.head.nall x ≡ None in
-      All-permutation P (r ∷ all_records c) (all_records (with_record_of_kind kind r c)) (IsPermutation-sym (all_records (with_record_of_kind kind r c)) (r ∷ all_records c) moved)
+      All-permutation P (r ∷ all_records c) (all_records (with_record_of_kind kind r c))
+      (IsPermutation-sym (all_records (with_record_of_kind kind r c)) (r ∷ all_records c) moved)
       (All-append P (r ∷ []) (all_records c) (All-push P [] r (All-nil P) (no_fault c r f)) w.records_fit)
 
   distinct : HaveDistinctNames (all_records (with_record_of_kind kind r c))
   distinct =
       IsDistinct-IsPermutation same_name names_flip (name_of r ∷ map name_of (all_records c)) (map name_of (all_records (with_record_of_kind kind r c)))
-      (IsPermutation-map name_of (r ∷ all_records c) (all_records (with_record_of_kind kind r c)) (IsPermutation-sym (all_records (with_record_of_kind kind r c)) (r ∷ all_records c) moved))
+      (IsPermutation-map name_of (r ∷ all_records c) (all_records (with_record_of_kind kind r c))
+      (IsPermutation-sym (all_records (with_record_of_kind kind r c)) (r ∷ all_records c) moved))
       (IsDistinct-cons same_name (name_of r) (map name_of (all_records c)) (none_named (name_of r) (all_records c) f.new) w.names_distinct)
 
   enough_room : length (all_records (with_record_of_kind kind r c)) ≤ record_limit
@@ -202,12 +263,14 @@ module _ {X E G : Type 0} where
   unplaced f (Ok y) x is = cc
   unplaced f (Err e) x is = absurd cc
 
-said_is : {X : Type 0} (number : ℕ) (meaning : List Field → Result X RecordFault) (r : FileRecord) (x : X) → said_by number meaning r ≡ Ok x → (fields : List Field) × (meaning fields ≡ Ok x)
+said_is : {X : Type 0} (number : ℕ) (meaning : List Field → Result X RecordFault) (r : FileRecord) (x : X) → said_by number meaning r ≡ Ok x
+    → (fields : List Field) × (meaning fields ≡ Ok x)
 said_is number meaning r x is =
     let found = step (result_map_both (λ (frame : FrameView). frame.fields) of_frame r.found) meaning x (unplaced (fault_at number r.offset) _ x is) in
     (found.0, found.2)
 
-next_is : {X : Type 0} (number end : ℕ) (meaning : List Field → Result X RecordFault) (file : List FileRecord) (x : X × List FileRecord) → said_by_next number end meaning file ≡ Ok x → (fields : List Field) × (meaning fields ≡ Ok x.0)
+next_is : {X : Type 0} (number end : ℕ) (meaning : List Field → Result X RecordFault) (file : List FileRecord) (x : X × List FileRecord)
+    → said_by_next number end meaning file ≡ Ok x → (fields : List Field) × (meaning fields ≡ Ok x.0)
 next_is number end meaning [] x is = absurd cc
 next_is number end meaning (r ∷ file) x is =
     let said = mapped_ok (λ y. (y, file)) (said_by number meaning r) x is in

@@ -1,5 +1,32 @@
 -- What is known of a record that was read.
-use Rattle.std.proofs.Common.{◌≡◌, ℕ, ◌==◌, ◌&&◌, Bool, true, false, not, List, [], ◌∷◌, ◌++◌, length, nat_le, nat_lt, find, filter, Option, Some, None, Result, Ok, Err, refl, subst, ◌∙◌}
+use Rattle.std.proofs.Common.{
+  ◌≡◌,
+  ℕ,
+  ◌==◌,
+  ◌&&◌,
+  Bool,
+  true,
+  false,
+  not,
+  List,
+  [],
+  ◌∷◌,
+  ◌++◌,
+  length,
+  nat_le,
+  nat_lt,
+  find,
+  filter,
+  Option,
+  Some,
+  None,
+  Result,
+  Ok,
+  Err,
+  refl,
+  subst,
+  ◌∙◌,
+}
 use Rattle.std.specs.List.{list_all, list_any, flat_map}
 use Rattle.std.specs.Option.{ok_or}
 use Rattle.std.specs.Result.{result_ok, result_unwrap_or}
@@ -16,7 +43,17 @@ use Rattle.s57_types.specs.declared.name.Lnam.{Lnam}
 use Rattle.s57_types.specs.declared.record.Rec.{Rec}
 use Rattle.s57_types.specs.declared.record.Rec.TheVariants.{V, F}
 use Rattle.s57_types.specs.declared.cell.Cell.{Cell}
-use Rattle.field_spec.specs.Contents.{frid_content, foid_content, attribute_content, partner_content, place_content, vrid_content, end_content, plane_content, deep_content}
+use Rattle.field_spec.specs.Contents.{
+  frid_content,
+  foid_content,
+  attribute_content,
+  partner_content,
+  place_content,
+  vrid_content,
+  end_content,
+  plane_content,
+  deep_content,
+}
 use Rattle.field_spec.specs.declared.fault.FieldFault.{FieldFault}
 use Rattle.field_spec.proofs.CutBack.{bound_back}
 use Rattle.cell_spec.specs.Lookup.{all_records, name_of, is_named}
@@ -31,7 +68,18 @@ use Rattle.file_spec.specs.declared.tag.FieldTag.{FieldTag}
 use Rattle.file_spec.specs.declared.tag.FieldTag.TheVariants as tags
 use Rattle.file_spec.specs.declared.tag.RecordType.{RecordType}
 use Rattle.file_spec.specs.declared.tag.RecordType.TheVariants as types
-use Rattle.decode_laws.proofs.Contents.{and_true, attribute_is_plain, attributes_are_plain, partner_is_plain, partners_are_plain, end_names_vector, ends_name_vectors, place_names_vector, places_name_vectors, vrid_names_vector}
+use Rattle.decode_laws.proofs.Contents.{
+  and_true,
+  attribute_is_plain,
+  attributes_are_plain,
+  partner_is_plain,
+  partners_are_plain,
+  end_names_vector,
+  ends_name_vectors,
+  place_names_vector,
+  places_name_vectors,
+  vrid_names_vector,
+}
 
 -- ---- what steps came from
 pub step : {E A B : Type 0} (r : Result A E) (f : A → Result B E) (y : B) → (r >>= f) ≡ Ok y → (a : A) × (r ≡ Ok a) × (f a ≡ Ok y)
@@ -54,27 +102,34 @@ ok_kept : {X E : Type 0} (r : Result X E) (x : X) → result_ok r ≡ Some x →
 ok_kept (Ok y) x is = cc
 ok_kept (Err e) x is = absurd cc
 
-pub required_is : {X : Type 0} (tag : FieldTag) (content : List ℕ → Result X FieldFault) (fields : List Field) (x : X) → required tag content fields ≡ Ok x → (b : List ℕ) × (content b ≡ Ok x)
+pub required_is : {X : Type 0} (tag : FieldTag) (content : List ℕ → Result X FieldFault) (fields : List Field) (x : X)
+    → required tag content fields ≡ Ok x → (b : List ℕ) × (content b ≡ Ok x)
 required_is {X = X} tag content fields x is =
-    bound_back (λ (f : Field). result_ok (content f.bytes)) ((b : List ℕ) × (content b ≡ Ok x)) (find (is_tagged tag) fields) x (ok_found (value_of tag content fields) MissingField x is)
+    bound_back (λ (f : Field). result_ok (content f.bytes)) ((b : List ℕ) × (content b ≡ Ok x)) (find (is_tagged tag) fields) x
+    (ok_found (value_of tag content fields) MissingField x is)
     (λ f _ found. (f.bytes, ok_kept (content f.bytes) x found))
 
 -- ---- rows that join
 flat_pass : {A X : Type 0} (test : X → Bool) (g : A → List X) → ((a : A) → list_all test (g a) ≡ true) → (fs : List A) → list_all test (flat_map g fs) ≡ true
 flat_pass test g each [] = refl
-flat_pass test g each (a ∷ fs) = list_all-append test (g a) (flat_map g fs) ∙ and_true (list_all test (g a)) (list_all test (flat_map g fs)) (each a) (flat_pass test g each fs)
+flat_pass test g each (a ∷ fs) = list_all-append test (g a) (flat_map g fs) ∙ and_true (list_all test (g a)) (list_all test (flat_map g fs))
+    (each a) (flat_pass test g each fs)
 
-rows_pass : {X : Type 0} (tag : FieldTag) (content : List ℕ → Result (List X) FieldFault) (test : X → Bool) → ((b : List ℕ) (xs : List X) → content b ≡ Ok xs → list_all test xs ≡ true)
+rows_pass : {X : Type 0} (tag : FieldTag) (content : List ℕ → Result (List X) FieldFault) (test : X → Bool)
+    → ((b : List ℕ) (xs : List X) → content b ≡ Ok xs → list_all test xs ≡ true)
     → (fields : List Field) → list_all test (rows_of tag content fields) ≡ true
-rows_pass {X = X} tag content test each fields = flat_pass test (λ (f : Field). result_unwrap_or (content f.bytes) []) (λ f. by f (content f.bytes) refl) (filter (is_tagged tag) fields)
+rows_pass {X = X} tag content test each fields = flat_pass test (λ (f : Field). result_unwrap_or (content f.bytes) [])
+    (λ f. by f (content f.bytes) refl) (filter (is_tagged tag) fields)
   where
     by : (f : Field) (r : Result (List X) FieldFault) → content f.bytes ≡ r → list_all test (result_unwrap_or r []) ≡ true
     by f (Ok xs) is = each f.bytes xs is
     by f (Err e) is = refl
 
-texts_flat : {X : Type 0} (row : X → List Subfield) (xs : List X) → list_all (λ x. list_all is_plain (row x)) xs ≡ true → list_all is_plain (flat_map row xs) ≡ true
+texts_flat : {X : Type 0} (row : X → List Subfield) (xs : List X) → list_all (λ x. list_all is_plain (row x)) xs ≡ true
+    → list_all is_plain (flat_map row xs) ≡ true
 texts_flat row [] all = refl
-texts_flat row (x ∷ xs) all = list_all-append is_plain (row x) (flat_map row xs) ∙ by (list_all is_plain (row x)) (list_all (λ y. list_all is_plain (row y)) xs) all (texts_flat row xs)
+texts_flat row (x ∷ xs) all = list_all-append is_plain (row x) (flat_map row xs) ∙ by (list_all is_plain (row x))
+    (list_all (λ y. list_all is_plain (row y)) xs) all (texts_flat row xs)
   where
     by : (a b : Bool) → (a && b) ≡ true → (b ≡ true → list_all is_plain (flat_map row xs) ≡ true) → (a && list_all is_plain (flat_map row xs)) ≡ true
     by true b both more = more both
@@ -110,7 +165,8 @@ vector_is_good nall fields r is =
     let vrid = required_is tags.Vrid vrid_content fields d.0 d.1 in
     subst (IsGood nall) same (record {
       names = and_true _ _ (vrid_names_vector vrid.0 d.0 vrid.1) (rows_pass tags.Vrpt end_content end_names_vector ends_name_vectors fields);
-      texts = texts_flat (attribute_row 0) (rows_of tags.Attv (attribute_content 0) fields) (rows_pass tags.Attv (attribute_content 0) (attribute_is_plain 0) (attributes_are_plain 0) fields);
+      texts = texts_flat (attribute_row 0) (rows_of tags.Attv (attribute_content 0) fields)
+          (rows_pass tags.Attv (attribute_content 0) (attribute_is_plain 0) (attributes_are_plain 0) fields);
     })
 
 abbrev feature_of : ℕ → List Field → Frid → Lnam → Rec

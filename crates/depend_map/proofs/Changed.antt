@@ -1,5 +1,31 @@
 -- What a change of a subject's reads leaves of the rows and of the pairs, and the pairs of rows that are read in.
-use Rattle.std.proofs.Common.{◌≡◌, ◌&&◌, ◌||◌, Bool, true, false, List, [], ◌∷◌, ◌++◌, Option, None, Some, cond, map, refl, sym, ap, ◌∙◌, append_assoc, Ordering, Less, Equal, Greater, is_eq}
+use Rattle.std.proofs.Common.{
+  ◌≡◌,
+  ◌&&◌,
+  ◌||◌,
+  Bool,
+  true,
+  false,
+  List,
+  [],
+  ◌∷◌,
+  ◌++◌,
+  Option,
+  None,
+  Some,
+  cond,
+  map,
+  refl,
+  sym,
+  ap,
+  ◌∙◌,
+  append_assoc,
+  Ordering,
+  Less,
+  Equal,
+  Greater,
+  is_eq,
+}
 use Rattle.std.specs.Cmp.{Equal-is}
 use Rattle.std.specs.List.{AllByRecursion, flat_map, list_any}
 use Rattle.std.specs.List.Sorted.{IsStrictlySortedBy}

@@ -27,7 +27,8 @@ count_of_map test item (x ∷ xs) =
 abbrev is_refused : ℕ × Brief → Bool
 is_refused told = is_refusal told.1
 
-same_refusals : (replies : List (ℕ × Reply)) (entries : List Entry) → map told_brief replies ≡ map entered_brief entries → count_by is_refused_reply replies ≡ count_by is_refused_entry entries
+same_refusals : (replies : List (ℕ × Reply)) (entries : List Entry) → map told_brief replies ≡ map entered_brief entries
+    → count_by is_refused_reply replies ≡ count_by is_refused_entry entries
 same_refusals replies entries same =
     count_of_map is_refused told_brief replies ∙ ap (count_by is_refused) same ∙ sym (count_of_map is_refused entered_brief entries)
 
@@ -35,16 +36,20 @@ abbrev counts : ℕ → ℕ → ℕ → Drilled
 counts accepted refused findings = record { accepted = accepted; refused = refused; findings = findings }
 
 -- the counts that a log tells
-pub counts_of_log : (c : Cell) (scripts : List (List Command)) (entries : List Entry) (accepted refused findings : ℕ) → accepted ≡ length (replayed c entries).commits → refused ≡ count_by is_refused_entry entries
-    → findings ≡ finding_total (replayed c entries).cell → IsRunOfEntries c scripts entries → counts accepted refused findings ≡ counts_of_run c scripts (order_of_entries entries)
+pub counts_of_log : (c : Cell) (scripts : List (List Command)) (entries : List Entry) (accepted refused findings : ℕ)
+    → accepted ≡ length (replayed c entries).commits → refused ≡ count_by is_refused_entry entries
+    → findings ≡ finding_total (replayed c entries).cell → IsRunOfEntries c scripts entries
+    → counts accepted refused findings ≡ counts_of_run c scripts (order_of_entries entries)
 unfolding counts_of_run
 counts_of_log c scripts entries accepted refused findings commits refusals total run =
     let same = same_refusals (replies_from (opening c) (ordered_requests scripts (order_of_entries entries))) entries run.replies in
     (λ i. counts (commits i) (refusals i) (total i)) ∙ (λ i. counts (length (sym run.state i).commits) (sym same i) (finding_total (sym run.state i).cell))
 
 -- the counts of a run are those of its scripts in its order
-pub counts_of_replay : (c : Cell) (scripts generated : List (List Command)) (order turns : List ℕ) (run : Replayed) (drilled : Drilled) → IsReplayed c scripts order run
-    → ((told : List (List Command)) → AreInterleaved run.book.opening told run.book.entries → drilled ≡ counts_of_run run.book.opening told (order_of_entries run.book.entries))
+pub counts_of_replay : (c : Cell) (scripts generated : List (List Command)) (order turns : List ℕ) (run : Replayed) (drilled : Drilled)
+    → IsReplayed c scripts order run
+    → ((told : List (List Command)) → AreInterleaved run.book.opening told run.book.entries
+    → drilled ≡ counts_of_run run.book.opening told (order_of_entries run.book.entries))
     → scripts ≡ generated → order ≡ turns → drilled ≡ counts_of_run c generated turns
 counts_of_replay c scripts generated order turns run drilled is told are in_turns =
     told scripts (subst (λ (start : Cell). AreInterleaved start scripts run.book.entries) (sym is.opening) is.entries)

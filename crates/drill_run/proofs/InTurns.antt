@@ -1,5 +1,31 @@
 -- Sessions in turn: each stands there once a turn.
-use Rattle.std.proofs.Common.{◌≡◌, ℕ, zero, suc, ◌+◌, ◌*◌, ◌<◌, ◌≤◌, ◌==◌, Bool, List, [], ◌∷◌, ◌++◌, length, inl, inr, refl, sym, ap, ◌∙◌, subst, arith, append_assoc, append-nil}
+use Rattle.std.proofs.Common.{
+  ◌≡◌,
+  ℕ,
+  zero,
+  suc,
+  ◌+◌,
+  ◌*◌,
+  ◌<◌,
+  ◌≤◌,
+  ◌==◌,
+  Bool,
+  List,
+  [],
+  ◌∷◌,
+  ◌++◌,
+  length,
+  inl,
+  inr,
+  refl,
+  sym,
+  ap,
+  ◌∙◌,
+  subst,
+  arith,
+  append_assoc,
+  append-nil,
+}
 use Rattle.std.specs.Prelude.{All, cond, count_by}
 use Rattle.std.specs.List.{flat_map, range_with_len}
 use Rattle.std.proofs.Math.Nat.{eq-or-lt_of_le}
@@ -35,7 +61,8 @@ one_if i other = cond (other == i) 1 0
 
 none_before : (i a n : ℕ) → i < a → count_by (is i) (range_with_len a n) ≡ 0
 none_before i a zero below = refl
-none_before i a (suc n) below = sum_by-cons (one_if i) a (range_with_len (a + 1) n) ∙ (λ j. cond (ne_eqb a i (λ e. absurd (omega (arith, e, below))) j) 1 0 + none_before i (a + 1) n (omega (arith, below)) j)
+none_before i a (suc n) below = sum_by-cons (one_if i) a (range_with_len (a + 1) n)
+    ∙ (λ j. cond (ne_eqb a i (λ e. absurd (omega (arith, e, below))) j) 1 0 + none_before i (a + 1) n (omega (arith, below)) j)
 
 once : (i a n : ℕ) → a ≤ i → i < a + n → count_by (is i) (range_with_len a n) ≡ 1
 once i a zero low high = absurd (omega (arith, low, high))
@@ -48,7 +75,8 @@ once i a (suc n) low high =
 
 repeated_count : {X : Type 0} (p : X → Bool) (xs : List X) (turns : List ℕ) → count_by p (flat_map (λ turn. xs) turns) ≡ length turns * count_by p xs
 repeated_count p xs [] = omega arith
-repeated_count p xs (turn ∷ turns) = sum_by-append (λ x. cond (p x) 1 0) xs (flat_map (λ t. xs) turns) ∙ ap (λ n. count_by p xs + n) (repeated_count p xs turns) ∙ omega arith
+repeated_count p xs (turn ∷ turns) = sum_by-append (λ x. cond (p x) 1 0) xs (flat_map (λ t. xs) turns)
+    ∙ ap (λ n. count_by p xs + n) (repeated_count p xs turns) ∙ omega arith
 
 pub in_turns_count : (sessions turns i : ℕ) → 1 ≤ i → i ≤ sessions → count_by (λ other. other == i) (in_turns sessions turns) ≡ turns
 in_turns_count sessions turns i low high =
@@ -58,7 +86,8 @@ in_turns_count sessions turns i low high =
 
 one_more : (a n : ℕ) → range_with_len a (suc n) ≡ range_with_len a n ++ (a + n) ∷ []
 one_more a zero = let start : a ≡ a + 0 = omega arith in ap (λ b. b ∷ []) start
-one_more a (suc n) = let last : (a + 1) + n ≡ a + suc n = omega arith in ap (λ xs. a ∷ xs) (one_more (a + 1) n ∙ ap (λ b. range_with_len (a + 1) n ++ b ∷ []) last)
+one_more a (suc n) = let last : (a + 1) + n ≡ a + suc n = omega arith in
+    ap (λ xs. a ∷ xs) (one_more (a + 1) n ∙ ap (λ b. range_with_len (a + 1) n ++ b ∷ []) last)
 
 range_more : (a n : ℕ) → range_with_len a (n + 1) ≡ range_with_len a n ++ (a + n) ∷ []
 range_more a n = let one : n + 1 ≡ suc n = omega arith in ap (range_with_len a) one ∙ one_more a n

@@ -23,7 +23,8 @@ is_short : (n script : ℕ) → IsShortScript (generated_script n script)
 is_short n script = omega (arith, script_length n script)
 
 pub are_short : (n sessions : ℕ) → All IsShortScript (generated_scripts n sessions)
-are_short n sessions = All-map IsShortScript (generated_script n) (range_with_len 1 sessions) (λ k d below. is_short n (slice_index_or (range_with_len 1 sessions) k d))
+are_short n sessions = All-map IsShortScript (generated_script n) (range_with_len 1 sessions)
+    (λ k d below. is_short n (slice_index_or (range_with_len 1 sessions) k d))
 
 pub many_scripts : (n sessions : ℕ) → length (generated_scripts n sessions) ≡ sessions
 many_scripts n sessions = length-map (range_with_len 1 sessions) (generated_script n) ∙ length-range_with_len 1 sessions

@@ -8,7 +8,8 @@ use Rattle.drill_run.specs.declared.counts.Drilled.{Drilled}
 -- how many records of each kind a cell has, and how many bytes its file
 abbrev pub made_line : Cell → ℕ → List ℕ
 made_line c bytes =
-    line (codes "made") (codes "vi" ∷ decimal (length c.vi) ∷ codes "vc" ∷ decimal (length c.vc) ∷ codes "ve" ∷ decimal (length c.ve) ∷ codes "fe" ∷ decimal (length c.fe)
+    line (codes "made") (codes "vi" ∷ decimal (length c.vi) ∷ codes "vc" ∷ decimal (length c.vc) ∷ codes "ve" ∷ decimal
+    (length c.ve) ∷ codes "fe" ∷ decimal (length c.fe)
     ∷ codes "bytes" ∷ decimal bytes ∷ [])
 
 -- the size of the cell, the number of sessions, and the counts

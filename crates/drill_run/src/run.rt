@@ -12,6 +12,7 @@ use cell_make::{make_cell, make_scripts};
 use commit_book::Book;
 use sessions::{load_bench, replay};
 use std::alloc::{AllocError, Global};
+use std::thread::Threads;
 
 /// Why there is no drill.
 #[derive(Clone, Copy, Debug, PartialEq, Eq, Drop)]
@@ -33,7 +34,13 @@ impl From<AllocError> for DrillRefusal {
 }
 
 /// The counts of running the generated scripts on the cell of an opened log, the sessions in turn.
-fn run_in_turns(alloc: Global, book: Book, size: u32, sessions: u32) -> Result<Drilled, AllocError>
+fn run_in_turns<R: Threads + Sync>(
+    rt: &R,
+    alloc: Global,
+    book: Book,
+    size: u32,
+    sessions: u32,
+) -> Result<Drilled, AllocError>
     requires opened { book.entries ≡ [] }
     requires some { 1 ≤ size }
     requires few { size ≤ 100 }
@@ -43,7 +50,7 @@ fn run_in_turns(alloc: Global, book: Book, size: u32, sessions: u32) -> Result<D
 {
     let scripts = make_scripts(alloc, size, sessions)?;
     let order = round_robin(alloc, sessions)?;
-    let replayed = replay(alloc, book, scripts, &order)?;
+    let replayed = replay(rt, alloc, book, scripts, &order)?;
     Ok(counts_of(&replayed.book))
 }
 
@@ -51,7 +58,12 @@ fn run_in_turns(alloc: Global, book: Book, size: u32, sessions: u32) -> Result<D
 /// in turn, one view or commit each, until all scripts are done.
 ///
 /// An `Err` says that the generated cell has more findings than the limit, or means out of memory.
-pub fn drill(alloc: Global, size: u32, sessions: u32) -> Result<Drilled, DrillRefusal>
+pub fn drill<R: Threads + Sync>(
+    rt: &R,
+    alloc: Global,
+    size: u32,
+    sessions: u32,
+) -> Result<Drilled, DrillRefusal>
     requires some { 1 ≤ size }
     requires few { size ≤ 100 }
     requires one_session { 1 ≤ sessions }
@@ -66,5 +78,5 @@ pub fn drill(alloc: Global, size: u32, sessions: u32) -> Result<Drilled, DrillRe
         Err(LoadRefusal::NoMemory) => return Err(DrillRefusal::NoMemory),
     };
     let book = Book::of_bench(alloc, bench);
-    Ok(run_in_turns(alloc, book, size, sessions)?)
+    Ok(run_in_turns(rt, alloc, book, size, sessions)?)
 }

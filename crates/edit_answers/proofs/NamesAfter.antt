@@ -104,12 +104,15 @@ module _ (edits : List Edit) (c : Cell) (fit : FindTheirRecords edits c) (n : Re
   head_when None head is = refl
   head_when (Some (Add r)) head is =
       absurd (contradiction (same_name head_name (name_of r))
-      (not_the_head r (each_passes has_a_list r (filter_map added_by edits) fit.placed (among_mapped added_by (Add r) r edits (found named edits (Add r) is).among refl)))
+      (not_the_head r (each_passes has_a_list r (filter_map added_by edits) fit.placed
+      (among_mapped added_by (Add r) r edits (found named edits (Add r) is).among refl)))
       (ap (λ m. same_name m (name_of r)) (sym head) ∙ same_from_either n (name_of r) ∙ (found named edits (Add r) is).passes))
   head_when (Some (Set r)) head is =
-      absurd (contradiction (is_some (listed_record c n)) (ap is_some (headless head)) (ap (λ m. is_some (listed_record c m)) (sym (own (Set r) is)) ∙ has (Set r) is))
+      absurd (contradiction (is_some (listed_record c n)) (ap is_some (headless head))
+      (ap (λ m. is_some (listed_record c m)) (sym (own (Set r) is)) ∙ has (Set r) is))
   head_when (Some (Del m)) head is =
-      absurd (contradiction (is_some (listed_record c n)) (ap is_some (headless head)) (ap (λ m. is_some (listed_record c m)) (sym (own (Del m) is)) ∙ has (Del m) is))
+      absurd (contradiction (is_some (listed_record c n)) (ap is_some (headless head))
+      (ap (λ m. is_some (listed_record c m)) (sym (own (Del m) is)) ∙ has (Del m) is))
   head_when (Some (Head e)) head is = refl
 
   -- an edit of the head isn't found under another name

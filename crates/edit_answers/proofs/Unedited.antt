@@ -42,7 +42,8 @@ flipped true x e = ap not (sym e)
 flipped false x e = ap not (sym e)
 
 -- no edit is about a name where none is found
-pub unedited_when : (b : Bool) (o : Option (Bor Edit)) (edits : List Edit) (n : RecName) → is_some o ≡ not b → option_copied o ≡ edit_of n edits → b ≡ is_unedited edits n
+pub unedited_when : (b : Bool) (o : Option (Bor Edit)) (edits : List Edit) (n : RecName) → is_some o ≡ not b → option_copied o ≡ edit_of n edits
+    → b ≡ is_unedited edits n
 unedited_when b o edits n none is =
     flipped b (is_some o) none
     ∙ ap not (sym (copied_by o) ∙ ap is_some is ∙ some_found (λ edit. same_name (name_of_edit edit) n) edits)

@@ -44,7 +44,8 @@ and_assoc : (a b c : Bool) → (a && (b && c)) ≡ ((a && b) && c)
 and_assoc true b c = refl
 and_assoc false b c = refl
 
-taken_by_edits : (c : Cell) (edits : List Edit) (last : Option StateRefusal) → is_taken (first_or (filter_map (edit_refusal c) edits) last) ≡ (list_all (has_its_record c) edits && is_taken last)
+taken_by_edits : (c : Cell) (edits : List Edit) (last : Option StateRefusal) → is_taken (first_or (filter_map (edit_refusal c) edits) last) ≡
+    (list_all (has_its_record c) edits && is_taken last)
 taken_by_edits c [] last = refl
 taken_by_edits c (edit ∷ edits) last =
     first_edit c edit (filter_map (edit_refusal c) edits) last (list_all (has_its_record c) edits && is_taken last) (taken_by_edits c edits last)
@@ -53,7 +54,8 @@ taken_by_edits c (edit ∷ edits) last =
 within_or_above : (a b : ℕ) → not (nat_lt a b) ≡ nat_le b a
 within_or_above a b = grind (arith, nat_tests)
 
-taken_by_size : (c : Cell) (edits : List Edit) → is_taken (size_refusal c edits) ≡ (nat_le (length (all_records (apply_edits edits c))) record_limit && not (leave_a_long_head edits c))
+taken_by_size : (c : Cell) (edits : List Edit) → is_taken (size_refusal c edits) ≡
+    (nat_le (length (all_records (apply_edits edits c))) record_limit && not (leave_a_long_head edits c))
 taken_by_size c edits =
     by (nat_lt record_limit records) (leave_a_long_head edits c) (nat_lt finding_limit (finding_total (apply_edits edits c)))
     ∙ ap (λ b. b && not (leave_a_long_head edits c)) (within_or_above record_limit records)
@@ -64,7 +66,8 @@ taken_by_size c edits =
     bytes : ℕ
     bytes = identification_length (head_after edits c.head)
 
-    by : (full long many : Bool) → is_taken (if full then Some (CellFull records) else (if long then Some (HeadTooLong bytes) else (if many then Some FindingsFull else None))) ≡ (not full && not long)
+    by : (full long many : Bool) → is_taken (if full then Some (CellFull records) else
+        (if long then Some (HeadTooLong bytes) else (if many then Some FindingsFull else None))) ≡ (not full && not long)
     by true long many = refl
     by false true many = refl
     by false false true = refl

@@ -15,7 +15,22 @@ use Rattle.edit_sets.specs.declared.fault.FormFault.{FormFault}
 use Rattle.rule_spec.specs.Findings.{finding_total}
 use Rattle.history_spec.specs.ReportText.{final_cell}
 use Rattle.history_spec.specs.Sessions.{Request, see, offer, request_step, history_after, ordered_requests}
-use Rattle.history_spec.specs.Steps.{History, AcceptedCommit, Event, faulty, commit, answer, left_after, first_of, clash_with, contested_names, newer_answer, state_refusal, commit_answer, opening}
+use Rattle.history_spec.specs.Steps.{
+  History,
+  AcceptedCommit,
+  Event,
+  faulty,
+  commit,
+  answer,
+  left_after,
+  first_of,
+  clash_with,
+  contested_names,
+  newer_answer,
+  state_refusal,
+  commit_answer,
+  opening,
+}
 use Rattle.history_spec.specs.declared.refusal.StateRefusal.{StateRefusal}
 use Rattle.history_spec.specs.declared.reply.Reply.{Reply}
 use Rattle.history_spec.specs.declared.reply.Reply.TheVariants.{Viewed, Formed, Newer, Refused, Accepted}
@@ -46,18 +61,22 @@ newer_of : (number desk : ℕ) (n : RecName) (edit : Option Edit) → IfSome (op
 newer_of number desk n None = tt
 newer_of number desk n (Some edit) = refl
 
-clash_of : (number desk : ℕ) (least : Option RecName) (edits : List Edit) → IfSome (option_and_then (λ n. option_map (Newer number n desk) (edit_of n edits)) least) IsOther
+clash_of : (number desk : ℕ) (least : Option RecName) (edits : List Edit)
+    → IfSome (option_and_then (λ n. option_map (Newer number n desk) (edit_of n edits)) least) IsOther
 clash_of number desk None edits = tt
 clash_of number desk (Some n) edits = newer_of number desk n (edit_of n edits)
 
-first_is_other : (one : Option Reply) (rest : List Reply) → IfSome one IsOther → IfSome (first_of rest) IsOther → IfSome (first_of (cons_option one rest)) IsOther
+first_is_other : (one : Option Reply) (rest : List Reply) → IfSome one IsOther → IfSome (first_of rest) IsOther
+    → IfSome (first_of (cons_option one rest)) IsOther
 first_is_other None rest one others = others
 first_is_other (Some reply) rest one others = one
 
-clashes_are_other : (edits : List Edit) (guards : List RecName) (commits : List (ℕ × AcceptedCommit)) → IfSome (first_of (filter_map (clash_with edits guards) commits)) IsOther
+clashes_are_other : (edits : List Edit) (guards : List RecName) (commits : List (ℕ × AcceptedCommit))
+    → IfSome (first_of (filter_map (clash_with edits guards) commits)) IsOther
 clashes_are_other edits guards [] = tt
 clashes_are_other edits guards (c ∷ commits) =
-    first_is_other (clash_with edits guards c) (filter_map (clash_with edits guards) commits) (clash_of c.0 c.1.desk (first_of (ascending name_order (contested_names edits guards c.1.edits))) c.1.edits)
+    first_is_other (clash_with edits guards c) (filter_map (clash_with edits guards) commits)
+    (clash_of c.0 c.1.desk (first_of (ascending name_order (contested_names edits guards c.1.edits))) c.1.edits)
     (clashes_are_other edits guards commits)
 
 -- a commit of edits without a fault of form
@@ -71,22 +90,26 @@ Offers Good (offer edits guards) = Good edits
 
 -- what the edits that a cell takes keep of it, a run keeps
 module _ (P : Cell → Type 0) (Good : List Edit → Type 0)
-    (keeps : (d : Cell) (edits : List Edit) (guards : List RecName) → P d → Good edits → form_fault d.head.nall edits guards ≡ None → is_applicable edits d ≡ true → P (apply_edits edits d)) where
+    (keeps : (d : Cell) (edits : List Edit) (guards : List RecName) → P d → Good edits → form_fault d.head.nall edits guards ≡ None
+    → is_applicable edits d ≡ true → P (apply_edits edits d)) where
   kept_by_other : (desk : ℕ) (event : Event) (reply : Reply) (h : History) → P h.cell → IsOther reply → P (left_after desk event reply h).cell
   kept_by_other desk event reply h here other = subst P (sym (other_keeps desk event reply h other)) here
 
-  commit_keeps : (h : History) (desk base : ℕ) (edits : List Edit) (guards : List RecName) → P h.cell → Good edits → form_fault h.cell.head.nall edits guards ≡ None
+  commit_keeps : (h : History) (desk base : ℕ) (edits : List Edit) (guards : List RecName) → P h.cell → Good edits
+      → form_fault h.cell.head.nall edits guards ≡ None
       → P (left_after desk (commit base edits guards) (commit_answer h base edits guards) h).cell
   commit_keeps h desk base edits guards here good no_fault =
       by (newer_answer h.commits base edits guards) (clashes_are_other edits guards (drop base (enumerate_from 1 h.commits))) (state_refusal h.cell edits) refl
     where
       by : (newer : Option Reply) → IfSome newer IsOther → (refusal : Option StateRefusal) → state_refusal h.cell edits ≡ refusal
-          → P (left_after desk (commit base edits guards) (option_map_or (λ reply. reply) newer (option_map_or Refused refusal (Accepted (length h.commits + 1) (finding_total (apply_edits edits h.cell))))) h).cell
+          → P (left_after desk (commit base edits guards) (option_map_or (λ reply. reply) newer
+          (option_map_or Refused refusal (Accepted (length h.commits + 1) (finding_total (apply_edits edits h.cell))))) h).cell
       by (Some reply) other refusal is = kept_by_other desk (commit base edits guards) reply h here other
       by None other (Some refusal) is = here
       by None other None is = keeps h.cell edits guards here good no_fault (taken_when_none h.cell edits is)
 
-  offer_keeps : (h : History) (desk base : ℕ) (edits : List Edit) (guards : List RecName) → P h.cell → Good edits → (fault : Option FormFault) → form_fault h.cell.head.nall edits guards ≡ fault
+  offer_keeps : (h : History) (desk base : ℕ) (edits : List Edit) (guards : List RecName) → P h.cell → Good edits → (fault : Option FormFault)
+      → form_fault h.cell.head.nall edits guards ≡ fault
       → P (left_after desk (option_map_or faulty fault (commit base edits guards)) (answer h (option_map_or faulty fault (commit base edits guards))) h).cell
   offer_keeps h desk base edits guards here good (Some fault) is = here
   offer_keeps h desk base edits guards here good None is = commit_keeps h desk base edits guards here good is
@@ -95,7 +118,8 @@ module _ (P : Cell → Type 0) (Good : List Edit → Type 0)
   request_keeps h desk see here good = here
   request_keeps h desk (offer edits guards) here good = offer_keeps h desk (h.bases desk) edits guards here good (form_fault h.cell.head.nall edits guards) refl
 
-  pub requests_keep : (h : History) (requests : List (ℕ × Request)) → P h.cell → AllByRecursion (λ (r : ℕ × Request). Offers Good r.1) requests → P (history_after h requests).cell
+  pub requests_keep : (h : History) (requests : List (ℕ × Request)) → P h.cell → AllByRecursion (λ (r : ℕ × Request). Offers Good r.1) requests
+      → P (history_after h requests).cell
   requests_keep h [] here good = here
   requests_keep h (request ∷ requests) here good = requests_keep (request_step h request).1 requests (request_keeps h request.0 request.1 here good.0) good.1
 
@@ -115,4 +139,5 @@ any_offers (request ∷ requests) = (any_offer request.1, any_offers requests)
 pub runs_leave_writable : RunsLeaveWritable
 unfolding final_cell
 runs_leave_writable c scripts order w =
-    requests_keep IsWritable AnyEdits (λ d edits guards here good no_fault taken. edits_keep_writable d edits guards here no_fault taken) (opening c) (ordered_requests scripts order) w (any_offers (ordered_requests scripts order))
+    requests_keep IsWritable AnyEdits (λ d edits guards here good no_fault taken. edits_keep_writable d edits guards here no_fault taken)
+    (opening c) (ordered_requests scripts order) w (any_offers (ordered_requests scripts order))

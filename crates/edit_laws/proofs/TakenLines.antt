@@ -1,5 +1,27 @@
 -- Edits that a writable cell takes each have a line.
-use Rattle.std.proofs.Common.{◌≡◌, ℕ, Bool, true, false, ◌&&◌, not, List, [], ◌∷◌, ◌++◌, Option, Some, None, length, refl, ap, ◌∙◌, if◌then◌else◌, nat_lt, nat_le}
+use Rattle.std.proofs.Common.{
+  ◌≡◌,
+  ℕ,
+  Bool,
+  true,
+  false,
+  ◌&&◌,
+  not,
+  List,
+  [],
+  ◌∷◌,
+  ◌++◌,
+  Option,
+  Some,
+  None,
+  length,
+  refl,
+  ap,
+  ◌∙◌,
+  if◌then◌else◌,
+  nat_lt,
+  nat_le,
+}
 use Rattle.std.specs.Prelude.{All, cond, find, is_some}
 use Rattle.std.specs.List.{AllByRecursion, list_all}
 use Rattle.std.proofs.lemmas.Bool.{and_parts, and_from}
@@ -49,7 +71,8 @@ feature_name Ve is = absurd cc
 feature_name Fe is = refl
 feature_name HeadKind is = absurd cc
 
-no_head : {X : Type 0} (target : X → RecName) (xs : List X) → list_all (λ x. is_vector_kind (target x).kind) xs ≡ true → list_all (λ x. not (is_head (target x).kind)) xs ≡ true
+no_head : {X : Type 0} (target : X → RecName) (xs : List X) → list_all (λ x. is_vector_kind (target x).kind) xs ≡ true
+    → list_all (λ x. not (is_head (target x).kind)) xs ≡ true
 no_head target [] all = refl
 no_head target (x ∷ xs) all =
     let parts = and_parts (is_vector_kind (target x).kind) (list_all (λ y. is_vector_kind (target y).kind) xs) all in
@@ -59,16 +82,19 @@ no_head target (x ∷ xs) all =
 named_well : (rec : Rec) → has_good_names rec ≡ true → record_has_line rec ≡ true
 named_well (V v) good =
     let parts = and_parts (is_vector_kind v.name.kind) (list_all (λ (e : End). is_vector_kind e.to.kind) v.ends) good in
-    and_from (not (is_feature v.name.kind) && not (is_head v.name.kind)) (list_all (λ (e : End). not (is_head e.to.kind)) v.ends) (vector_name v.name.kind parts.0) (no_head (λ (e : End). e.to) v.ends parts.1)
+    and_from (not (is_feature v.name.kind) && not (is_head v.name.kind)) (list_all (λ (e : End). not (is_head e.to.kind)) v.ends)
+    (vector_name v.name.kind parts.0) (no_head (λ (e : End). e.to) v.ends parts.1)
 named_well (F f) good =
     let parts = and_parts (is_feature_kind f.name.kind) (list_all (λ (s : Spot). is_vector_kind s.to.kind) f.places) good in
-    and_from (is_feature f.name.kind) (list_all (λ (s : Spot). not (is_head s.to.kind)) f.places) (feature_name f.name.kind parts.0) (no_head (λ (s : Spot). s.to) f.places parts.1)
+    and_from (is_feature f.name.kind) (list_all (λ (s : Spot). not (is_head s.to.kind)) f.places) (feature_name f.name.kind parts.0)
+    (no_head (λ (s : Spot). s.to) f.places parts.1)
 named_well (H h) good = absurd cc
 
 fit_has_line : (nall : ℕ) (rec : Rec) → unfitness nall rec ≡ None → record_has_line rec ≡ true
 unfolding unfitness
 fit_has_line nall rec none =
-    named_well rec (good_names (has_good_names rec) (if not (has_good_texts nall rec) then Some BadText else (if nat_lt length_limit (written_length nall rec) then Some TooLong else None)) none)
+    named_well rec (good_names (has_good_names rec) (if not (has_good_texts nall rec) then Some BadText else
+    (if nat_lt length_limit (written_length nall rec) then Some TooLong else None)) none)
 
 -- no record of a writable cell has the name of a head
 abbrev IsListed : Rec → Type 0
@@ -84,7 +110,8 @@ all_listed c w =
     let fe = of_kind Fe refl c.fe w.features in
     each_append IsListed (c.vi ++ c.vc ++ c.ve) c.fe (each_append IsListed (c.vi ++ c.vc) c.ve (each_append IsListed c.vi c.vc vi vc) ve) fe
 
-found_by : (n : RecName) (r : Rec) (named : Bool) (later : Option Rec) → same_name n (name_of r) ≡ named → IsListed r → (is_some later ≡ true → is_head n.kind ≡ false) → is_some (cond named (Some r) later) ≡ true
+found_by : (n : RecName) (r : Rec) (named : Bool) (later : Option Rec) → same_name n (name_of r) ≡ named → IsListed r
+    → (is_some later ≡ true → is_head n.kind ≡ false) → is_some (cond named (Some r) later) ≡ true
     → is_head n.kind ≡ false
 found_by n r true later is listed others found = ap (λ (m : RecName). is_head m.kind) (one_when_same n (name_of r) is) ∙ listed
 found_by n r false later is listed others found = others found
@@ -99,7 +126,8 @@ edit_has_line c (Set r) w fit has = fit_has_line c.head.nall r fit
 edit_has_line c (Del n) w fit has = ap not (found_is_listed n (all_records c) (all_listed c w) has)
 edit_has_line c (Head e) w fit has = refl
 
-each_has_line : (c : Cell) (edits : List Edit) → IsWritable c → AllByRecursion (λ edit. unfitness_of_edit c.head.nall edit ≡ None) edits → list_all (has_its_record c) edits ≡ true
+each_has_line : (c : Cell) (edits : List Edit) → IsWritable c → AllByRecursion (λ edit. unfitness_of_edit c.head.nall edit ≡ None) edits
+    → list_all (has_its_record c) edits ≡ true
     → AllByRecursion (λ edit. has_line edit ≡ true) edits
 each_has_line c [] w fit all = tt
 each_has_line c (edit ∷ edits) w fit all =
@@ -110,5 +138,6 @@ pub taken_edits_have_lines : TakenEditsHaveLines
 taken_edits_have_lines c edits guards w no_fault applicable =
     let form : IsFormed c.head.nall edits guards = formed c.head.nall edits guards no_fault in
     let fit = recursion_from_All (λ edit. unfitness_of_edit c.head.nall edit ≡ None) edits form.fit in
-    let taken = and_parts (find_their_records edits c) (nat_le (length (all_records (apply_edits edits c))) record_limit && not (leave_a_long_head edits c)) applicable in
+    let taken = and_parts (find_their_records edits c) (nat_le (length (all_records (apply_edits edits c))) record_limit && not
+    (leave_a_long_head edits c)) applicable in
     All-from_recursion (λ edit. has_line edit ≡ true) edits (each_has_line c edits w fit taken.0)

@@ -34,12 +34,15 @@ IdentificationHasForms h = HasForms dsid_forms (dsid_row (dsid_of_head h))
 
 -- the forms of the first head record where the lengths of its dates and its edition are these
 abbrev forms_with : ℕ → ℕ → ℕ → List Form
-forms_with update issue edition = b11 ∷ b14 ∷ b11 ∷ b11 ∷ text ∷ text ∷ text ∷ fixed update ∷ fixed issue ∷ fixed edition ∷ b11 ∷ text ∷ text ∷ b11 ∷ b12 ∷ text ∷ []
+forms_with update issue edition = b11 ∷ b14 ∷ b11 ∷ b11 ∷ text ∷ text ∷ text ∷ fixed update ∷ fixed issue ∷ fixed edition
+    ∷ b11 ∷ text ∷ text ∷ b11 ∷ b12 ∷ text ∷ []
 
-edited_forms : (update issue edition new_update new_issue : ℕ) → forms_with update issue edition ≡ dsid_forms → new_update ≡ 8 → new_issue ≡ 8 → forms_with new_update new_issue edition ≡ dsid_forms
+edited_forms : (update issue edition new_update new_issue : ℕ) → forms_with update issue edition ≡ dsid_forms → new_update ≡ 8
+    → new_issue ≡ 8 → forms_with new_update new_issue edition ≡ dsid_forms
 edited_forms update issue edition new_update new_issue old is_update is_issue = let four : edition ≡ 4 = cc in cc
 
-head_typed_by : (nall : ℕ) (edits : List Edit) (h : CellHead) (edit : Option Edit) → IfSome edit (IsAmong (EditHasItsTypes nall) edits) → IdentificationHasForms h → IdentificationHasForms (head_by h edit)
+head_typed_by : (nall : ℕ) (edits : List Edit) (h : CellHead) (edit : Option Edit) → IfSome edit (IsAmong (EditHasItsTypes nall) edits)
+    → IdentificationHasForms h → IdentificationHasForms (head_by h edit)
 head_typed_by nall edits h None here typed = typed
 head_typed_by nall edits h (Some (Add r)) here typed = typed
 head_typed_by nall edits h (Some (Set r)) here typed = typed
@@ -49,11 +52,14 @@ head_typed_by nall edits h (Some (Head e)) here typed = record {
   each = typed.each;
 }
 
-head_typed : (nall : ℕ) (edits : List Edit) (h : CellHead) → AllByRecursion (EditHasItsTypes nall) edits → IdentificationHasForms h → IdentificationHasForms (head_after edits h)
-head_typed nall edits h all typed = head_typed_by nall edits h (edit_of head_name edits) (found_among (EditHasItsTypes nall) (λ edit. same_name (name_of_edit edit) head_name) edits all) typed
+head_typed : (nall : ℕ) (edits : List Edit) (h : CellHead) → AllByRecursion (EditHasItsTypes nall) edits → IdentificationHasForms h
+    → IdentificationHasForms (head_after edits h)
+head_typed nall edits h all typed = head_typed_by nall edits h (edit_of head_name edits)
+    (found_among (EditHasItsTypes nall) (λ edit. same_name (name_of_edit edit) head_name) edits all) typed
 
 -- the parameters stay
-parameters_by : (h : CellHead) (edit : Option Edit) → HasForms dspm_forms (dspm_row (dspm_of_head h)) → HasForms dspm_forms (dspm_row (dspm_of_head (head_by h edit)))
+parameters_by : (h : CellHead) (edit : Option Edit) → HasForms dspm_forms (dspm_row (dspm_of_head h))
+    → HasForms dspm_forms (dspm_row (dspm_of_head (head_by h edit)))
 parameters_by h None typed = typed
 parameters_by h (Some (Add r)) typed = typed
 parameters_by h (Some (Set r)) typed = typed
@@ -68,7 +74,8 @@ edits_keep_types c edits typed leaves =
     let left : AllByRecursion (Leaves forms) edits = each_weaker (EditHasItsTypes c.head.nall) (Leaves forms) (leaves_typed c.head.nall) edits leaves in
     let has : (kind : Kind) → AllByRecursion forms (lists kind) = λ kind. list_has forms edits kind c left (each_of_kind forms kind c typed.records) in
     let records : AllByRecursion forms (lists Vi ++ lists Vc ++ lists Ve ++ lists Fe) =
-    each_append forms (lists Vi ++ lists Vc ++ lists Ve) (lists Fe) (each_append forms (lists Vi ++ lists Vc) (lists Ve) (each_append forms (lists Vi) (lists Vc) (has Vi) (has Vc)) (has Ve)) (has Fe) in
+    each_append forms (lists Vi ++ lists Vc ++ lists Ve) (lists Fe)
+    (each_append forms (lists Vi ++ lists Vc) (lists Ve) (each_append forms (lists Vi) (lists Vc) (has Vi) (has Vc)) (has Ve)) (has Fe) in
     record {
       dsid = head_typed c.head.nall edits c.head leaves typed.dsid;
       dspm = parameters_by c.head (edit_of head_name edits) typed.dspm;

@@ -16,7 +16,8 @@ abbrev pub RequestHasItsTypes : ℕ → Request → Type 0
 RequestHasItsTypes nall = Offers (AllByRecursion (EditHasItsTypes nall))
 
 -- the requests of a script's commands, from a draft on
-requests_typed : (nall : ℕ) (edits : List Edit) (guards : List RecName) (commands : List Command) → AllByRecursion (EditHasItsTypes nall) edits → AllByRecursion (CommandHasItsTypes nall) commands
+requests_typed : (nall : ℕ) (edits : List Edit) (guards : List RecName) (commands : List Command) → AllByRecursion (EditHasItsTypes nall) edits
+    → AllByRecursion (CommandHasItsTypes nall) commands
     → AllByRecursion (RequestHasItsTypes nall) (requests_from edits guards commands)
 requests_typed nall edits guards [] drafted typed = tt
 requests_typed nall edits guards (View ∷ commands) drafted typed = (tt, requests_typed nall edits guards commands drafted typed.1)
@@ -38,22 +39,27 @@ at_place_or P [] k d all other = other
 at_place_or P (x ∷ xs) zero d all other = all.0
 at_place_or P (x ∷ xs) (suc k) d all other = at_place_or P xs k d all.1 other
 
-with_session : (nall session : ℕ) (o : Option Request) → IfSome o (RequestHasItsTypes nall) → IfSome (option_map (λ request. (session, request)) o) (λ (r : ℕ × Request). RequestHasItsTypes nall r.1)
+with_session : (nall session : ℕ) (o : Option Request) → IfSome o (RequestHasItsTypes nall)
+    → IfSome (option_map (λ request. (session, request)) o) (λ (r : ℕ × Request). RequestHasItsTypes nall r.1)
 with_session nall session None typed = tt
 with_session nall session (Some request) typed = typed
 
-one_more : (P : ℕ × Request → Type 0) (o : Option (ℕ × Request)) (rest : List (ℕ × Request)) → IfSome o P → AllByRecursion P rest → AllByRecursion P (cons_option o rest)
+one_more : (P : ℕ × Request → Type 0) (o : Option (ℕ × Request)) (rest : List (ℕ × Request)) → IfSome o P → AllByRecursion P rest
+    → AllByRecursion P (cons_option o rest)
 one_more P None rest one others = others
 one_more P (Some r) rest one others = (one, others)
 
-ordered_typed : (nall : ℕ) (scripts : List (List Command)) (order : List ℕ) (places : List (ℕ × ℕ)) → AllByRecursion (AllByRecursion (CommandHasItsTypes nall)) scripts
+ordered_typed : (nall : ℕ) (scripts : List (List Command)) (order : List ℕ) (places : List (ℕ × ℕ))
+    → AllByRecursion (AllByRecursion (CommandHasItsTypes nall)) scripts
     → AllByRecursion (λ (r : ℕ × Request). RequestHasItsTypes nall r.1) (filter_map (request_at scripts order) places)
 ordered_typed nall scripts order [] typed = tt
 ordered_typed nall scripts order (p ∷ places) typed =
-    let script : AllByRecursion (CommandHasItsTypes nall) (script_of scripts p.1) = at_place_or (AllByRecursion (CommandHasItsTypes nall)) scripts (p.1 - 1) [] typed tt in
+    let script : AllByRecursion (CommandHasItsTypes nall) (script_of scripts p.1) =
+    at_place_or (AllByRecursion (CommandHasItsTypes nall)) scripts (p.1 - 1) [] typed tt in
     let k = count_by (λ other. other == p.1) (take p.0 order) in
     one_more (λ (r : ℕ × Request). RequestHasItsTypes nall r.1) (request_at scripts order p) (filter_map (request_at scripts order) places)
-    (with_session nall p.1 (slice_get (requests_of (script_of scripts p.1)) k) (at_place (RequestHasItsTypes nall) (requests_of (script_of scripts p.1)) k (requests_typed nall [] [] (script_of scripts p.1) tt script)))
+    (with_session nall p.1 (slice_get (requests_of (script_of scripts p.1)) k)
+    (at_place (RequestHasItsTypes nall) (requests_of (script_of scripts p.1)) k (requests_typed nall [] [] (script_of scripts p.1) tt script)))
     (ordered_typed nall scripts order places typed)
 
 pub requests_are_typed : (nall : ℕ) (scripts : List (List Command)) (order : List ℕ) → AllByRecursion (AllByRecursion (CommandHasItsTypes nall)) scripts

@@ -28,7 +28,8 @@ same_level : (edits : List Edit) (d : Cell) → (apply_edits edits d).head.nall 
 unfolding apply_edits
 same_level edits d = level_kept edits d.head
 
-edits_keep_it : (nall : ℕ) (d : Cell) (edits : List Edit) (guards : List RecName) → IsTypedAt nall d → AllByRecursion (EditHasItsTypes nall) edits → form_fault d.head.nall edits guards ≡ None → is_applicable edits d ≡ true
+edits_keep_it : (nall : ℕ) (d : Cell) (edits : List Edit) (guards : List RecName) → IsTypedAt nall d
+    → AllByRecursion (EditHasItsTypes nall) edits → form_fault d.head.nall edits guards ≡ None → is_applicable edits d ≡ true
     → IsTypedAt nall (apply_edits edits d)
 edits_keep_it nall d edits guards here good no_fault taken = record {
   writable = edits_keep_writable d edits guards here.writable no_fault taken;
@@ -40,6 +41,7 @@ pub runs_are_read_back : RoundTrip → RunsAreReadBack
 unfolding final_cell
 runs_are_read_back back c scripts order w typed commands =
     let last : IsTypedAt c.head.nall (final_cell c scripts order) =
-    requests_keep (IsTypedAt c.head.nall) (AllByRecursion (EditHasItsTypes c.head.nall)) (edits_keep_it c.head.nall) (opening c) (ordered_requests scripts order)
+    requests_keep (IsTypedAt c.head.nall) (AllByRecursion (EditHasItsTypes c.head.nall)) (edits_keep_it c.head.nall) (opening c)
+    (ordered_requests scripts order)
     (record { writable = w; typed = typed; level = refl }) (requests_are_typed c.head.nall scripts order commands) in
     back (final_cell c scripts order) last.writable last.typed

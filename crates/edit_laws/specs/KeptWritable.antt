@@ -15,7 +15,8 @@ use Rattle.history_spec.specs.Steps.{state_refusal}
 
 -- edits that are an edit set with some guards at the level of a writable cell, and that the cell takes, each have a line
 abbrev pub TakenEditsHaveLines : Type 0
-TakenEditsHaveLines = (c : Cell) (edits : List Edit) (guards : List RecName) → IsWritable c → form_fault c.head.nall edits guards ≡ None → is_applicable edits c ≡ true → All (λ edit. has_line edit ≡ true) edits
+TakenEditsHaveLines = (c : Cell) (edits : List Edit) (guards : List RecName) → IsWritable c → form_fault c.head.nall edits guards ≡ None
+    → is_applicable edits c ≡ true → All (λ edit. has_line edit ≡ true) edits
 
 -- there is no refusal because of a record that is there or is missing, nor because the cell is full or its head too long; that there are
 -- too many findings says nothing of the cell's records

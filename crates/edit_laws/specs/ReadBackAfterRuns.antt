@@ -41,4 +41,5 @@ EditsKeepTypes = (c : Cell) (edits : List Edit) → HasItsTypes c → AllByRecur
 -- the file that is written of the cell that a run leaves is read as that cell
 abbrev pub RunsAreReadBack : Type 0
 RunsAreReadBack = (c : Cell) (scripts : List (List Command)) (order : List ℕ) → IsWritable c → HasItsTypes c
-    → AllByRecursion (AllByRecursion (CommandHasItsTypes c.head.nall)) scripts → decoded_cell (encoded_cell (final_cell c scripts order)) ≡ Ok (final_cell c scripts order)
+    → AllByRecursion (AllByRecursion (CommandHasItsTypes c.head.nall)) scripts → decoded_cell (encoded_cell (final_cell c scripts order)) ≡
+    Ok (final_cell c scripts order)

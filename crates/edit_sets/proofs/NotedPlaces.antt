@@ -1,5 +1,44 @@
 -- The places of edits, noted one after the other and found by their names.
-use Rattle.std.proofs.Common.{◌≡◌, ℕ, zero, suc, ◌+◌, ◌<◌, ◌≤◌, ◌⊎◌, inl, inr, ◌==◌, ◌&&◌, ◌||◌, Bool, true, false, List, [], ◌∷◌, ◌++◌, Option, Some, None, length, map, get_or, set, take, replicate, cond, refl, sym, ◌∙◌, ap, subst, arith, length-append, length-set}
+use Rattle.std.proofs.Common.{
+  ◌≡◌,
+  ℕ,
+  zero,
+  suc,
+  ◌+◌,
+  ◌<◌,
+  ◌≤◌,
+  ◌⊎◌,
+  inl,
+  inr,
+  ◌==◌,
+  ◌&&◌,
+  ◌||◌,
+  Bool,
+  true,
+  false,
+  List,
+  [],
+  ◌∷◌,
+  ◌++◌,
+  Option,
+  Some,
+  None,
+  length,
+  map,
+  get_or,
+  set,
+  take,
+  replicate,
+  cond,
+  refl,
+  sym,
+  ◌∙◌,
+  ap,
+  subst,
+  arith,
+  length-append,
+  length-set,
+}
 use Rattle.std.specs.Prelude.{find, slice_get, option_and_then, is_some, nat_lt, IfSome}
 use Rattle.std.specs.Borrow.{Bor}
 use Rattle.std.specs.List.{list_any}
@@ -46,21 +85,27 @@ no_tie Greater e = refl
 
 side_of : (k i : ℕ) → (k < i) ⊎ (i ≤ k)
 side_of k zero = inr (omega arith)
-side_of k (suc i) = elim (side_of k i) [ inl h ↦ inl (omega (arith, h)) | inr h ↦ elim (eq-or-lt_of_le h) [ inl e ↦ inl (omega (arith, e)) | inr l ↦ inr (omega (arith, l)) ] ]
+side_of k (suc i) = elim (side_of k i) [
+  | inl h ↦ inl (omega (arith, h))
+  | inr h ↦ elim (eq-or-lt_of_le h) [ inl e ↦ inl (omega (arith, e)) | inr l ↦ inr (omega (arith, l)) ]
+]
 
 -- a name that a search doesn't find is none of the names
 pub none_there : (names : List RecName) (name : RecName) (i : ℕ) → IsStrictlySortedBy name_order names
-    → (IsNonDecreasingBy (λ y. ordering_index (name_order y name)) names → IsPartitionPoint (λ y. name_order y name ≡ Less) (λ y. name_order y name ≡ Greater) names i)
+    → (IsNonDecreasingBy (λ y. ordering_index (name_order y name)) names → IsPartitionPoint (λ y. name_order y name ≡ Less)
+    (λ y. name_order y name ≡ Greater) names i)
     → list_any (λ other. same_name other name) names ≡ false
 none_there names name i rises cut =
     let parts = cut (searchable_from_sorted total_names (λ n. n) names name (sorted_names names rises)) in
     list_any_none (λ other. same_name other name) names (λ k d within.
     let found = get_or names k d in
-    let either : (name_order found name ≡ Less) ⊎ (name_order found name ≡ Greater) = elim (side_of k i) [ inl h ↦ inl (parts.0 k d (omega arith) h) | inr h ↦ inr (parts.1 k d h within) ] in
+    let either : (name_order found name ≡ Less) ⊎ (name_order found name ≡ Greater) =
+    elim (side_of k i) [ inl h ↦ inl (parts.0 k d (omega arith) h) | inr h ↦ inr (parts.1 k d h within) ] in
     sym (names_tie name found) ∙ ap is_eq (total_names.antisymm name found) ∙ no_tie (name_order found name) either)
 
 -- a name that a search finds is there
-pub one_there : (names : List RecName) (name : RecName) (place : ℕ) → place < length names → ((d : RecName) → name_order (get_or names place d) name ≡ Equal) → slice_get names place ≡ Some name
+pub one_there : (names : List RecName) (name : RecName) (place : ℕ) → place < length names
+    → ((d : RecName) → name_order (get_or names place d) name ≡ Equal) → slice_get names place ≡ Some name
 one_there names name place within ties = slice_get-get_or names place name within ∙ ap Some (exact_names (get_or names place name) name (ties name))
 
 same_itself : (n : RecName) → same_name n n ≡ true
@@ -71,7 +116,8 @@ any_mapped p [] = refl
 any_mapped p (edit ∷ edits) = ap (λ b. p (name_of_edit edit) || b) (any_mapped p edits)
 
 -- the ascending names are those of the edits
-pub any_named : (edits : List Edit) (names : List RecName) (name : RecName) → names ≡ ascending name_order (map name_of_edit edits) → list_any (λ other. same_name other name) names ≡ has_edit_of name edits
+pub any_named : (edits : List Edit) (names : List RecName) (name : RecName) → names ≡ ascending name_order (map name_of_edit edits)
+    → list_any (λ other. same_name other name) names ≡ has_edit_of name edits
 any_named edits names name is =
     ap (list_any (λ other. same_name other name)) is
     ∙ (λ i. list_any (λ other. sym (names_tie name other) i) (ascending name_order (map name_of_edit edits)))
@@ -79,11 +125,13 @@ any_named edits names name is =
     ∙ (λ i. list_any (λ other. names_tie name other i) (map name_of_edit edits))
     ∙ any_mapped (λ other. same_name other name) edits
 
-pub own_name : (edits : List Edit) (names : List RecName) (k : ℕ) (edit : Edit) → names ≡ ascending name_order (map name_of_edit edits) → k < length edits → edit ≡ get_or edits k edit
+pub own_name : (edits : List Edit) (names : List RecName) (k : ℕ) (edit : Edit) → names ≡ ascending name_order (map name_of_edit edits)
+    → k < length edits → edit ≡ get_or edits k edit
     → list_any (λ other. same_name other (name_of_edit edit)) names ≡ true
 own_name edits names k edit is within here =
     any_named edits names (name_of_edit edit) is
-    ∙ list_any_at (λ other. same_name (name_of_edit other) (name_of_edit edit)) edits k edit within (ap (λ other. same_name (name_of_edit other) (name_of_edit edit)) (sym here) ∙ same_itself (name_of_edit edit))
+    ∙ list_any_at (λ other. same_name (name_of_edit other) (name_of_edit edit)) edits k edit within
+    (ap (λ other. same_name (name_of_edit other) (name_of_edit edit)) (sym here) ∙ same_itself (name_of_edit edit))
 
 pub names_rise : (edits : List Edit) (names : List RecName) → names ≡ ascending name_order (map name_of_edit edits) → IsStrictlySortedBy name_order names
 names_rise edits names is = subst (IsStrictlySortedBy name_order) (sym is) (sorted-ascending name_order total_names (map name_of_edit edits))
@@ -101,7 +149,8 @@ pub has_place : (edits : List Edit) (name : RecName) (place : Option ℕ) → Is
 has_place edits name None is = sym (some_found name edits) ∙ ap is_some is
 has_place edits name (Some place) is = sym (some_found name edits) ∙ ap is_some (sym is.1 ∙ slice_get-get_or edits place (Del name) is.0)
 
-pub found_at_place : (edits : List Edit) (name : RecName) (place : Option ℕ) → IsPlaceOf edits name place → option_and_then (slice_get edits) place ≡ edit_of name edits
+pub found_at_place : (edits : List Edit) (name : RecName) (place : Option ℕ) → IsPlaceOf edits name place
+    → option_and_then (slice_get edits) place ≡ edit_of name edits
 found_at_place edits name None is = sym is
 found_at_place edits name (Some place) is = is.1
 
@@ -121,12 +170,14 @@ at_end : {X : Type 0} (xs : List X) (y : X) → slice_get (xs ++ (y ∷ [])) (le
 at_end [] y = refl
 at_end (x ∷ xs) y = at_end xs y
 
-edit_more : (name : RecName) (earlier : List Edit) (edit : Edit) (found : Option Edit) (named : Bool) → edit_of name earlier ≡ found → same_name (name_of_edit edit) name ≡ named
+edit_more : (name : RecName) (earlier : List Edit) (edit : Edit) (found : Option Edit) (named : Bool) → edit_of name earlier ≡ found
+    → same_name (name_of_edit edit) name ≡ named
     → edit_of name (earlier ++ (edit ∷ [])) ≡ option_or found (cond named (Some edit) None)
 edit_more name earlier edit found named is same =
     find-append (λ other. same_name (name_of_edit other) name) earlier (edit ∷ []) ∙ (λ i. option_or (is i) (cond (same i) (Some edit) None))
 
-kept_place : (earlier : List Edit) (edit : Edit) (name : RecName) (place : Option ℕ) → same_name (name_of_edit edit) name ≡ false → IsPlaceOf earlier name place → IsPlaceOf (earlier ++ (edit ∷ [])) name place
+kept_place : (earlier : List Edit) (edit : Edit) (name : RecName) (place : Option ℕ) → same_name (name_of_edit edit) name ≡ false
+    → IsPlaceOf earlier name place → IsPlaceOf (earlier ++ (edit ∷ [])) name place
 kept_place earlier edit name None other is = edit_more name earlier edit None false is other
 kept_place earlier edit name (Some place) other is =
     let there : slice_get earlier place ≡ Some (get_or earlier place edit) = slice_get-get_or earlier place edit is.0 in (
@@ -134,8 +185,12 @@ kept_place earlier edit name (Some place) other is =
       at_front earlier (edit ∷ []) place is.0 ∙ there ∙ sym (edit_more name earlier edit (Some (get_or earlier place edit)) false (sym is.1 ∙ there) other),
     )
 
-new_place : (earlier : List Edit) (edit : Edit) (name : RecName) → same_name (name_of_edit edit) name ≡ true → edit_of name earlier ≡ None → IsPlaceOf (earlier ++ (edit ∷ [])) name (Some (length earlier))
-new_place earlier edit name same none = (omega (arith, length-append earlier (edit ∷ [])), at_end earlier edit ∙ sym (edit_more name earlier edit None true none same))
+new_place : (earlier : List Edit) (edit : Edit) (name : RecName) → same_name (name_of_edit edit) name ≡ true → edit_of name earlier ≡ None
+    → IsPlaceOf (earlier ++ (edit ∷ [])) name (Some (length earlier))
+new_place earlier edit name same none = (
+  omega (arith, length-append earlier (edit ∷ [])),
+  at_end earlier edit ∙ sym (edit_more name earlier edit None true none same),
+)
 
 -- ---- the places of names
 pub none_noted : (names : List RecName) (places : List (Option ℕ)) → places ≡ replicate (length names) None → ArePlaces [] names places
@@ -144,15 +199,19 @@ none_noted names places is = subst (ArePlaces [] names) (sym is) (record {
   each = λ i d within. subst (IsPlaceOf [] (get_or names i d)) (sym (get_or-replicate (length names) i None None within)) refl;
 })
 
-other_name : (names : List RecName) (k j : ℕ) (d : RecName) → IsStrictlySortedBy name_order names → k < length names → j < length names → (k < j) ⊎ (j < k) → same_name (get_or names k d) (get_or names j d) ≡ false
+other_name : (names : List RecName) (k j : ℕ) (d : RecName) → IsStrictlySortedBy name_order names → k < length names → j < length names
+    → (k < j) ⊎ (j < k) → same_name (get_or names k d) (get_or names j d) ≡ false
 other_name names k j d rises k_within j_within (inl before) =
-    same_from_either (get_or names k d) (get_or names j d) ∙ sym (names_tie (get_or names k d) (get_or names j d)) ∙ ap is_eq (Less-from_sorted name_order names k j d rises before j_within)
+    same_from_either (get_or names k d) (get_or names j d) ∙ sym (names_tie (get_or names k d) (get_or names j d))
+    ∙ ap is_eq (Less-from_sorted name_order names k j d rises before j_within)
 other_name names k j d rises k_within j_within (inr behind) =
     sym (names_tie (get_or names j d) (get_or names k d)) ∙ ap is_eq (Less-from_sorted name_order names j k d rises behind k_within)
 
 -- the place of one more edit is noted at its name
-pub one_noted : (names : List RecName) (places : List (Option ℕ)) (earlier : List Edit) (edit : Edit) (k place : ℕ) → IsStrictlySortedBy name_order names → ArePlaces earlier names places
-    → slice_get names k ≡ Some (name_of_edit edit) → get_or places k None ≡ None → length earlier ≡ place → ArePlaces (earlier ++ (edit ∷ [])) names (set places k (Some place))
+pub one_noted : (names : List RecName) (places : List (Option ℕ)) (earlier : List Edit) (edit : Edit) (k place : ℕ)
+    → IsStrictlySortedBy name_order names → ArePlaces earlier names places
+    → slice_get names k ≡ Some (name_of_edit edit) → get_or places k None ≡ None → length earlier ≡ place
+    → ArePlaces (earlier ++ (edit ∷ [])) names (set places k (Some place))
 one_noted names places earlier edit k place rises are named free count =
     let inside : k < length names = slice_get_within names k (name_of_edit edit) named in
     let room : k < length places = (let many = are.as_many in omega (arith, inside, many)) in
@@ -161,45 +220,60 @@ one_noted names places earlier edit k place rises are named free count =
       each = λ j d within. by j d within (cases_order j k);
     }
   where
-    by : (j : ℕ) (d : RecName) → j < length names → (j ≡ k) ⊎ ((j < k) ⊎ (k < j)) → IsPlaceOf (earlier ++ (edit ∷ [])) (get_or names j d) (get_or (set places k (Some place)) j None)
+    by : (j : ℕ) (d : RecName) → j < length names → (j ≡ k) ⊎ ((j < k) ⊎ (k < j))
+        → IsPlaceOf (earlier ++ (edit ∷ [])) (get_or names j d) (get_or (set places k (Some place)) j None)
     by j d within (inl here) =
         let name : get_or names j d ≡ name_of_edit edit = ap (λ n. get_or names n d) here ∙ get_or_from_slice_get names k (name_of_edit edit) d named in
-        let inside : k < length places = (let many = are.as_many in let in_names = slice_get_within names k (name_of_edit edit) named in omega (arith, many, in_names)) in
+        let inside : k < length places = (let many = are.as_many in let in_names = slice_get_within names k (name_of_edit edit) named in
+        omega (arith, many, in_names)) in
         let noted : get_or (set places k (Some place)) j None ≡ Some place = get_or-set_at places k j (Some place) None here inside in
         let before : IsPlaceOf earlier (name_of_edit edit) None =
         subst (λ p. IsPlaceOf earlier (name_of_edit edit) p) free
-        (subst (λ n. IsPlaceOf earlier n (get_or places k None)) (get_or_from_slice_get names k (name_of_edit edit) d named) (are.each k d (slice_get_within names k (name_of_edit edit) named))) in
-        let new : IsPlaceOf (earlier ++ (edit ∷ [])) (name_of_edit edit) (Some (length earlier)) = new_place earlier edit (name_of_edit edit) (same_itself (name_of_edit edit)) before in
-        subst (IsPlaceOf (earlier ++ (edit ∷ [])) (get_or names j d)) (sym noted) (subst (λ n. IsPlaceOf (earlier ++ (edit ∷ [])) n (Some place)) (sym name) (subst (λ p. IsPlaceOf (earlier ++ (edit ∷ [])) (name_of_edit edit) (Some p)) count new))
+        (subst (λ n. IsPlaceOf earlier n (get_or places k None)) (get_or_from_slice_get names k (name_of_edit edit) d named)
+        (are.each k d (slice_get_within names k (name_of_edit edit) named))) in
+        let new : IsPlaceOf (earlier ++ (edit ∷ [])) (name_of_edit edit) (Some (length earlier)) =
+        new_place earlier edit (name_of_edit edit) (same_itself (name_of_edit edit)) before in
+        subst (IsPlaceOf (earlier ++ (edit ∷ [])) (get_or names j d)) (sym noted)
+        (subst (λ n. IsPlaceOf (earlier ++ (edit ∷ [])) n (Some place)) (sym name)
+        (subst (λ p. IsPlaceOf (earlier ++ (edit ∷ [])) (name_of_edit edit) (Some p)) count new))
     by j d within (inr apart) =
         let in_names = slice_get_within names k (name_of_edit edit) named in
         let other : same_name (name_of_edit edit) (get_or names j d) ≡ false =
         ap (λ n. same_name n (get_or names j d)) (sym (get_or_from_slice_get names k (name_of_edit edit) d named))
         ∙ other_name names k j d rises in_names within (elim apart [ inl h ↦ inr h | inr h ↦ inl h ]) in
-        let stays : get_or (set places k (Some place)) j None ≡ get_or places j None = get_or-set_other places k j (Some place) None (λ same. elim apart [ inl h ↦ omega (arith, h, same) | inr h ↦ omega (arith, h, same) ]) in
-        subst (IsPlaceOf (earlier ++ (edit ∷ [])) (get_or names j d)) (sym stays) (kept_place earlier edit (get_or names j d) (get_or places j None) other (are.each j d within))
+        let stays : get_or (set places k (Some place)) j None ≡ get_or places j None =
+        get_or-set_other places k j (Some place) None (λ same. elim apart [ inl h ↦ omega (arith, h, same) | inr h ↦ omega (arith, h, same) ]) in
+        subst (IsPlaceOf (earlier ++ (edit ∷ [])) (get_or names j d)) (sym stays)
+        (kept_place earlier edit (get_or names j d) (get_or places j None) other (are.each j d within))
 
 -- ---- the place at a name
-pub inside_places : (names : List RecName) (places : List (Option ℕ)) (k : ℕ) (name : RecName) → length places ≡ length names → slice_get names k ≡ Some name → k < length places
+pub inside_places : (names : List RecName) (places : List (Option ℕ)) (k : ℕ) (name : RecName) → length places ≡ length names
+    → slice_get names k ≡ Some name → k < length places
 inside_places names places k name many named = let inside = slice_get_within names k name named in omega (arith, many, inside)
 
-pub place_there : (names : List RecName) (places : List (Option ℕ)) (edits : List Edit) (name : RecName) (k : ℕ) (place : Option ℕ) → ArePlaces edits names places → slice_get names k ≡ Some name → place ≡ get_or places k place
+pub place_there : (names : List RecName) (places : List (Option ℕ)) (edits : List Edit) (name : RecName) (k : ℕ) (place : Option ℕ)
+    → ArePlaces edits names places → slice_get names k ≡ Some name → place ≡ get_or places k place
     → IsPlaceOf edits name place
 place_there names places edits name k place are named is =
-    let held : get_or places k None ≡ place = get_or_from_slice_get places k place None (slice_get_read places (length places) k place refl (inside_places names places k name are.as_many named) is) in
+    let held : get_or places k None ≡ place = get_or_from_slice_get places k place None
+    (slice_get_read places (length places) k place refl (inside_places names places k name are.as_many named) is) in
     subst (IsPlaceOf edits name) held
-    (subst (λ n. IsPlaceOf edits n (get_or places k None)) (get_or_from_slice_get names k name name named) (are.each k name (slice_get_within names k name named)))
+    (subst (λ n. IsPlaceOf edits n (get_or places k None)) (get_or_from_slice_get names k name name named)
+    (are.each k name (slice_get_within names k name named)))
 
-pub none_held : (names : List RecName) (places : List (Option ℕ)) (k : ℕ) (name : RecName) (place : Option ℕ) → length places ≡ length names → slice_get names k ≡ Some name → place ≡ get_or places k place → is_some place ≡ false
+pub none_held : (names : List RecName) (places : List (Option ℕ)) (k : ℕ) (name : RecName) (place : Option ℕ) → length places ≡ length names
+    → slice_get names k ≡ Some name → place ≡ get_or places k place → is_some place ≡ false
     → get_or places k None ≡ None
 none_held names places k name place many named is free =
-    get_or_from_slice_get places k place None (slice_get_read places (length places) k place refl (inside_places names places k name many named) is) ∙ none_if place free
+    get_or_from_slice_get places k place None (slice_get_read places (length places) k place refl
+    (inside_places names places k name many named) is) ∙ none_if place free
   where
     none_if : (p : Option ℕ) → is_some p ≡ false → p ≡ None
     none_if None h = refl
     none_if (Some n) h = absurd cc
 
 -- the edit that a look-up at a place gives
-pub edit_got : (edits : List Edit) (place : ℕ) (found : Option (Bor Edit)) → is_some found ≡ nat_lt place (length edits) → IfSome found (λ edit. edit.now ≡ get_or edits place edit.now) → option_copied found ≡ slice_get edits place
+pub edit_got : (edits : List Edit) (place : ℕ) (found : Option (Bor Edit)) → is_some found ≡ nat_lt place (length edits)
+    → IfSome found (λ edit. edit.now ≡ get_or edits place edit.now) → option_copied found ≡ slice_get edits place
 edit_got edits place None there is = sym (slice_get_past edits place (ltb-false place (length edits) (sym there)))
 edit_got edits place (Some edit) there is = ap Some is ∙ sym (slice_get-get_or edits place edit.now (ltb-true place (length edits) (sym there)))

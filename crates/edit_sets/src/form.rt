@@ -62,7 +62,8 @@ fn edit_fault(places: &mut Places, place: u32, edit: &Edit, nall: u8) -> Option<
     requires as_many { length places.old.places.items ≡ length places.old.names }
     requires counted { place + 1 < 2 ^ 32 }
     ensures names { places.new.names ≡ places.old.names }
-    ensures fault { (earlier : List SpecEdit) → ArePlaces earlier places.old.names places.old.places.items → length earlier ≡ place → result ≡ spec_edit_fault nall earlier (place + 1) edit.now }
+    ensures fault { (earlier : List SpecEdit) → ArePlaces earlier places.old.names places.old.places.items → length earlier ≡ place
+        → result ≡ spec_edit_fault nall earlier (place + 1) edit.now }
     ensures noted { (earlier : List SpecEdit) → ArePlaces earlier places.old.names places.old.places.items → length earlier ≡ place
         → IfNone result (ArePlaces (earlier ++ edit.now ∷ []) places.new.names places.new.places.items) }
 {

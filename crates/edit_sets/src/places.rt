@@ -71,7 +71,8 @@ impl Places {
         requires among { list_any (λ other. same_name other name) self.old.names ≡ true }
         requires as_many { length self.old.places.items ≡ length self.old.names }
         ensures names { self.new.names ≡ self.old.names }
-        ensures noted { (earlier : List SpecEdit) (edit : SpecEdit) → ArePlaces earlier self.old.names self.old.places.items → name_of_edit edit ≡ name → length earlier ≡ place
+        ensures noted { (earlier : List SpecEdit) (edit : SpecEdit) → ArePlaces earlier self.old.names self.old.places.items
+            → name_of_edit edit ≡ name → length earlier ≡ place
             → MatchBool result (ArePlaces (earlier ++ edit ∷ []) self.new.names self.new.places.items) (self.new ≡ self.old) }
         ensures new { (earlier : List SpecEdit) → ArePlaces earlier self.old.names self.old.places.items → has_edit_of name earlier ≡ not result }
     {

@@ -3,15 +3,44 @@ use Rattle.std.proofs.Common.{◌≡◌, ◌⊎◌, inl, inr, ℕ, List, Option,
 use Rattle.std.specs.Prelude.{IfSome}
 use Rattle.enc_outside.specs.Files.{Files}
 use Rattle.enc_top.specs.Inputs.{IsInputOf, OutputIs}
-use Rattle.enc_top.specs.Outcome.{IsAsked, IsAskedBy, IsBuilt, IsCause, IsCauseOf, IsCut, IsDoneWork, IsExact, IsExpected, IsOutput, IsSilent, IsSmooth, IsStuckAt, Outside}
+use Rattle.enc_top.specs.Outcome.{
+  IsAsked,
+  IsAskedBy,
+  IsBuilt,
+  IsCause,
+  IsCauseOf,
+  IsCut,
+  IsDoneWork,
+  IsExact,
+  IsExpected,
+  IsOutput,
+  IsSilent,
+  IsSmooth,
+  IsStuckAt,
+  Outside,
+}
 use Rattle.enc_top.specs.Task.{Task, task_of}
 use Rattle.enc_top.specs.Words.{Form, no_form, form_of}
 use Rattle.report_text.specs.declared.status.Status.{Status}
-use Rattle.report_text.specs.declared.status.Status.TheVariants.{Done, Usage, Absent, BadCell, BadScript, ReadFault, WriteFault, TooLarge, NoMemory, BadOrder, Stuck, TooManyFindings}
+use Rattle.report_text.specs.declared.status.Status.TheVariants.{
+  Done,
+  Usage,
+  Absent,
+  BadCell,
+  BadScript,
+  ReadFault,
+  WriteFault,
+  TooLarge,
+  NoMemory,
+  BadOrder,
+  Stuck,
+  TooManyFindings,
+}
 use Rattle.enc_top.specs.declared.work.Work.{Work}
 
 pub work_cause : (sticks : Type 0) (form : Form) (before after : Outside) (work : Work) (status : Status)
-    → IsOutput form before.files (task_of work) → IsAsked before form (Ok (task_of work)) → IsDoneWork (task_of work) before after status → IsCauseOf sticks form before after status
+    → IsOutput form before.files (task_of work) → IsAsked before form (Ok (task_of work)) → IsDoneWork (task_of work) before after status
+    → IsCauseOf sticks form before after status
 work_cause sticks form before after work Done output asked done = (task_of work, output, asked, done)
 work_cause sticks form before after work WriteFault output asked cut = (task_of work, output, asked, cut)
 work_cause sticks form before after work Usage output asked done = absurd done
@@ -44,7 +73,8 @@ refused_cause sticks form before after TooManyFindings silent asked = (asked.0, 
 of_told : (told : Option Files) (files : Files) (P : Files → Type 0) → told ≡ Some files → IfSome told P → P files
 of_told told files P is holds = subst (λ (t : Option Files). IfSome t P) is holds
 
-asked_of : (form : Form) (before after : Outside) (files : Files) (answer : Result Task Status) → IsSmooth before after files → IsAsked before form answer → OutputIs form files answer
+asked_of : (form : Form) (before after : Outside) (files : Files) (answer : Result Task Status) → IsSmooth before after files
+    → IsAsked before form answer → OutputIs form files answer
 asked_of form before after files answer smooth asked = of_told before.files files (λ fs. OutputIs form fs answer) smooth.told asked
 
 none_asked : (form : Form) (files : Files) → form ≡ no_form → OutputIs form files (Err Usage)
@@ -54,13 +84,15 @@ no_cut : (task : Task) (before after : Outside) (files : Files) → IsSmooth bef
 no_cut task before after files smooth (inl text) = smooth.puts text.rose
 no_cut task before after files smooth (inr file) = smooth.writes file.rose
 
-exact_of : (sticks : Type 0) (form : Form) (before after : Outside) (status : Status) → IsCauseOf sticks form before after status → (files : Files) → IsSmooth before after files → ¬ sticks → IsExpected form files status ⊎ (status ≡ NoMemory)
+exact_of : (sticks : Type 0) (form : Form) (before after : Outside) (status : Status) → IsCauseOf sticks form before after status
+    → (files : Files) → IsSmooth before after files → ¬ sticks → IsExpected form files status ⊎ (status ≡ NoMemory)
 exact_of sticks form before after Done cause files smooth calm = inl (cause.0, asked_of form before after files (Ok cause.0) smooth cause.2)
 exact_of sticks form before after WriteFault cause files smooth calm = absurd (no_cut cause.0 before after files smooth cause.3)
 exact_of sticks form before after Usage cause files smooth calm = inl (none_asked form files cause.0)
 exact_of sticks form before after (Absent name) cause files smooth calm = inl (asked_of form before after files (Err (Absent name)) smooth cause.1.2)
 exact_of sticks form before after (BadCell fault) cause files smooth calm = inl (asked_of form before after files (Err (BadCell fault)) smooth cause.2)
-exact_of sticks form before after (BadScript session line code) cause files smooth calm = inl (asked_of form before after files (Err (BadScript session line code)) smooth cause.2)
+exact_of sticks form before after (BadScript session line code) cause files smooth calm =
+    inl (asked_of form before after files (Err (BadScript session line code)) smooth cause.2)
 exact_of sticks form before after (ReadFault name) cause files smooth calm = absurd (smooth.reads cause.2)
 exact_of sticks form before after (TooLarge name) cause files smooth calm = inl (asked_of form before after files (Err (TooLarge name)) smooth cause.1.2)
 exact_of sticks form before after NoMemory cause files smooth calm = inr refl
@@ -68,7 +100,8 @@ exact_of sticks form before after (BadOrder place) cause files smooth calm = inl
 exact_of sticks form before after (Stuck desk serial) cause files smooth calm = absurd (calm cause.0)
 exact_of sticks form before after TooManyFindings cause files smooth calm = inl (asked_of form before after files (Err TooManyFindings) smooth cause.2)
 
-pub exact_from_cause : (sticks : Type 0) (words : List (List ℕ)) (before after : Outside) (status : Status) → IsCause sticks words before after status → IsExact sticks words before after status
+pub exact_from_cause : (sticks : Type 0) (words : List (List ℕ)) (before after : Outside) (status : Status)
+    → IsCause sticks words before after status → IsExact sticks words before after status
 exact_from_cause sticks words before after status cause = exact_of sticks (form_of words) before after status cause
 
 -- ---- words of no form
@@ -81,7 +114,8 @@ not_built form built none = subst IsBuilt none built
 no_output : (form : Form) (files : Option Files) (task : Task) → IsOutput form files task → form ≡ no_form → ⊥
 no_output form files task output none = subst (λ (f : Form). IsOutput f files task) none output
 
-pub usage_of_none : (sticks : Type 0) (form : Form) (before after : Outside) (status : Status) → IsCauseOf sticks form before after status → form ≡ no_form → status ≡ Usage
+pub usage_of_none : (sticks : Type 0) (form : Form) (before after : Outside) (status : Status) → IsCauseOf sticks form before after status
+    → form ≡ no_form → status ≡ Usage
 usage_of_none sticks form before after Done cause none = absurd (no_output form before.files cause.0 cause.1 none)
 usage_of_none sticks form before after WriteFault cause none = absurd (no_output form before.files cause.0 cause.1 none)
 usage_of_none sticks form before after Usage cause none = refl
@@ -95,11 +129,13 @@ usage_of_none sticks form before after (BadOrder place) cause none = absurd (not
 usage_of_none sticks form before after (Stuck desk serial) cause none = absurd (subst (λ (f : Form). IsStuckAt f before.files desk serial) none cause.2)
 usage_of_none sticks form before after TooManyFindings cause none = absurd (not_built form cause.0 none)
 
-pub none_of_usage : (sticks : Type 0) (form : Form) (before after : Outside) (status : Status) → IsCauseOf sticks form before after status → status ≡ Usage → form ≡ no_form
+pub none_of_usage : (sticks : Type 0) (form : Form) (before after : Outside) (status : Status) → IsCauseOf sticks form before after status
+    → status ≡ Usage → form ≡ no_form
 none_of_usage sticks form before after status cause is = (subst (IsCauseOf sticks form before after) is cause).0
 
 -- ---- where no rendezvous may give up, as where one may
-pub with_sticks : (sticks : Type 0) (form : Form) (before after : Outside) (status : Status) → IsCauseOf ⊥ form before after status → IsCauseOf sticks form before after status
+pub with_sticks : (sticks : Type 0) (form : Form) (before after : Outside) (status : Status) → IsCauseOf ⊥ form before after status
+    → IsCauseOf sticks form before after status
 with_sticks sticks form before after Done cause = cause
 with_sticks sticks form before after WriteFault cause = cause
 with_sticks sticks form before after Usage cause = cause

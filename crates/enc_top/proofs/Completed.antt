@@ -1,6 +1,35 @@
 -- Good input files leave no refusal, and what is left in OUT is read back.
 use mathlib.Core.List.{IsPrefix}
-use Rattle.std.proofs.Common.{◌≡◌, ◌⊎◌, inl, inr, ℕ, ◌+◌, ◌<◌, ◌≤◌, ◌^◌, Bool, true, false, List, [], ◌∷◌, length, Option, Some, None, Ok, Err, codes, cond, refl, sym, ap, subst, arith}
+use Rattle.std.proofs.Common.{
+  ◌≡◌,
+  ◌⊎◌,
+  inl,
+  inr,
+  ℕ,
+  ◌+◌,
+  ◌<◌,
+  ◌≤◌,
+  ◌^◌,
+  Bool,
+  true,
+  false,
+  List,
+  [],
+  ◌∷◌,
+  length,
+  Option,
+  Some,
+  None,
+  Ok,
+  Err,
+  codes,
+  cond,
+  refl,
+  sym,
+  ap,
+  subst,
+  arith,
+}
 use Rattle.std.specs.Prelude.{count_by, nat_lt, slice_index_or}
 use Rattle.std.proofs.lemmas.Bool.Decides.{nat_tests}
 use Rattle.std.proofs.lemmas.List.{length-map}
@@ -17,12 +46,59 @@ use Rattle.order_text.proofs.OrderLines.{order_of-line}
 use Rattle.enc_top.specs.Complete.{AreGood, AreGoodScripts, IsComplete, IsGoodCell, IsGoodOrder, IsGoodScript, IsThere}
 use Rattle.room_laws.specs.Orders.{quotas_of}
 use Rattle.enc_top.specs.Inputs.{CellIs, FileIs, OrderIs, OutputIs, RoomIs, ScriptIs, ScriptsAre, cell_limit, drill_answer, order_in, order_limit, script_limit}
-use Rattle.enc_top.specs.Outcome.{AreWritten, IsCause, IsCauseOf, IsExact, IsExpected, IsFormReadBack, IsMadeReadBack, IsMakeOf, IsOutReadBack, IsReadBackFrom, IsReplayOf, IsRoomOf, IsRoomReadBack, Outside}
+use Rattle.enc_top.specs.Outcome.{
+  AreWritten,
+  IsCause,
+  IsCauseOf,
+  IsExact,
+  IsExpected,
+  IsFormReadBack,
+  IsMadeReadBack,
+  IsMakeOf,
+  IsOutReadBack,
+  IsReadBackFrom,
+  IsReplayOf,
+  IsRoomOf,
+  IsRoomReadBack,
+  Outside,
+}
 use Rattle.enc_top.specs.Output.{Adds, AddsFrom}
 use Rattle.enc_top.specs.Task.{Task, check_task, drill_task, make_task, run_task}
-use Rattle.enc_top.specs.Words.{Form, check_among, check_form, drill_among, drill_form, drill_of, form_of, is_between, is_word, make_among, make_form, make_of, no_form, number_up_to, replay_among, replay_form, room_among, room_form}
+use Rattle.enc_top.specs.Words.{
+  Form,
+  check_among,
+  check_form,
+  drill_among,
+  drill_form,
+  drill_of,
+  form_of,
+  is_between,
+  is_word,
+  make_among,
+  make_form,
+  make_of,
+  no_form,
+  number_up_to,
+  replay_among,
+  replay_form,
+  room_among,
+  room_form,
+}
 use Rattle.report_text.specs.declared.status.Status.{Status}
-use Rattle.report_text.specs.declared.status.Status.TheVariants.{Done, Usage, Absent, BadCell, BadScript, ReadFault, WriteFault, TooLarge, NoMemory, BadOrder, Stuck, TooManyFindings}
+use Rattle.report_text.specs.declared.status.Status.TheVariants.{
+  Done,
+  Usage,
+  Absent,
+  BadCell,
+  BadScript,
+  ReadFault,
+  WriteFault,
+  TooLarge,
+  NoMemory,
+  BadOrder,
+  Stuck,
+  TooManyFindings,
+}
 use Rattle.enc_top.proofs.OneAnswer.{apart, ok_not_err, one_cell, one_output, one_scripts}
 
 not_above : (limit n : ℕ) → n ≤ limit → nat_lt limit n ≡ false
@@ -32,18 +108,33 @@ content_is : (limit : ℕ) (name bytes : List ℕ) (files : Files) → IsThere l
 content_is limit name bytes files file = rw file.there (rw (not_above limit (length bytes) file.within) refl)
 
 cell_is : (name : List ℕ) (files : Files) (good : IsGoodCell name files) → CellIs name files (Ok good.start)
-cell_is name files good = inl (good.bytes, content_is cell_limit name good.bytes files good.file, rw good.decoded (rw (not_above finding_limit (finding_total good.start) good.few) refl))
+cell_is name files good = inl (
+  good.bytes,
+  content_is cell_limit name good.bytes files good.file,
+  rw good.decoded (rw (not_above finding_limit (finding_total good.start) good.few) refl),
+)
 
-script_is : (session : ℕ) (name : List ℕ) (files : Files) (commands : List Command) → IsGoodScript name files commands → ScriptIs session name files (Ok commands)
+script_is : (session : ℕ) (name : List ℕ) (files : Files) (commands : List Command) → IsGoodScript name files commands
+    → ScriptIs session name files (Ok commands)
 script_is session name files commands good = inl (good.bytes, content_is script_limit name good.bytes files good.file, good.script)
 
-scripts_are : (names : List (List ℕ)) (files : Files) (commands : List (List Command)) → AreGoodScripts names files commands → ScriptsAre names files (Ok commands)
-scripts_are names files commands good =
-    (good.many, record { each = λ k below. let many = good.many in script_is (k + 1) (slice_index_or names k []) files (slice_index_or commands k []) (good.each k (omega (arith, below, many))) })
+scripts_are : (names : List (List ℕ)) (files : Files) (commands : List (List Command)) → AreGoodScripts names files commands
+    → ScriptsAre names files (Ok commands)
+scripts_are names files commands good = (
+  good.many,
+  record {
+    each = λ k below. let many = good.many in
+        script_is (k + 1) (slice_index_or names k []) files (slice_index_or commands k []) (good.each k (omega (arith, below, many)));
+  },
+)
 
 order_is : (quotas name : List ℕ) (files : Files) (good : IsGoodOrder quotas name files) → length quotas < 2 ^ 32 → OrderIs quotas name files (Ok good.sessions)
 order_is quotas name files good few =
-    inl (order_line good.sessions, content_is order_limit name (order_line good.sessions) files good.file, ap order_in (order_of-line quotas good.sessions few good.order))
+    inl (
+      order_line good.sessions,
+      content_is order_limit name (order_line good.sessions) files good.file,
+      ap order_in (order_of-line quotas good.sessions few good.order),
+    )
 
 -- ---- the words name few scripts
 abbrev FewScripts : Form → Type 0
@@ -63,7 +154,8 @@ few_checked [] = tt
 few_checked (a ∷ []) = tt
 few_checked (a ∷ b ∷ rest) = tt
 
-few_between : (b : Bool) (cell out order : List ℕ) (scripts : List (List ℕ)) → is_between 1 16 (length scripts) ≡ b → FewScripts (cond b (replay_form cell out order scripts) no_form)
+few_between : (b : Bool) (cell out order : List ℕ) (scripts : List (List ℕ)) → is_between 1 16 (length scripts) ≡ b
+    → FewScripts (cond b (replay_form cell out order scripts) no_form)
 few_between true cell out order scripts is = grind (arith, nat_tests)
 few_between false cell out order scripts is = tt
 
@@ -118,8 +210,10 @@ few_scripts (first ∷ others) =
     (few_by (is_word (codes "drill") first) (drill_among others) no_form (few_drilled others) tt))))
 
 -- ---- good files ask for a task
-few_quotas : (names : List (List ℕ)) (commands : List (List Command)) → length names ≤ 16 → length commands ≡ length names → length (quotas_of commands) < 2 ^ 32
-few_quotas names commands few many = let same : length (quotas_of commands) ≡ length commands = length-map commands (count_by is_shared) in omega (arith, few, many, same)
+few_quotas : (names : List (List ℕ)) (commands : List (List Command)) → length names ≤ 16 → length commands ≡ length names
+    → length (quotas_of commands) < 2 ^ 32
+few_quotas names commands few many = let same : length (quotas_of commands) ≡ length commands = length-map commands (count_by is_shared) in
+    omega (arith, few, many, same)
 
 -- good files of a form that asks for one task
 abbrev IsSteady : Form → Files → Type 0
@@ -161,25 +255,30 @@ done_of form files task Done good is = refl
 done_of form files task Usage good is = absurd (apart form task Usage (one_output form files (Ok task) (Err Usage) good is))
 done_of form files task (Absent name) good is = absurd (apart form task (Absent name) (one_output form files (Ok task) (Err (Absent name)) good is))
 done_of form files task (BadCell fault) good is = absurd (apart form task (BadCell fault) (one_output form files (Ok task) (Err (BadCell fault)) good is))
-done_of form files task (BadScript session line code) good is = absurd (apart form task (BadScript session line code) (one_output form files (Ok task) (Err (BadScript session line code)) good is))
+done_of form files task (BadScript session line code) good is =
+    absurd (apart form task (BadScript session line code) (one_output form files (Ok task) (Err (BadScript session line code)) good is))
 done_of form files task (ReadFault name) good is = absurd (apart form task (ReadFault name) (one_output form files (Ok task) (Err (ReadFault name)) good is))
 done_of form files task WriteFault good is = absurd (apart form task WriteFault (one_output form files (Ok task) (Err WriteFault) good is))
 done_of form files task (TooLarge name) good is = absurd (apart form task (TooLarge name) (one_output form files (Ok task) (Err (TooLarge name)) good is))
 done_of form files task NoMemory good is = absurd (apart form task NoMemory (one_output form files (Ok task) (Err NoMemory) good is))
 done_of form files task (BadOrder place) good is = absurd (apart form task (BadOrder place) (one_output form files (Ok task) (Err (BadOrder place)) good is))
-done_of form files task (Stuck desk serial) good is = absurd (apart form task (Stuck desk serial) (one_output form files (Ok task) (Err (Stuck desk serial)) good is))
+done_of form files task (Stuck desk serial) good is = absurd
+    (apart form task (Stuck desk serial) (one_output form files (Ok task) (Err (Stuck desk serial)) good is))
 done_of form files task TooManyFindings good is = absurd (apart form task TooManyFindings (one_output form files (Ok task) (Err TooManyFindings) good is))
 
 -- good files of sessions in threads leave no refusal
-no_bad_room : (cell out : List ℕ) (scripts : List (List ℕ)) (files : Files) (status : Status) → AreGood (room_form cell out scripts) files → OutputIs (room_form cell out scripts) files (Err status) → ⊥
-no_bad_room cell out scripts files status good (inr p) = ok_not_err good.0.start p.0 (one_cell cell files (Ok good.0.start) (Err p.0) (cell_is cell files good.0) p.1)
+no_bad_room : (cell out : List ℕ) (scripts : List (List ℕ)) (files : Files) (status : Status) → AreGood (room_form cell out scripts) files
+    → OutputIs (room_form cell out scripts) files (Err status) → ⊥
+no_bad_room cell out scripts files status good (inr p) = ok_not_err good.0.start p.0
+    (one_cell cell files (Ok good.0.start) (Err p.0) (cell_is cell files good.0) p.1)
 no_bad_room cell out scripts files status good (inl p) = by p.2
   where
     by : RoomIs p.0 out scripts files (Err status) → ⊥
     by (inr q) = ok_not_err good.1.0 q.0 (one_scripts scripts files (Ok good.1.0) (Err q.0) (scripts_are scripts files good.1.0 good.1.1) q.1)
     by (inl q) = ok_not_err _ status (sym q.2.2)
 
-room_done : (cell out : List ℕ) (scripts : List (List ℕ)) (files : Files) (status : Status) → AreGood (room_form cell out scripts) files → IsExpected (room_form cell out scripts) files status → status ≡ Done
+room_done : (cell out : List ℕ) (scripts : List (List ℕ)) (files : Files) (status : Status) → AreGood (room_form cell out scripts) files
+    → IsExpected (room_form cell out scripts) files status → status ≡ Done
 room_done cell out scripts files Done good is = refl
 room_done cell out scripts files Usage good is = absurd (no_bad_room cell out scripts files Usage good is)
 room_done cell out scripts files (Absent name) good is = absurd (no_bad_room cell out scripts files (Absent name) good is)
@@ -196,20 +295,25 @@ room_done cell out scripts files TooManyFindings good is = absurd (no_bad_room c
 good_done : (form : Form) (files : Files) (status : Status) → FewScripts form → IsSteady form files → IsExpected form files status → status ≡ Done
 good_done form files status few good is = let output = good_output form files few good in done_of form files output.0 status output.1 is
 
-expected_done : (form : Form) (files : Files) (status : Status) → FewScripts form → AreGood form files → IsExpected form files status ⊎ (status ≡ NoMemory) → (status ≡ Done) ⊎ (status ≡ NoMemory)
+expected_done : (form : Form) (files : Files) (status : Status) → FewScripts form → AreGood form files → IsExpected form files status
+    ⊎ (status ≡ NoMemory) → (status ≡ Done) ⊎ (status ≡ NoMemory)
 expected_done form files status few good (inr none) = inr none
 expected_done (check_form cell) files status few good (inl is) = inl (good_done (check_form cell) files status few good is)
-expected_done (replay_form cell out order scripts) files status few good (inl is) = inl (good_done (replay_form cell out order scripts) files status few good is)
+expected_done (replay_form cell out order scripts) files status few good (inl is) =
+    inl (good_done (replay_form cell out order scripts) files status few good is)
 expected_done (room_form cell out scripts) files status few good (inl is) = inl (room_done cell out scripts files status good is)
 expected_done (make_form n out) files status few good (inl is) = inl (good_done (make_form n out) files status few good is)
 expected_done (drill_form n sessions) files status few good (inl is) = inl (good_done (drill_form n sessions) files status few good is)
 expected_done no_form files status few good (inl is) = absurd good
 
-pub complete_from_exact : (sticks : Type 0) (words : List (List ℕ)) (before after : Outside) (status : Status) → IsExact sticks words before after status → IsComplete sticks words before after status
-complete_from_exact sticks words before after status exact = λ files smooth calm good. expected_done (form_of words) files status (few_scripts words) good (exact files smooth calm)
+pub complete_from_exact : (sticks : Type 0) (words : List (List ℕ)) (before after : Outside) (status : Status)
+    → IsExact sticks words before after status → IsComplete sticks words before after status
+complete_from_exact sticks words before after status exact =
+    λ files smooth calm good. expected_done (form_of words) files status (few_scripts words) good (exact files smooth calm)
 
 -- ---- what is left in OUT
-out_read_back : (cell out order : List ℕ) (scripts : List (List ℕ)) (task : Task) (a b : Option Files) → IsReplayOf cell out order scripts a task → AreWritten task.file a b → Told (IsOutReadBack cell out order scripts) a b
+out_read_back : (cell out order : List ℕ) (scripts : List (List ℕ)) (task : Task) (a b : Option Files) → IsReplayOf cell out order scripts a task
+    → AreWritten task.file a b → Told (IsOutReadBack cell out order scripts) a b
 out_read_back cell out order scripts task None b run written = tt
 out_read_back cell out order scripts task (Some fs) None run written = tt
 out_read_back cell out order scripts task (Some fs) (Some gs) run written =
@@ -257,7 +361,8 @@ room_read_back cell out scripts task before after (Some fs) (Some gs) run put wr
       decoded = run.run.run.read_back;
     }
 
-made_read_back : (n : ℕ) (out : List ℕ) (task : Task) (a b : Option Files) → IsMakeOf n out task → AreWritten task.file a b → Told (λ old new. IsMadeReadBack n out new) a b
+made_read_back : (n : ℕ) (out : List ℕ) (task : Task) (a b : Option Files) → IsMakeOf n out task → AreWritten task.file a b
+    → Told (λ old new. IsMadeReadBack n out new) a b
 made_read_back n out task None b made written = tt
 made_read_back n out task (Some fs) None made written = tt
 made_read_back n out task (Some fs) (Some gs) made written =
@@ -269,13 +374,18 @@ nothing_left None b = tt
 nothing_left (Some fs) None = tt
 nothing_left (Some fs) (Some gs) = tt
 
-form_read_back : (sticks : Type 0) (form : Form) (before after : Outside) → IsCauseOf sticks form before after Done → Told (IsFormReadBack form before after) before.files after.files
+form_read_back : (sticks : Type 0) (form : Form) (before after : Outside) → IsCauseOf sticks form before after Done
+    → Told (IsFormReadBack form before after) before.files after.files
 form_read_back sticks (check_form cell) before after cause = nothing_left before.files after.files
-form_read_back sticks (replay_form cell out order scripts) before after cause = out_read_back cell out order scripts cause.0 before.files after.files cause.1 cause.3.files
-form_read_back sticks (room_form cell out scripts) before after cause = room_read_back cell out scripts cause.0 before after before.files after.files cause.1 cause.3.written cause.3.files
+form_read_back sticks (replay_form cell out order scripts) before after cause =
+    out_read_back cell out order scripts cause.0 before.files after.files cause.1 cause.3.files
+form_read_back sticks (room_form cell out scripts) before after cause =
+    room_read_back cell out scripts cause.0 before after before.files after.files cause.1 cause.3.written cause.3.files
 form_read_back sticks (make_form n out) before after cause = made_read_back n out cause.0 before.files after.files cause.1 cause.3.files
 form_read_back sticks (drill_form n sessions) before after cause = nothing_left before.files after.files
 form_read_back sticks no_form before after cause = nothing_left before.files after.files
 
-pub read_back_from_cause : (sticks : Type 0) (words : List (List ℕ)) (before after : Outside) (status : Status) → IsCause sticks words before after status → IsReadBackFrom words before after status
-read_back_from_cause sticks words before after status cause = λ done. form_read_back sticks (form_of words) before after (subst (IsCauseOf sticks (form_of words) before after) done cause)
+pub read_back_from_cause : (sticks : Type 0) (words : List (List ℕ)) (before after : Outside) (status : Status)
+    → IsCause sticks words before after status → IsReadBackFrom words before after status
+read_back_from_cause sticks words before after status cause =
+    λ done. form_read_back sticks (form_of words) before after (subst (IsCauseOf sticks (form_of words) before after) done cause)

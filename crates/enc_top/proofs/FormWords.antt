@@ -1,9 +1,53 @@
 -- The form of the words of a call, by its first word and the others.
-use Rattle.std.proofs.Common.{◌≡◌, ℕ, ◌-◌, ◌<◌, ◌≤◌, take, take_all, ◌&&◌, Bool, true, false, List, [], ◌∷◌, length, map, get_or, drop, cond, String, Global, string_bytes, refl, sym, ap, ◌∙◌, arith}
+use Rattle.std.proofs.Common.{
+  ◌≡◌,
+  ℕ,
+  ◌-◌,
+  ◌<◌,
+  ◌≤◌,
+  take,
+  take_all,
+  ◌&&◌,
+  Bool,
+  true,
+  false,
+  List,
+  [],
+  ◌∷◌,
+  length,
+  map,
+  get_or,
+  drop,
+  cond,
+  String,
+  Global,
+  string_bytes,
+  refl,
+  sym,
+  ap,
+  ◌∙◌,
+  arith,
+}
 use Rattle.std.specs.Prelude.{codes, nat_le}
 use Rattle.std.proofs.lemmas.Bool.Decides.{nat_tests}
 use Rattle.std.proofs.lemmas.List.{length-drop, length-map}
-use Rattle.enc_top.specs.Words.{begins_with_room, check_among, check_form, drill_among, drill_of, form_of, is_between, is_word, make_among, make_of, no_form, number_up_to, replay_among, replay_form, room_form}
+use Rattle.enc_top.specs.Words.{
+  begins_with_room,
+  check_among,
+  check_form,
+  drill_among,
+  drill_of,
+  form_of,
+  is_between,
+  is_word,
+  make_among,
+  make_of,
+  no_form,
+  number_up_to,
+  replay_among,
+  replay_form,
+  room_form,
+}
 use Rattle.enc_top.proofs.WordLists.{two_words}
 
 -- the words behind the first ones
@@ -11,7 +55,8 @@ pub behind : (n : ℕ) (words : List (String Global)) → take (length words - n
 behind n words = take_all (length words - n) (drop n words) (let rest = length-drop n words in omega (arith, rest))
 
 -- ---- the words behind the first
-pub one_word : (others : List (String Global)) (name : String Global) → length others ≡ 1 → name ≡ get_or others 0 name → check_among (map string_bytes others) ≡ check_form (string_bytes name)
+pub one_word : (others : List (String Global)) (name : String Global) → length others ≡ 1 → name ≡ get_or others 0 name
+    → check_among (map string_bytes others) ≡ check_form (string_bytes name)
 one_word [] name one is = absurd (omega (arith, one))
 one_word (a ∷ []) name one is = ap (λ (s : String Global). check_form (string_bytes s)) (sym is)
 one_word (a ∷ b ∷ rest) name one is = absurd (omega (arith, one))
@@ -30,14 +75,17 @@ few_words (a ∷ b ∷ d ∷ rest) few = absurd (omega (arith, few))
 between : (n : ℕ) → 1 ≤ n → n ≤ 16 → is_between 1 16 n ≡ true
 between n low high = grind (arith, nat_tests)
 
-pub replay_words : (others : List (String Global)) (cell out order : String Global) (names : List (String Global)) → 3 ≤ length others → cell ≡ get_or others 0 cell → out ≡ get_or others 1 out → order ≡ get_or others 2 order → names ≡ drop 3 others
-    → 1 ≤ length names → length names ≤ 16 → replay_among (map string_bytes others) ≡ replay_form (string_bytes cell) (string_bytes out) (string_bytes order) (map string_bytes names)
+pub replay_words : (others : List (String Global)) (cell out order : String Global) (names : List (String Global)) → 3 ≤ length others
+    → cell ≡ get_or others 0 cell → out ≡ get_or others 1 out → order ≡ get_or others 2 order → names ≡ drop 3 others
+    → 1 ≤ length names → length names ≤ 16 → replay_among (map string_bytes others) ≡ replay_form (string_bytes cell) (string_bytes out)
+    (string_bytes order) (map string_bytes names)
 replay_words [] cell out order names many is_cell is_out is_order are low high = absurd (omega (arith, many))
 replay_words (a ∷ []) cell out order names many is_cell is_out is_order are low high = absurd (omega (arith, many))
 replay_words (a ∷ b ∷ []) cell out order names many is_cell is_out is_order are low high = absurd (omega (arith, many))
 replay_words (a ∷ b ∷ d ∷ rest) cell out order names many is_cell is_out is_order are low high =
     let count : length (map string_bytes rest) ≡ length names = length-map rest string_bytes ∙ ap length (sym are) in
-    let right : is_between 1 16 (length (map string_bytes rest)) ≡ true = between (length (map string_bytes rest)) (omega (arith, low, count)) (omega (arith, high, count)) in
+    let right : is_between 1 16 (length (map string_bytes rest)) ≡ true =
+    between (length (map string_bytes rest)) (omega (arith, low, count)) (omega (arith, high, count)) in
     ap (λ t. cond t (replay_form (string_bytes a) (string_bytes b) (string_bytes d) (map string_bytes rest)) no_form) right
     ∙ (λ i. replay_form (string_bytes (sym is_cell i)) (string_bytes (sym is_out i)) (string_bytes (sym is_order i)) (map string_bytes (sym are i)))
 
@@ -49,7 +97,8 @@ not_between n other = by_tests (nat_le 1 n) (nat_le n 16) refl refl
     by_tests true false is_low is_high = refl
     by_tests true true is_low is_high = absurd (other (grind (arith, nat_tests)) (grind (arith, nat_tests)))
 
-pub wrong_count : (others names : List (String Global)) → 3 ≤ length others → names ≡ drop 3 others → (1 ≤ length names → length names ≤ 16 → ⊥) → replay_among (map string_bytes others) ≡ no_form
+pub wrong_count : (others names : List (String Global)) → 3 ≤ length others → names ≡ drop 3 others → (1 ≤ length names → length names ≤ 16 → ⊥)
+    → replay_among (map string_bytes others) ≡ no_form
 wrong_count [] names many are other = absurd (omega (arith, many))
 wrong_count (a ∷ []) names many are other = absurd (omega (arith, many))
 wrong_count (a ∷ b ∷ []) names many are other = absurd (omega (arith, many))
@@ -59,11 +108,13 @@ wrong_count (a ∷ b ∷ d ∷ rest) names many are other =
     (not_between (length (map string_bytes rest)) (λ low high. other (omega (arith, low, count)) (omega (arith, high, count))))
 
 -- ---- all words
-split : (words : List (String Global)) (first : String Global) (others : List (String Global)) → 1 ≤ length words → first ≡ get_or words 0 first → others ≡ drop 1 words → map string_bytes words ≡ string_bytes first ∷ map string_bytes others
+split : (words : List (String Global)) (first : String Global) (others : List (String Global)) → 1 ≤ length words → first ≡ get_or words 0 first
+    → others ≡ drop 1 words → map string_bytes words ≡ string_bytes first ∷ map string_bytes others
 split [] first others some is are = absurd (omega (arith, some))
 split (a ∷ rest) first others some is are = λ i. string_bytes (sym is i) ∷ map string_bytes (sym are i)
 
-module _ (words : List (String Global)) (first : String Global) (others : List (String Global)) (some : 1 ≤ length words) (is : first ≡ get_or words 0 first) (are : others ≡ drop 1 words) where
+module _ (words : List (String Global)) (first : String Global) (others : List (String Global)) (some : 1 ≤ length words)
+    (is : first ≡ get_or words 0 first) (are : others ≡ drop 1 words) where
   pub first_word : begins_with_room (map string_bytes words) ≡ is_word (codes "room") (string_bytes first)
   first_word = ap begins_with_room (split words first others some is are)
 
@@ -75,15 +126,18 @@ module _ (words : List (String Global)) (first : String Global) (others : List (
     unfolding form_of
     check_words check = ap form_of (split words first others some is are) ∙ (rw (room, check) refl)
 
-    pub run_words : is_word (codes "check") (string_bytes first) ≡ false → is_word (codes "replay") (string_bytes first) ≡ true → form_of (map string_bytes words) ≡ replay_among (map string_bytes others)
+    pub run_words : is_word (codes "check") (string_bytes first) ≡ false → is_word (codes "replay") (string_bytes first) ≡ true
+        → form_of (map string_bytes words) ≡ replay_among (map string_bytes others)
     unfolding form_of
     run_words check replay = ap form_of (split words first others some is are) ∙ (rw (room, check, replay) refl)
 
-    pub made_words : is_word (codes "check") (string_bytes first) ≡ false → is_word (codes "replay") (string_bytes first) ≡ false → is_word (codes "make") (string_bytes first) ≡ true → form_of (map string_bytes words) ≡ make_among (map string_bytes others)
+    pub made_words : is_word (codes "check") (string_bytes first) ≡ false → is_word (codes "replay") (string_bytes first) ≡ false
+        → is_word (codes "make") (string_bytes first) ≡ true → form_of (map string_bytes words) ≡ make_among (map string_bytes others)
     unfolding form_of
     made_words check replay make = ap form_of (split words first others some is are) ∙ (rw (room, check, replay, make) refl)
 
-    module _ (check : is_word (codes "check") (string_bytes first) ≡ false) (replay : is_word (codes "replay") (string_bytes first) ≡ false) (make : is_word (codes "make") (string_bytes first) ≡ false) where
+    module _ (check : is_word (codes "check") (string_bytes first) ≡ false) (replay : is_word (codes "replay") (string_bytes first) ≡ false)
+        (make : is_word (codes "make") (string_bytes first) ≡ false) where
       pub drilled_words : is_word (codes "drill") (string_bytes first) ≡ true → form_of (map string_bytes words) ≡ drill_among (map string_bytes others)
       unfolding form_of
       drilled_words drill = ap form_of (split words first others some is are) ∙ (rw (room, check, replay, make, drill) refl)
@@ -98,14 +152,17 @@ no_words [] none = refl
 no_words (a ∷ rest) none = absurd (omega (arith, none))
 
 -- ---- words that begin with `room`
-pub few_room_words : (words : List (String Global)) → begins_with_room (map string_bytes words) ≡ true → length words < 3 → form_of (map string_bytes words) ≡ no_form
+pub few_room_words : (words : List (String Global)) → begins_with_room (map string_bytes words) ≡ true → length words < 3
+    → form_of (map string_bytes words) ≡ no_form
 unfolding form_of
 few_room_words [] begins few = refl
 few_room_words (a ∷ []) begins few = rw begins refl
 few_room_words (a ∷ b ∷ []) begins few = rw begins refl
 few_room_words (a ∷ b ∷ d ∷ rest) begins few = absurd (omega (arith, few))
 
-pub room_words : (words : List (String Global)) (cell out : String Global) (names : List (String Global)) → begins_with_room (map string_bytes words) ≡ true → 3 ≤ length words → cell ≡ get_or words 1 cell → out ≡ get_or words 2 out → names ≡ drop 3 words
+pub room_words : (words : List (String Global)) (cell out : String Global) (names : List (String Global))
+    → begins_with_room (map string_bytes words) ≡ true → 3 ≤ length words → cell ≡ get_or words 1 cell → out ≡ get_or words 2 out
+    → names ≡ drop 3 words
     → 1 ≤ length names → length names ≤ 16 → form_of (map string_bytes words) ≡ room_form (string_bytes cell) (string_bytes out) (map string_bytes names)
 unfolding form_of
 room_words [] cell out names begins many is_cell is_out are low high = absurd (omega (arith, many))
@@ -113,12 +170,14 @@ room_words (a ∷ []) cell out names begins many is_cell is_out are low high = a
 room_words (a ∷ b ∷ []) cell out names begins many is_cell is_out are low high = absurd (omega (arith, many))
 room_words (a ∷ b ∷ d ∷ rest) cell out names begins many is_cell is_out are low high =
     let count : length (map string_bytes rest) ≡ length names = length-map rest string_bytes ∙ ap length (sym are) in
-    let right : is_between 1 16 (length (map string_bytes rest)) ≡ true = between (length (map string_bytes rest)) (omega (arith, low, count)) (omega (arith, high, count)) in
+    let right : is_between 1 16 (length (map string_bytes rest)) ≡ true =
+    between (length (map string_bytes rest)) (omega (arith, low, count)) (omega (arith, high, count)) in
     (rw begins refl)
     ∙ ap (λ t. cond t (room_form (string_bytes b) (string_bytes d) (map string_bytes rest)) no_form) right
     ∙ (λ i. room_form (string_bytes (sym is_cell i)) (string_bytes (sym is_out i)) (map string_bytes (sym are i)))
 
-pub wrong_room_count : (words names : List (String Global)) → begins_with_room (map string_bytes words) ≡ true → 3 ≤ length words → names ≡ drop 3 words → (1 ≤ length names → length names ≤ 16 → ⊥) → form_of (map string_bytes words) ≡ no_form
+pub wrong_room_count : (words names : List (String Global)) → begins_with_room (map string_bytes words) ≡ true → 3 ≤ length words
+    → names ≡ drop 3 words → (1 ≤ length names → length names ≤ 16 → ⊥) → form_of (map string_bytes words) ≡ no_form
 unfolding form_of
 wrong_room_count [] names begins many are other = absurd (omega (arith, many))
 wrong_room_count (a ∷ []) names begins many are other = absurd (omega (arith, many))
@@ -156,6 +215,7 @@ more_drilled (a ∷ []) many = absurd (omega (arith, many))
 more_drilled (a ∷ b ∷ []) many = absurd (omega (arith, many))
 more_drilled (a ∷ b ∷ d ∷ rest) many = refl
 
-pub two_drilled : (others : List (String Global)) (size sessions : String Global) → length others ≡ 2 → size ≡ get_or others 0 size → sessions ≡ get_or others 1 sessions
+pub two_drilled : (others : List (String Global)) (size sessions : String Global) → length others ≡ 2 → size ≡ get_or others 0 size
+    → sessions ≡ get_or others 1 sessions
     → drill_among (map string_bytes others) ≡ drill_of (number_up_to 100 (string_bytes size)) (number_up_to 16 (string_bytes sessions))
 two_drilled others size sessions two is_size is_sessions = ap drill_among (two_words others size sessions two is_size is_sessions)

@@ -1,5 +1,29 @@
 -- What the words behind `make` and `drill` ask for.
-use Rattle.std.proofs.Common.{◌≡◌, inl, inr, ℕ, ◌<◌, Bool, true, false, List, length, Option, Some, None, Result, Ok, Err, cond, refl, sym, ap, ◌∙◌, subst, arith}
+use Rattle.std.proofs.Common.{
+  ◌≡◌,
+  inl,
+  inr,
+  ℕ,
+  ◌<◌,
+  Bool,
+  true,
+  false,
+  List,
+  length,
+  Option,
+  Some,
+  None,
+  Result,
+  Ok,
+  Err,
+  cond,
+  refl,
+  sym,
+  ap,
+  ◌∙◌,
+  subst,
+  arith,
+}
 use Rattle.std.specs.Prelude.{IfSome, nat_lt}
 use Rattle.std.proofs.lemmas.Bool.Decides.{nat_tests}
 use Rattle.cell_make.specs.GeneratedCell.{generated_cell}
@@ -25,11 +49,13 @@ always : {P : Type 0} (files : Option Files) → P → IfSome files (λ fs. P)
 always None p = tt
 always (Some fs) p = p
 
-pub asked_make : (form : Form) (n : ℕ) (out : List ℕ) (files : Option Files) (before after : ℕ) (work : Work) → form ≡ make_form n out → IsMakeOf n out (task_of work) → IsAskedBy ⊥ form files before after (Ok work)
+pub asked_make : (form : Form) (n : ℕ) (out : List ℕ) (files : Option Files) (before after : ℕ) (work : Work) → form ≡ make_form n out
+    → IsMakeOf n out (task_of work) → IsAskedBy ⊥ form files before after (Ok work)
 asked_make form n out files before after work is made =
     subst (λ (f : Form). IsAskedBy ⊥ f files before after (Ok work)) (sym is) (made, always files (ap (λ (task : Task). Ok task) made.is))
 
-pub no_room_to_make : (form : Form) (n : ℕ) (out : List ℕ) (files : Option Files) (before after : ℕ) → form ≡ make_form n out → IsAskedBy ⊥ form files before after (Err NoMemory)
+pub no_room_to_make : (form : Form) (n : ℕ) (out : List ℕ) (files : Option Files) (before after : ℕ) → form ≡ make_form n out
+    → IsAskedBy ⊥ form files before after (Err NoMemory)
 no_room_to_make form n out files before after is = subst (λ (f : Form). IsAskedBy ⊥ f files before after (Err NoMemory)) (sym is) tt
 
 same_err : (x y : Status) → ◌≡◌ {A = Result Task Status} (Err x) (Err y) → x ≡ y
@@ -46,14 +72,18 @@ full_drill n sessions status is = by (nat_lt finding_limit (finding_total (gener
     by true e = same_err TooManyFindings status e
     by false e = absurd (not_ok (drill_task n sessions) status e)
 
-drill_asked : (n sessions : ℕ) (files : Option Files) (before after : ℕ) (result : Result Work Status) → IsJudged task_of (drill_answer n sessions) result → IsAskedBy ⊥ (drill_form n sessions) files before after result
+drill_asked : (n sessions : ℕ) (files : Option Files) (before after : ℕ) (result : Result Work Status)
+    → IsJudged task_of (drill_answer n sessions) result → IsAskedBy ⊥ (drill_form n sessions) files before after result
 drill_asked n sessions files before after (Ok work) is = (is, always files (sym is))
-drill_asked n sessions files before after (Err status) (inr none) = subst (λ (s : Status). IsAskedBy ⊥ (drill_form n sessions) files before after (Err s)) (sym none) tt
+drill_asked n sessions files before after (Err status) (inr none) =
+    subst (λ (s : Status). IsAskedBy ⊥ (drill_form n sessions) files before after (Err s)) (sym none) tt
 drill_asked n sessions files before after (Err status) (inl is) =
     let full = full_drill n sessions status is in
-    subst (λ (s : Status). IsAskedBy ⊥ (drill_form n sessions) files before after (Err s)) full (tt, always files (sym (is ∙ ap (λ (s : Status). Err s) (sym full))))
+    subst (λ (s : Status). IsAskedBy ⊥ (drill_form n sessions) files before after (Err s)) full
+    (tt, always files (sym (is ∙ ap (λ (s : Status). Err s) (sym full))))
 
-pub asked_drill : (form : Form) (n sessions : ℕ) (files : Option Files) (before after : ℕ) (result : Result Work Status) → form ≡ drill_form n sessions → IsJudged task_of (drill_answer n sessions) result → IsAskedBy ⊥ form files before after result
+pub asked_drill : (form : Form) (n sessions : ℕ) (files : Option Files) (before after : ℕ) (result : Result Work Status)
+    → form ≡ drill_form n sessions → IsJudged task_of (drill_answer n sessions) result → IsAskedBy ⊥ form files before after result
 asked_drill form n sessions files before after result is judged =
     subst (λ (f : Form). IsAskedBy ⊥ f files before after result) (sym is) (drill_asked n sessions files before after result judged)
 
@@ -67,13 +97,16 @@ too_full n sessions many = rw (above finding_limit (finding_total (generated_cel
 abbrev text_alone : List ℕ → Task
 text_alone text = record { text = text; file = None }
 
-pub drilled_is : (n sessions : ℕ) (counts : Drilled) (text : List ℕ) → IsDrilled n sessions counts → text ≡ drill_line n sessions counts → drill_answer n sessions ≡ Ok (text_alone text)
-drilled_is n sessions counts text is told = drilled n sessions is.few ∙ ap (λ (t : List ℕ). Ok (text_alone t)) (sym (told ∙ ap (drill_line n sessions) is.counts))
+pub drilled_is : (n sessions : ℕ) (counts : Drilled) (text : List ℕ) → IsDrilled n sessions counts → text ≡ drill_line n sessions counts
+    → drill_answer n sessions ≡ Ok (text_alone text)
+drilled_is n sessions counts text is told = drilled n sessions is.few ∙ ap (λ (t : List ℕ). Ok (text_alone t))
+    (sym (told ∙ ap (drill_line n sessions) is.counts))
 
 abbrev text_and_file : List ℕ → List ℕ → List ℕ → Task
 text_and_file out text bytes = record { text = text; file = Some (out, bytes) }
 
-pub made_is : (n : ℕ) (out : List ℕ) (cell : Cell) (name text bytes : List ℕ) → cell ≡ generated_cell n → name ≡ out → text ≡ made_line cell (length bytes) → bytes ≡ encoded_cell cell → decoded_cell (encoded_cell cell) ≡ Ok cell
+pub made_is : (n : ℕ) (out : List ℕ) (cell : Cell) (name text bytes : List ℕ) → cell ≡ generated_cell n → name ≡ out
+    → text ≡ made_line cell (length bytes) → bytes ≡ encoded_cell cell → decoded_cell (encoded_cell cell) ≡ Ok cell
     → IsMakeOf n out (text_and_file name text bytes)
 made_is n out cell name text bytes is_cell is_name is_text is_bytes back =
     record {
@@ -82,4 +115,5 @@ made_is n out cell name text bytes is_cell is_name is_text is_bytes back =
     }
   where
     by : text ≡ made_line cell (length (encoded_cell cell)) → text_and_file name text bytes ≡ make_task n out
-    by told = (λ i. text_and_file (is_name i) (told i) (is_bytes i)) ∙ ap (λ (c : Cell). text_and_file out (made_line c (length (encoded_cell c))) (encoded_cell c)) is_cell
+    by told = (λ i. text_and_file (is_name i) (told i) (is_bytes i))
+        ∙ ap (λ (c : Cell). text_and_file out (made_line c (length (encoded_cell c))) (encoded_cell c)) is_cell

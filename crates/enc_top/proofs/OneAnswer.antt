@@ -9,11 +9,42 @@ use Rattle.script_text.specs.Faults.{IsFirstFault}
 use Rattle.script_text.proofs.Readings.{same_readings}
 use Rattle.text_spec.specs.declared.command.Command.{Command}
 use Rattle.room_laws.specs.Orders.{quotas_of}
-use Rattle.enc_top.specs.Inputs.{AndThen, AreOneAnswer, AreScripts, CellIs, FileIs, IsFirstBad, OrderIs, OrderedRunIs, OutputIs, RoomIs, RunIs, ScriptIn, ScriptIs, ScriptsAre, cell_limit, order_limit, script_limit}
+use Rattle.enc_top.specs.Inputs.{
+  AndThen,
+  AreOneAnswer,
+  AreScripts,
+  CellIs,
+  FileIs,
+  IsFirstBad,
+  OrderIs,
+  OrderedRunIs,
+  OutputIs,
+  RoomIs,
+  RunIs,
+  ScriptIn,
+  ScriptIs,
+  ScriptsAre,
+  cell_limit,
+  order_limit,
+  script_limit,
+}
 use Rattle.enc_top.specs.Task.{Task}
 use Rattle.enc_top.specs.Words.{Form, check_form, drill_form, make_form, no_form, replay_form, room_form}
 use Rattle.report_text.specs.declared.status.Status.{Status}
-use Rattle.report_text.specs.declared.status.Status.TheVariants.{Done, Usage, Absent, BadCell, BadScript, ReadFault, WriteFault, TooLarge, NoMemory, BadOrder, Stuck, TooManyFindings}
+use Rattle.report_text.specs.declared.status.Status.TheVariants.{
+  Done,
+  Usage,
+  Absent,
+  BadCell,
+  BadScript,
+  ReadFault,
+  WriteFault,
+  TooLarge,
+  NoMemory,
+  BadOrder,
+  Stuck,
+  TooManyFindings,
+}
 
 -- a relation that has one answer at most
 abbrev IsOne : {A : Type 0} → (A → Type 0) → Type 0
@@ -28,11 +59,13 @@ ok_not_err x status e = cc
 same_err : {A : Type 0} (x y : Status) → ◌≡◌ {A = Result A Status} (Err x) (Err y) → x ≡ y
 same_err x y e = cc
 
-one_then : {A B : Type 0} (First : Result A Status → Type 0) (Next : A → Result B Status → Type 0) → IsOne First → ((a : A) → IsOne (Next a)) → IsOne (AndThen First Next)
+one_then : {A B : Type 0} (First : Result A Status → Type 0) (Next : A → Result B Status → Type 0) → IsOne First → ((a : A) → IsOne (Next a))
+    → IsOne (AndThen First Next)
 one_then {A} {B} First Next one next x y (inl p) (inl q) = next q.0 x y (subst (λ a. Next a x) (same_ok p.0 q.0 (one (Ok p.0) (Ok q.0) p.1 q.1)) p.2) q.2
 one_then {A} {B} First Next one next x y (inl p) (inr q) = absurd (ok_not_err p.0 q.0 (one (Ok p.0) (Err q.0) p.1 q.1))
 one_then {A} {B} First Next one next x y (inr p) (inl q) = absurd (ok_not_err q.0 p.0 (one (Ok q.0) (Err p.0) q.1 p.1))
-one_then {A} {B} First Next one next x y (inr p) (inr q) = p.2 ∙ ap (λ (status : Status). Err status) (same_err {A = A} p.0 q.0 (one (Err p.0) (Err q.0) p.1 q.1)) ∙ sym q.2
+one_then {A} {B} First Next one next x y (inr p) (inr q) = p.2 ∙ ap (λ (status : Status). Err status)
+    (same_err {A = A} p.0 q.0 (one (Err p.0) (Err q.0) p.1 q.1)) ∙ sym q.2
 
 one_file : (limit : ℕ) (name : List ℕ) (files : Files) → IsOne (FileIs limit name files)
 one_file limit name files x y p q = sym p ∙ q
@@ -76,12 +109,15 @@ same_faults a b e = cc
 
 one_script_in : (session : ℕ) (bytes : List ℕ) → IsOne (ScriptIn session bytes)
 one_script_in session bytes (Ok a) (Ok b) p q = ap (λ (commands : List Command). Ok commands) (same_commands a b (same_readings bytes (Ok a) (Ok b) p q))
-one_script_in session bytes (Ok a) (Err status) p q = let f = fault_of session bytes status q in absurd (no_fault a (f.line, f.code) (same_readings bytes (Ok a) (Err (f.line, f.code)) p f.fault))
-one_script_in session bytes (Err status) (Ok b) p q = let f = fault_of session bytes status p in absurd (no_fault b (f.line, f.code) (same_readings bytes (Ok b) (Err (f.line, f.code)) q f.fault))
+one_script_in session bytes (Ok a) (Err status) p q = let f = fault_of session bytes status q in
+    absurd (no_fault a (f.line, f.code) (same_readings bytes (Ok a) (Err (f.line, f.code)) p f.fault))
+one_script_in session bytes (Err status) (Ok b) p q = let f = fault_of session bytes status p in
+    absurd (no_fault b (f.line, f.code) (same_readings bytes (Ok b) (Err (f.line, f.code)) q f.fault))
 one_script_in session bytes (Err x) (Err y) p q =
     let f = fault_of session bytes x p in
     let g = fault_of session bytes y q in
-    let same : ◌≡◌ {A = ℕ × ℕ} (f.line, f.code) (g.line, g.code) = same_faults (f.line, f.code) (g.line, g.code) (same_readings bytes (Err (f.line, f.code)) (Err (g.line, g.code)) f.fault g.fault) in
+    let same : ◌≡◌ {A = ℕ × ℕ} (f.line, f.code) (g.line, g.code) =
+    same_faults (f.line, f.code) (g.line, g.code) (same_readings bytes (Err (f.line, f.code)) (Err (g.line, g.code)) f.fault g.fault) in
     ap (λ (status : Status). Err status) (f.is ∙ ap (λ (fault : ℕ × ℕ). BadScript session fault.0 fault.1) same ∙ sym g.is)
 
 one_script : (session : ℕ) (name : List ℕ) (files : Files) → IsOne (ScriptIs session name files)
@@ -89,16 +125,20 @@ one_script session name files = one_then (FileIs script_limit name files) (Scrip
 
 module _ (names : List (List ℕ)) (files : Files) where
   -- no script of some good ones is bad
-  none_bad : (scripts : List (List Command)) (k : ℕ) (status : Status) → AreScripts names files scripts → k < length scripts → ScriptIs (k + 1) (slice_index_or names k []) files (Err status) → ⊥
+  none_bad : (scripts : List (List Command)) (k : ℕ) (status : Status) → AreScripts names files scripts → k < length scripts
+      → ScriptIs (k + 1) (slice_index_or names k []) files (Err status) → ⊥
   none_bad scripts k status good below bad =
-      ok_not_err (slice_index_or scripts k []) status (one_script (k + 1) (slice_index_or names k []) files (Ok (slice_index_or scripts k [])) (Err status) (good.each k below) bad)
+      ok_not_err (slice_index_or scripts k []) status (one_script (k + 1) (slice_index_or names k []) files (Ok (slice_index_or scripts k []))
+      (Err status) (good.each k below) bad)
 
   same_scripts : (a b : List (List Command)) → length a ≡ length b → AreScripts names files a → AreScripts names files b → a ≡ b
   same_scripts a b many are others =
       ext_get_or [] a b many (λ k below. same_ok (slice_index_or a k []) (slice_index_or b k [])
-      (one_script (k + 1) (slice_index_or names k []) files (Ok (slice_index_or a k [])) (Ok (slice_index_or b k [])) (are.each k below) (others.each k (omega (arith, below, many)))))
+      (one_script (k + 1) (slice_index_or names k []) files (Ok (slice_index_or a k [])) (Ok (slice_index_or b k [])) (are.each k below)
+      (others.each k (omega (arith, below, many)))))
 
-  first_bads : (x y : Status) (p : IsFirstBad names files x) (q : IsFirstBad names files y) → (length p.before < length q.before) ⊎ (length q.before ≤ length p.before)
+  first_bads : (x y : Status) (p : IsFirstBad names files x) (q : IsFirstBad names files y) → (length p.before < length q.before)
+      ⊎ (length q.before ≤ length p.before)
       → (length q.before < length p.before) ⊎ (length p.before ≤ length q.before) → x ≡ y
   first_bads x y p q (inl less) other = absurd (none_bad q.before (length p.before) x q.good less p.bad)
   first_bads x y p q (inr above) (inl less) = absurd (none_bad p.before (length q.before) y p.good less q.bad)
@@ -111,11 +151,13 @@ module _ (names : List (List ℕ)) (files : Files) where
   one_scripts (Ok a) (Ok b) p q = ap (λ (scripts : List (List Command)). Ok scripts) (same_scripts a b (p.0 ∙ sym q.0) p.1 q.1)
   one_scripts (Ok a) (Err y) p q = let many = p.0 in let within = q.within in absurd (none_bad a (length q.before) y p.1 (omega (arith, many, within)) q.bad)
   one_scripts (Err x) (Ok b) p q = let many = q.0 in let within = p.within in absurd (none_bad b (length p.before) x q.1 (omega (arith, many, within)) p.bad)
-  one_scripts (Err x) (Err y) p q = ap (λ (status : Status). Err status) (first_bads x y p q (cases_lt (length p.before) (length q.before)) (cases_lt (length q.before) (length p.before)))
+  one_scripts (Err x) (Err y) p q = ap (λ (status : Status). Err status)
+      (first_bads x y p q (cases_lt (length p.before) (length q.before)) (cases_lt (length q.before) (length p.before)))
 
 -- ---- forms
 one_ordered_run : (c : Cell) (out order : List ℕ) (commands : List (List Command)) (files : Files) → IsOne (OrderedRunIs c out order commands files)
-one_ordered_run c out order commands files = one_then (OrderIs (quotas_of commands) order files) _ (one_order (quotas_of commands) order files) (λ sessions x y p q. p ∙ sym q)
+one_ordered_run c out order commands files = one_then (OrderIs (quotas_of commands) order files) _ (one_order (quotas_of commands) order files)
+    (λ sessions x y p q. p ∙ sym q)
 
 one_run : (c : Cell) (out order : List ℕ) (scripts : List (List ℕ)) (files : Files) → IsOne (RunIs c out order scripts files)
 one_run c out order scripts files = one_then (ScriptsAre scripts files) _ (one_scripts scripts files) (λ commands. one_ordered_run c out order commands files)
@@ -125,14 +167,16 @@ abbrev IsSame : Result Task Status → Result Task Status → Type 0
 IsSame (Ok task) (Ok other) = Unit {0}
 IsSame answer other = answer ≡ other
 
-same_then : {A : Type 0} (First : Result A Status → Type 0) (Next : A → Result Task Status → Type 0) → IsOne First → ((a : A) (x y : Result Task Status) → Next a x → Next a y → IsSame x y)
+same_then : {A : Type 0} (First : Result A Status → Type 0) (Next : A → Result Task Status → Type 0) → IsOne First
+    → ((a : A) (x y : Result Task Status) → Next a x → Next a y → IsSame x y)
     → (x y : Result Task Status) → AndThen First Next x → AndThen First Next y → IsSame x y
 same_then {A} First Next one next x y (inl p) (inl q) = next q.0 x y (subst (λ a. Next a x) (same_ok p.0 q.0 (one (Ok p.0) (Ok q.0) p.1 q.1)) p.2) q.2
 same_then {A} First Next one next x y (inl p) (inr q) = absurd (ok_not_err p.0 q.0 (one (Ok p.0) (Err q.0) p.1 q.1))
 same_then {A} First Next one next x y (inr p) (inl q) = absurd (ok_not_err q.0 p.0 (one (Ok q.0) (Err p.0) q.1 p.1))
 same_then {A} First Next one next x y (inr p) (inr q) =
     subst (λ (z : Result Task Status). IsSame z y) (sym p.2)
-    (subst (λ (z : Result Task Status). IsSame (Err p.0) z) (sym q.2) (ap (λ (status : Status). Err status) (same_err {A = A} p.0 q.0 (one (Err p.0) (Err q.0) p.1 q.1))))
+    (subst (λ (z : Result Task Status). IsSame (Err p.0) z) (sym q.2)
+    (ap (λ (status : Status). Err status) (same_err {A = A} p.0 q.0 (one (Err p.0) (Err q.0) p.1 q.1))))
 
 both_reports : (x y : Result Task Status) (a b : Task) → x ≡ Ok a → y ≡ Ok b → IsSame x y
 both_reports x y a b p q = subst (λ (z : Result Task Status). IsSame z y) (sym p) (subst (λ (z : Result Task Status). IsSame (Ok a) z) (sym q) tt)
@@ -143,7 +187,8 @@ as_one cell out scripts (Ok a) (Err y) same = same
 as_one cell out scripts (Err x) (Ok b) same = same
 as_one cell out scripts (Err x) (Err y) same = same
 
-pub one_output : (form : Form) (files : Files) (answer other : Result Task Status) → OutputIs form files answer → OutputIs form files other → AreOneAnswer form answer other
+pub one_output : (form : Form) (files : Files) (answer other : Result Task Status) → OutputIs form files answer → OutputIs form files other
+    → AreOneAnswer form answer other
 one_output (check_form cell) files = one_then (CellIs cell files) _ (one_cell cell files) (λ c x y p q. p ∙ sym q)
 one_output (replay_form cell out order scripts) files = one_then (CellIs cell files) _ (one_cell cell files) (λ c. one_run c out order scripts files)
 one_output (room_form cell out scripts) files = λ x y p q.

@@ -3,7 +3,8 @@ use Rattle.std.proofs.Common.{◌≡◌, ◌<◌, ◌≤◌, ℕ, suc, ◌+◌, 
 use Rattle.std.specs.List.{find, range_with_len}
 
 -- the first number, then the others
-pub find-range_from : (p : ℕ → Bool) (n end : ℕ) → n < end → find p (range_with_len n (end - n)) ≡ cond (p n) (Some n) (find p (range_with_len (n + 1) (end - (n + 1))))
+pub find-range_from : (p : ℕ → Bool) (n end : ℕ) → n < end → find p (range_with_len n (end - n)) ≡ cond (p n) (Some n)
+    (find p (range_with_len (n + 1) (end - (n + 1))))
 find-range_from p n end below =
     let one_more : end - n ≡ suc (end - (n + 1)) = omega arith in
     ap (λ k. find p (range_with_len n k)) one_more

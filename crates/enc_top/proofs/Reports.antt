@@ -25,9 +25,11 @@ unfolding report
 report_begins c scripts order = first_part (order_line order) _ _ _
 
 abbrev BeginsOnce : Type 0
-BeginsOnce = (quotas order other text : List ℕ) → length quotas < 2 ^ 32 → IsOrder quotas order → IsOrder quotas other → IsPrefix (order_line order) text → IsPrefix (order_line other) text → order ≡ other
+BeginsOnce = (quotas order other text : List ℕ) → length quotas < 2 ^ 32 → IsOrder quotas order → IsOrder quotas other
+    → IsPrefix (order_line order) text → IsPrefix (order_line other) text → order ≡ other
 
-pub run_in_room : (c : Cell) (out : List ℕ) (scripts : List (List Command)) (order : List ℕ) (task : Task) → BeginsOnce → length (quotas_of scripts) < 2 ^ 32 → IsOrder (quotas_of scripts) order
+pub run_in_room : (c : Cell) (out : List ℕ) (scripts : List (List Command)) (order : List ℕ) (task : Task) → BeginsOnce
+    → length (quotas_of scripts) < 2 ^ 32 → IsOrder (quotas_of scripts) order
     → task ≡ run_task c out scripts order → IsReadBack c scripts order → IsRunInRoom c out scripts task
 run_in_room c out scripts order task once few o is back =
     let begins = subst (λ (t : Task). IsPrefix (order_line order) t.text) (sym is) (report_begins c scripts order) in
@@ -42,7 +44,8 @@ run_in_room c out scripts order task once few o is back =
 
 -- the log and the lines of a run are those of the scripts, and the work is made of them
 pub held_task : (bench : Cell) (out : List ℕ) (scripts : List (List Command)) (held : Held) (work : Work) → IsHeld bench scripts held
-    → ((commands : List (List Command)) → AreInterleaved held.book.opening commands held.book.entries → AreTranscripts held.book.opening held.book.entries 1 commands held.transcripts.items
+    → ((commands : List (List Command)) → AreInterleaved held.book.opening commands held.book.entries
+    → AreTranscripts held.book.opening held.book.entries 1 commands held.transcripts.items
     → task_of work ≡ run_task held.book.opening out commands (order_of_entries held.book.entries))
     → task_of work ≡ run_task bench out scripts (order_of_entries held.book.entries)
 held_task bench out scripts held work is made =

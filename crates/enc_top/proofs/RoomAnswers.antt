@@ -19,11 +19,14 @@ use Rattle.enc_top.proofs.Answered.{asked_status, both_told, status_of_more, tel
 
 module _ (sticks : Type 0) (cell out : List ℕ) (names : List (List ℕ)) (files : Option Files) where
   -- the cell's file ends the call
-  pub cell_ends : (before after : ℕ) (status : Status) → IsInputStatus (λ n. n ≡ cell) status → Tells (λ (c : Cell). c) (CellIs cell) (IsFile cell) files before after (Err status)
+  pub cell_ends : (before after : ℕ) (status : Status) → IsInputStatus (λ n. n ≡ cell) status
+      → Tells (λ (c : Cell). c) (CellIs cell) (IsFile cell) files before after (Err status)
       → IsAskedBy sticks (room_form cell out names) files before after (Err status)
   cell_ends before after status is tells =
-      asked_status sticks (room_form cell out names) files before after status tt (status_of_more (λ n. n ≡ cell) (IsInputOf (room_form cell out names)) status (λ n same. inl same) is)
-      (tells_first (λ (c : Cell). c) task_of (CellIs cell) (OutputIs (room_form cell out names)) (IsFile cell) (IsReached (room_form cell out names)) files before after status
+      asked_status sticks (room_form cell out names) files before after status tt
+      (status_of_more (λ n. n ≡ cell) (IsInputOf (room_form cell out names)) status (λ n same. inl same) is)
+      (tells_first (λ (c : Cell). c) task_of (CellIs cell) (OutputIs (room_form cell out names)) (IsFile cell)
+      (IsReached (room_form cell out names)) files before after status
       (λ fs bad. inr (status, bad, refl)) (λ fs n is. inl is) tells)
 
   module _ (start : Cell) (good : IfSome files (λ fs. CellIs cell fs (Ok start))) where
@@ -32,9 +35,12 @@ module _ (sticks : Type 0) (cell out : List ℕ) (names : List (List ℕ)) (file
         → Tells (λ (scripts : Vec Script Global). scripts.items) (ScriptsAre names) (λ fs n. IsReachedScript names fs n) files mid after (Err status)
         → IsAskedBy sticks (room_form cell out names) files before after (Err status)
     scripts_end before mid after status le is tells =
-        asked_status sticks (room_form cell out names) files before after status tt (status_of_more (IsAmong names) (IsInputOf (room_form cell out names)) status (λ n other. inr other) is)
-        (tells_later (λ (scripts : Vec Script Global). scripts.items) task_of (ScriptsAre names) (OutputIs (room_form cell out names)) (λ fs n. IsReachedScript names fs n) (IsReached (room_form cell out names))
-        (λ fs. CellIs cell fs (Ok start)) files before mid after status le good (λ fs at bad. inl (start, at, inr (status, bad, refl))) (λ fs n at near. inr (start, at, near)) tells)
+        asked_status sticks (room_form cell out names) files before after status tt
+        (status_of_more (IsAmong names) (IsInputOf (room_form cell out names)) status (λ n other. inr other) is)
+        (tells_later (λ (scripts : Vec Script Global). scripts.items) task_of (ScriptsAre names) (OutputIs (room_form cell out names))
+        (λ fs n. IsReachedScript names fs n) (IsReached (room_form cell out names))
+        (λ fs. CellIs cell fs (Ok start)) files before mid after status le good (λ fs at bad. inl (start, at, inr (status, bad, refl)))
+        (λ fs n at near. inr (start, at, near)) tells)
 
     module _ (commands : List (List Command)) (are : IfSome files (λ fs. ScriptsAre names fs (Ok commands))) (before after : ℕ) where
       -- the run has a report

@@ -48,7 +48,8 @@ pub record IsGoodOrder (quotas name : List ℕ) (files : Files) : Type 0 where
 -- the input files of a form are a cell, scripts and an order of them; the generated cell has not too many findings
 abbrev pub AreGood : Form → Files → Type 0
 AreGood (check_form cell) files = IsGoodCell cell files
-AreGood (replay_form cell out order scripts) files = IsGoodCell cell files × ((commands : List (List Command)) × AreGoodScripts scripts files commands × IsGoodOrder (quotas_of commands) order files)
+AreGood (replay_form cell out order scripts) files = IsGoodCell cell files
+    × ((commands : List (List Command)) × AreGoodScripts scripts files commands × IsGoodOrder (quotas_of commands) order files)
 AreGood (room_form cell out scripts) files = IsGoodCell cell files × ((commands : List (List Command)) × AreGoodScripts scripts files commands)
 AreGood (make_form n out) files = Unit {0}
 AreGood (drill_form n sessions) files = finding_total (generated_cell n) ≤ finding_limit
@@ -56,4 +57,5 @@ AreGood no_form files = ⊥
 
 -- where the files are told and good, no device failed and no rendezvous may give up, all is done, unless memory ran out
 abbrev pub IsComplete : Type 0 → List (List ℕ) → Outside → Outside → Status → Type 0
-IsComplete sticks words before after status = (files : Files) → IsSmooth before after files → ¬ sticks → AreGood (form_of words) files → (status ≡ Done) ⊎ (status ≡ NoMemory)
+IsComplete sticks words before after status = (files : Files) → IsSmooth before after files → ¬ sticks → AreGood (form_of words) files
+    → (status ≡ Done) ⊎ (status ≡ NoMemory)

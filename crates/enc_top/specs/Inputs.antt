@@ -19,7 +19,20 @@ use Rattle.history_spec.specs.Steps.{finding_limit}
 use Rattle.enc_top.specs.Task.{Task, check_task, drill_task, make_task, run_task}
 use Rattle.enc_top.specs.Words.{Form, check_form, replay_form, room_form, make_form, drill_form, no_form}
 use Rattle.report_text.specs.declared.status.Status.{Status}
-use Rattle.report_text.specs.declared.status.Status.TheVariants.{Done, Usage, Absent, BadCell, BadScript, ReadFault, WriteFault, TooLarge, NoMemory, BadOrder, Stuck, TooManyFindings}
+use Rattle.report_text.specs.declared.status.Status.TheVariants.{
+  Done,
+  Usage,
+  Absent,
+  BadCell,
+  BadScript,
+  ReadFault,
+  WriteFault,
+  TooLarge,
+  NoMemory,
+  BadOrder,
+  Stuck,
+  TooManyFindings,
+}
 
 -- how many bytes input files may have
 abbrev pub cell_limit : ℕ
@@ -102,7 +115,8 @@ RunIs c out order scripts files = AndThen (ScriptsAre scripts files) (λ command
 
 -- a run of scripts on a cell, each in a thread of its own: in some order of them
 abbrev pub RoomIs : Cell → List ℕ → List (List ℕ) → Files → Result Task Status → Type 0
-RoomIs c out scripts files = AndThen (ScriptsAre scripts files) (λ commands answer. (sessions : List ℕ) × IsOrder (quotas_of commands) sessions × (answer ≡ Ok (run_task c out commands sessions)))
+RoomIs c out scripts files = AndThen (ScriptsAre scripts files) (λ commands answer. (sessions : List ℕ) × IsOrder (quotas_of commands) sessions
+    × (answer ≡ Ok (run_task c out commands sessions)))
 
 -- a drill, where the generated cell has not too many findings
 abbrev pub drill_answer : ℕ → ℕ → Result Task Status
@@ -125,7 +139,8 @@ AreOneAnswer form answer other = answer ≡ other
 
 -- what words and files ask for is one answer
 abbrev pub AsksOneAnswer : Type 0
-AsksOneAnswer = (form : Form) (files : Files) (answer other : Result Task Status) → OutputIs form files answer → OutputIs form files other → AreOneAnswer form answer other
+AsksOneAnswer = (form : Form) (files : Files) (answer other : Result Task Status) → OutputIs form files answer → OutputIs form files other
+    → AreOneAnswer form answer other
 
 -- a run of scripts on a cell in some order, where the files are told that of the file, after which the file of the cell that is left
 -- is read as that cell
@@ -170,7 +185,8 @@ pub record IsReachedScript (names : List (List ℕ)) (files : Files) (name : Lis
 
 -- a file to which a call comes behind a good cell: a script, or the order behind good scripts
 abbrev pub IsReachedInRun : List ℕ → List (List ℕ) → Files → List ℕ → Type 0
-IsReachedInRun order scripts files name = IsReachedScript scripts files name ⊎ ((commands : List (List Command)) × ScriptsAre scripts files (Ok commands) × (name ≡ order))
+IsReachedInRun order scripts files name = IsReachedScript scripts files name
+    ⊎ ((commands : List (List Command)) × ScriptsAre scripts files (Ok commands) × (name ≡ order))
 
 -- an input file to which a call comes: all before it in the order of refusals are good
 abbrev pub IsReached : Form → Files → List ℕ → Type 0

@@ -17,7 +17,20 @@ use Rattle.enc_top.specs.Output.{Adds, AddsFrom, AddsFront, IsBegun}
 use Rattle.enc_top.specs.Task.{Task, check_task, make_task, task_of}
 use Rattle.enc_top.specs.Words.{Form, check_form, replay_form, room_form, make_form, drill_form, no_form, form_of}
 use Rattle.report_text.specs.declared.status.Status.{Status}
-use Rattle.report_text.specs.declared.status.Status.TheVariants.{Done, Usage, Absent, BadCell, BadScript, ReadFault, WriteFault, TooLarge, NoMemory, BadOrder, Stuck, TooManyFindings}
+use Rattle.report_text.specs.declared.status.Status.TheVariants.{
+  Done,
+  Usage,
+  Absent,
+  BadCell,
+  BadScript,
+  ReadFault,
+  WriteFault,
+  TooLarge,
+  NoMemory,
+  BadOrder,
+  Stuck,
+  TooManyFindings,
+}
 use Rattle.enc_top.specs.declared.work.Work.{Work}
 
 -- what the outside shows, at one moment: the files, how often reads and writes of files failed, what was put, and how often puts failed
@@ -126,7 +139,8 @@ pub record IsStuckIn (cell : List ℕ) (scripts : List (List ℕ)) (desk serial 
   pub within : serial ≤ count_by is_shared (script_of commands desk)
 
 abbrev pub IsStuckAt : Form → Option Files → ℕ → ℕ → Type 0
-IsStuckAt (room_form cell out scripts) files desk serial = (1 ≤ desk) × (desk ≤ length scripts) × (1 ≤ serial) × IfSome files (IsStuckIn cell scripts desk serial)
+IsStuckAt (room_form cell out scripts) files desk serial = (1 ≤ desk) × (desk ≤ length scripts) × (1 ≤ serial)
+    × IfSome files (IsStuckIn cell scripts desk serial)
 IsStuckAt other files desk serial = ⊥
 
 -- `sticks`: whether a rendezvous may give up
@@ -136,7 +150,8 @@ IsCauseOf sticks form before after Usage = (form ≡ no_form) × IsSilent before
 IsCauseOf sticks form before after (Absent name) = IsInputOf form name × IsRefused form before after (Absent name)
 IsCauseOf sticks form before after (BadCell fault) = IsRefused form before after (BadCell fault)
 IsCauseOf sticks form before after (BadScript session line code) = IsRefused form before after (BadScript session line code)
-IsCauseOf sticks form before after (ReadFault name) = IsInputOf form name × IsSilent before after × Rose before.read_faults after.read_faults × IfSome before.files (λ files. IsReached form files name)
+IsCauseOf sticks form before after (ReadFault name) = IsInputOf form name × IsSilent before after × Rose before.read_faults after.read_faults
+    × IfSome before.files (λ files. IsReached form files name)
 IsCauseOf sticks form before after WriteFault = (task : Task) × IsOutput form before.files task × IsAsked before form (Ok task) × IsCut task before after
 IsCauseOf sticks form before after (TooLarge name) = IsInputOf form name × IsRefused form before after (TooLarge name)
 IsCauseOf sticks form before after NoMemory = IsBuilt form × IsSilent before after
@@ -159,7 +174,8 @@ IsExpected form files Done = (task : Task) × OutputIs form files (Ok task)
 IsExpected form files status = OutputIs form files (Err status)
 
 abbrev pub IsExact : Type 0 → List (List ℕ) → Outside → Outside → Status → Type 0
-IsExact sticks words before after status = (files : Files) → IsSmooth before after files → ¬ sticks → IsExpected (form_of words) files status ⊎ (status ≡ NoMemory)
+IsExact sticks words before after status = (files : Files) → IsSmooth before after files → ¬ sticks → IsExpected (form_of words) files status
+    ⊎ (status ≡ NoMemory)
 
 -- where all is done, and the files are told before and after, the bytes of OUT are read as the cell that the run leaves
 pub record IsOutReadBack (cell out order : List ℕ) (scripts : List (List ℕ)) (old new : Files) : Type 0 where
@@ -209,8 +225,10 @@ IsAskedBy sticks form files before after (Err (ReadFault name)) = IsInputOf form
 IsAskedBy sticks form files before after (Err NoMemory) = IsBuilt form
 IsAskedBy sticks form files before after (Err (Absent name)) = IsInputOf form name × IsBuilt form × IfSome files (λ fs. OutputIs form fs (Err (Absent name)))
 IsAskedBy sticks form files before after (Err (BadCell fault)) = IsBuilt form × IfSome files (λ fs. OutputIs form fs (Err (BadCell fault)))
-IsAskedBy sticks form files before after (Err (BadScript session line code)) = IsBuilt form × IfSome files (λ fs. OutputIs form fs (Err (BadScript session line code)))
-IsAskedBy sticks form files before after (Err (TooLarge name)) = IsInputOf form name × IsBuilt form × IfSome files (λ fs. OutputIs form fs (Err (TooLarge name)))
+IsAskedBy sticks form files before after (Err (BadScript session line code)) =
+    IsBuilt form × IfSome files (λ fs. OutputIs form fs (Err (BadScript session line code)))
+IsAskedBy sticks form files before after (Err (TooLarge name)) = IsInputOf form name × IsBuilt form
+    × IfSome files (λ fs. OutputIs form fs (Err (TooLarge name)))
 IsAskedBy sticks form files before after (Err (BadOrder place)) = IsBuilt form × IfSome files (λ fs. OutputIs form fs (Err (BadOrder place)))
 IsAskedBy sticks form files before after (Err TooManyFindings) = IsBuilt form × IfSome files (λ fs. OutputIs form fs (Err TooManyFindings))
 IsAskedBy sticks form files before after (Err (Stuck desk serial)) = sticks × IsStuckAt form files desk serial

@@ -1,7 +1,7 @@
 //! The input files of a call, each read and judged before the next.
 
-ghost use Rattle.std.specs.Prelude.{◌≡◌, ◌⊎◌, ◌≤◌, ◌<◌, ◌^◌, ◌++◌, ◌∷◌, [], All, Err, IfErr, IfOk, Ok, OnOk, length, map, string_bytes};
-ghost use Rattle.cell_findings.specs.AllFindings.{IsAllOf};
+ghost use Rattle.std.specs.Prelude.{◌≡◌, ◌⊎◌, ◌≤◌, ◌<◌, ◌^◌, ◌++◌, ◌∷◌, [], All, Err, IfErr, IfOk, MatchResult, Ok, OnOk, length, map, string_bytes};
+ghost use Rattle.cell_findings.specs.AllFindings.{IsAllOf, IsFindingRefusal};
 ghost use Rattle.export_laws.specs.ExportedCells.{IsScriptOfText};
 ghost use Rattle.cell_spec.specs.Writable.{IsWritable};
 ghost use Rattle.file_spec.specs.DecodedCell.{decoded_cell};
@@ -19,12 +19,15 @@ use cell_findings::{FindingRefusal, Findings, find_all};
 use cell_read::ReadRefusal;
 use decode_laws::decoded_cell_is_writable;
 use enc_outside::Shelf;
+use look_counter::start_counter;
 use order_text::{Order, OrderRefusal, order_lines_are_read, read_order};
 use report_text::Status;
 use s57_types::{Cell, Text};
 use script_text::{Script, ScriptRefusal, read_script};
 use sessions::load_bench;
 use std::alloc::{AllocError, Global};
+use std::marker::Brand;
+use std::sync::ledger::{Blank, Ledger};
 
 /// How many bytes a cell file may have.
 const CELL_LIMIT: usize = 16_777_216;
@@ -97,6 +100,22 @@ fn decode(alloc: Global, bytes: &[u8]) -> Result<Cell, Status>
     }
 }
 
+/// All findings of a writable cell, with the look-ups counted.
+fn find_counted<L: Ledger>(
+    alloc: Global,
+    cell: &Cell,
+    blank: Blank,
+) -> Result<Findings, FindingRefusal>
+    requires writable { IsWritable cell.now }
+    requires name { blank.name ≡ L.name }
+    requires parts { blank.parts ≡ L.parts }
+    requires some_part { 0 < L.parts }
+    ensures { MatchResult result (IsAllOf cell.now finding_limit) (IsFindingRefusal cell.now finding_limit) }
+{
+    let mut steps = start_counter::<L>(blank);
+    find_all(alloc, cell, FINDING_LIMIT, &mut steps)
+}
+
 /// The cell of a file, with its findings.
 fn judge_cell(alloc: Global, bytes: &[u8]) -> Result<Checked, Status>
     requires small { length bytes.now ≤ 16777216 }
@@ -108,7 +127,7 @@ fn judge_cell(alloc: Global, bytes: &[u8]) -> Result<Checked, Status>
         Ok(cell) => cell,
         Err(status) => return Err(status),
     };
-    match find_all(alloc, &cell, FINDING_LIMIT) {
+    match find_counted::<Brand>(alloc, &cell, Blank::new(1)) {
         Ok(findings) => Ok(Checked { cell, findings }),
         Err(FindingRefusal::TooMany) => Err(Status::TooManyFindings),
         Err(FindingRefusal::NoMemory) => Err(Status::NoMemory),

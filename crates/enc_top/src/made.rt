@@ -15,6 +15,7 @@ use drill_run::{DrillRefusal, push_drill, push_made};
 use file_spec::writable_cell_is_read_back;
 use report_text::Status;
 use std::alloc::{AllocError, Global};
+use std::thread::Threads;
 
 /// The greatest number of rows of squares in a generated cell.
 const SIZE_LIMIT: u32 = 100;
@@ -55,7 +56,11 @@ fn made_work(alloc: Global, size: u32, out: &str) -> Result<Work, AllocError>
 }
 
 /// The line of the drill that the words behind `drill` ask for.
-pub(crate) fn drill(alloc: Global, others: &[String]) -> Result<Work, Status>
+pub(crate) fn drill<R: Threads + Sync>(
+    rt: &R,
+    alloc: Global,
+    others: &[String],
+) -> Result<Work, Status>
     ensures { (files : Option Files) (before after : ℕ) → IsAskedBy ⊥ (drill_among (map string_bytes others.now)) files before after result }
 {
     let [size, sessions] = others else {
@@ -67,18 +72,23 @@ pub(crate) fn drill(alloc: Global, others: &[String]) -> Result<Work, Status>
     let Some(sessions) = number_up_to(sessions.as_str(), SESSION_LIMIT) else {
         return Err(Status::Usage);
     };
-    drilled_work(alloc, size, sessions)
+    drilled_work(rt, alloc, size, sessions)
 }
 
 /// The line of a drill.
-fn drilled_work(alloc: Global, size: u32, sessions: u32) -> Result<Work, Status>
+fn drilled_work<R: Threads + Sync>(
+    rt: &R,
+    alloc: Global,
+    size: u32,
+    sessions: u32,
+) -> Result<Work, Status>
     requires some { 1 ≤ size }
     requires few { size ≤ 100 }
     requires one_session { 1 ≤ sessions }
     requires sessions { sessions ≤ 16 }
     ensures { IsJudged task_of (drill_answer size sessions) result }
 {
-    let drilled = match drill_run::drill(alloc, size, sessions) {
+    let drilled = match drill_run::drill(rt, alloc, size, sessions) {
         Ok(drilled) => drilled,
         Err(DrillRefusal::TooManyFindings) => return Err(Status::TooManyFindings),
         Err(DrillRefusal::NoMemory) => return Err(Status::NoMemory),

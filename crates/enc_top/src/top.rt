@@ -101,7 +101,7 @@ pub fn run_room<R: Threads + Wait + Sync, H: Shelf, O: Sink, M: Meet + Sync>(
 
 /// The same of other words, on one thread of control, which always returns.
 pub fn run_plain<R: Threads + Sync, H: Shelf, O: Sink>(
-    _rt: &R,
+    rt: &R,
     alloc: Global,
     words: &[String],
     shelf: &mut H,
@@ -123,14 +123,19 @@ pub fn run_plain<R: Threads + Sync, H: Shelf, O: Sink>(
     ensures usage { (result ≡ Status.Usage) ↔ (form_of (map string_bytes words.now) ≡ no_form) }
     ensures write_faults { H.write_faults shelf.old ≤ H.write_faults shelf.new }
 {
-    match asked_work(alloc, words, shelf) {
+    match asked_work(rt, alloc, words, shelf) {
         Ok(work) => finish(shelf, out, &work),
         Err(status) => status,
     }
 }
 
 /// The work that words ask for.
-fn asked_work<H: Shelf>(alloc: Global, words: &[String], shelf: &mut H) -> Result<Work, Status>
+fn asked_work<R: Threads + Sync, H: Shelf>(
+    rt: &R,
+    alloc: Global,
+    words: &[String],
+    shelf: &mut H,
+) -> Result<Work, Status>
     requires { spec_begins_with_room (map string_bytes words.now) ≡ false }
     ensures asked { IsAskedBy ⊥ (form_of (map string_bytes words.now)) (H.files shelf.old) (H.read_faults shelf.old) (H.read_faults shelf.new) result }
     ensures files { H.files shelf.new ≡ H.files shelf.old }
@@ -144,13 +149,13 @@ fn asked_work<H: Shelf>(alloc: Global, words: &[String], shelf: &mut H) -> Resul
         return check(alloc, others, shelf);
     }
     if first == "replay" {
-        return run_scripts(alloc, others, shelf);
+        return run_scripts(rt, alloc, others, shelf);
     }
     if first == "make" {
         return make(alloc, others);
     }
     if first == "drill" {
-        return drill(alloc, others);
+        return drill(rt, alloc, others);
     }
     Err(Status::Usage)
 }
@@ -174,7 +179,12 @@ fn check<H: Shelf>(alloc: Global, others: &[String], shelf: &mut H) -> Result<Wo
 }
 
 /// The report of the run that the words behind `replay` name, and the file of the cell that is left.
-fn run_scripts<H: Shelf>(alloc: Global, others: &[String], shelf: &mut H) -> Result<Work, Status>
+fn run_scripts<R: Threads + Sync, H: Shelf>(
+    rt: &R,
+    alloc: Global,
+    others: &[String],
+    shelf: &mut H,
+) -> Result<Work, Status>
     ensures asked { IsAskedBy ⊥ (replay_among (map string_bytes others.now)) (H.files shelf.old) (H.read_faults shelf.old) (H.read_faults shelf.new) result }
     ensures files { H.files shelf.new ≡ H.files shelf.old }
     ensures write_faults { H.write_faults shelf.new ≡ H.write_faults shelf.old }
@@ -189,11 +199,12 @@ fn run_scripts<H: Shelf>(alloc: Global, others: &[String], shelf: &mut H) -> Res
         Ok(bench) => bench,
         Err(status) => return Err(status),
     };
-    run_on(alloc, shelf, bench, out.as_str(), order.as_str(), names)
+    run_on(rt, alloc, shelf, bench, out.as_str(), order.as_str(), names)
 }
 
 /// The report of running the scripts of input files on the cell of a bench in the order of another, and the file of the cell that is left.
-fn run_on<H: Shelf>(
+fn run_on<R: Threads + Sync, H: Shelf>(
+    rt: &R,
     alloc: Global,
     shelf: &mut H,
     bench: Bench,
@@ -216,11 +227,12 @@ fn run_on<H: Shelf>(
         Ok(scripts) => scripts,
         Err(status) => return Err(status),
     };
-    run_in_order_of(alloc, shelf, bench, out, order, scripts)
+    run_in_order_of(rt, alloc, shelf, bench, out, order, scripts)
 }
 
 /// The report of running scripts on the cell of a bench in the order of an input file, and the file of the cell that is left.
-fn run_in_order_of<H: Shelf>(
+fn run_in_order_of<R: Threads + Sync, H: Shelf>(
+    rt: &R,
     alloc: Global,
     shelf: &mut H,
     bench: Bench,
@@ -246,11 +258,12 @@ fn run_in_order_of<H: Shelf>(
         Ok(sessions) => sessions,
         Err(status) => return Err(status),
     };
-    run_of(alloc, bench, out, scripts, sessions.as_slice())
+    run_of(rt, alloc, bench, out, scripts, sessions.as_slice())
 }
 
 /// The report of running scripts on the cell of a bench in an order, and the file of the cell that is left.
-fn run_of(
+fn run_of<R: Threads + Sync>(
+    rt: &R,
     alloc: Global,
     bench: Bench,
     out: &str,
@@ -264,6 +277,6 @@ fn run_of(
     ensures status { IfErr result (λ status. status ≡ Status.NoMemory) }
 {
     let book = Book::of_bench(alloc, bench);
-    let replayed = replay(alloc, book, scripts, order)?;
+    let replayed = replay(rt, alloc, book, scripts, order)?;
     Ok(work_of(alloc, out, &replayed.book, &replayed.transcripts)?)
 }

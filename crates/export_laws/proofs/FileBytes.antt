@@ -1,5 +1,30 @@
 -- The fields of a file's records are bytes, as the file is.
-use Rattle.std.proofs.Common.{◌≡◌, ℕ, zero, suc, ◌+◌, ◌-◌, ◌<◌, Bool, true, false, List, [], ◌∷◌, length, map, drop, nat_le, Result, MatchResult, Ok, Err, refl, sym, subst}
+use Rattle.std.proofs.Common.{
+  ◌≡◌,
+  ℕ,
+  zero,
+  suc,
+  ◌+◌,
+  ◌-◌,
+  ◌<◌,
+  Bool,
+  true,
+  false,
+  List,
+  [],
+  ◌∷◌,
+  length,
+  map,
+  drop,
+  nat_le,
+  Result,
+  MatchResult,
+  Ok,
+  Err,
+  refl,
+  sym,
+  subst,
+}
 use Rattle.std.specs.Prelude.{if◌then◌else◌}
 use Rattle.std.specs.List.{AllByRecursion, range_with_len}
 use Rattle.std.proofs.lemmas.List.Elements.{All-take, All-drop}
@@ -40,7 +65,8 @@ frame_of_bytes b p first frame bytes is =
     subst AreOfBytes (sym stands.fields_are) (each_field b p (range_with_len 0 (count_at b p)) bytes)
 
 -- a record, and those behind it
-with_others : (b : List ℕ) (place : ℕ) (first : Bool) (others : FrameView → List FileRecord) → AreFileBytes b → ((frame : FrameView) → AllByRecursion RecordIsOfBytes (others frame))
+with_others : (b : List ℕ) (place : ℕ) (first : Bool) (others : FrameView → List FileRecord) → AreFileBytes b
+    → ((frame : FrameView) → AllByRecursion RecordIsOfBytes (others frame))
     → (r : Result FrameView FrameFault) → frame_at b place first ≡ r → AllByRecursion RecordIsOfBytes (record_then others place r)
 with_others b place first others bytes behind (Ok frame) is = (frame_of_bytes b place first frame bytes is, behind frame)
 with_others b place first others bytes behind (Err fault) is = (tt, tt)
@@ -54,7 +80,8 @@ unfolding records_from
 records_of_bytes zero b place first bytes = tt
 records_of_bytes (suc n) b place first bytes =
     up_to_end (nat_le (length b) place) (record_then (λ frame. records_from n b (place + frame.length) false) place (frame_at b place first))
-    (with_others b place first (λ frame. records_from n b (place + frame.length) false) bytes (λ frame. records_of_bytes n b (place + frame.length) false bytes) (frame_at b place first) refl)
+    (with_others b place first (λ frame. records_from n b (place + frame.length) false) bytes
+    (λ frame. records_of_bytes n b (place + frame.length) false bytes) (frame_at b place first) refl)
 
 pub file_is_of_bytes : (b : List ℕ) → AreFileBytes b → AllByRecursion RecordIsOfBytes (file_records b)
 unfolding records_after

@@ -17,7 +17,19 @@ use Rattle.field_spec.specs.Contents.{dsid_content, dssi_content, dspm_content}
 use Rattle.cell_spec.specs.Edits.{list_of_kind}
 use Rattle.cell_spec.specs.Lookup.{name_of}
 use Rattle.file_spec.specs.CellRecords.{empty_cell, head_with, with_record, with_record_of_kind}
-use Rattle.file_spec.specs.DecodedCell.{decoded_records, general_information, geographic_reference, is_general_information, is_geographic_reference, fits_general_information, fits_geographic_reference, record_behind, said_by, said_by_next, with_following}
+use Rattle.file_spec.specs.DecodedCell.{
+  decoded_records,
+  general_information,
+  geographic_reference,
+  is_general_information,
+  is_geographic_reference,
+  fits_general_information,
+  fits_geographic_reference,
+  record_behind,
+  said_by,
+  said_by_next,
+  with_following,
+}
 use Rattle.file_spec.specs.FileRecords.{FileRecord, file_records}
 use Rattle.file_spec.specs.RecordFaults.{◌>>=◌, ◌>>◌, demand, fault_at, of_frame}
 use Rattle.file_spec.specs.RecordReading.{record_type, fields_fault, required}
@@ -44,17 +56,20 @@ abbrev with_dsid : List Field → Dsid → Result (Dsid × Dssi) RecordFault
 with_dsid fields d = required tags.Dssi dssi_content fields >>= judged_general d
 
 abbrev of_general_type : List Field → RecordType → Result (Dsid × Dssi) RecordFault
-of_general_type fields type = demand (is_general_information type) HeadOrder >> (fields_fault 0 types.GeneralInformation [] fields >> (required tags.Dsid dsid_content fields >>= with_dsid fields))
+of_general_type fields type = demand (is_general_information type) HeadOrder >>
+    (fields_fault 0 types.GeneralInformation [] fields >> (required tags.Dsid dsid_content fields >>= with_dsid fields))
 
 general_is_typed : (fields : List Field) (x : Dsid × Dssi) → AreOfBytes fields → general_information fields ≡ Ok x → HasForms dsid_forms (dsid_row x.0)
 unfolding general_information
 general_is_typed fields x bytes is =
     let type = step (record_type fields) (of_general_type fields) x is in
-    let right = demanded (is_general_information type.0) HeadOrder (fields_fault 0 types.GeneralInformation [] fields >> (required tags.Dsid dsid_content fields >>= with_dsid fields)) x type.2 in
+    let right = demanded (is_general_information type.0) HeadOrder
+    (fields_fault 0 types.GeneralInformation [] fields >> (required tags.Dsid dsid_content fields >>= with_dsid fields)) x type.2 in
     let read = passed (fields_fault 0 types.GeneralInformation [] fields) (required tags.Dsid dsid_content fields >>= with_dsid fields) x right.1 in
     let d = step (required tags.Dsid dsid_content fields) (with_dsid fields) x read.1 in
     let s = step (required tags.Dssi dssi_content fields) (judged_general d.0) x d.2 in
-    let base = demanded (d.0.expp == 1) NotBase (demand (s.0.dstr == 2) NotChainNode >> (demand (fits_general_information d.0 s.0) TooLong >> Ok (d.0, s.0))) x s.2 in
+    let base = demanded (d.0.expp == 1) NotBase (demand (s.0.dstr == 2) NotChainNode >>
+    (demand (fits_general_information d.0 s.0) TooLong >> Ok (d.0, s.0))) x s.2 in
     let chain = demanded (s.0.dstr == 2) NotChainNode (demand (fits_general_information d.0 s.0) TooLong >> Ok (d.0, s.0)) x base.1 in
     let short = demanded (fits_general_information d.0 s.0) TooLong (Ok (d.0, s.0)) x chain.1 in
     let same : (d.0, s.0) ≡ x = cc in
@@ -64,20 +79,23 @@ abbrev judged_geographic : Dspm → Result Dspm RecordFault
 judged_geographic p = demand (fits_geographic_reference p) TooLong >> Ok p
 
 abbrev of_geographic_type : List Field → RecordType → Result Dspm RecordFault
-of_geographic_type fields type = demand (is_geographic_reference type) HeadOrder >> (fields_fault 0 types.GeographicReference [] fields >> (required tags.Dspm dspm_content fields >>= judged_geographic))
+of_geographic_type fields type = demand (is_geographic_reference type) HeadOrder >>
+    (fields_fault 0 types.GeographicReference [] fields >> (required tags.Dspm dspm_content fields >>= judged_geographic))
 
 geographic_is_typed : (fields : List Field) (x : Dspm) → AreOfBytes fields → geographic_reference fields ≡ Ok x → HasForms dspm_forms (dspm_row x)
 unfolding geographic_reference
 geographic_is_typed fields x bytes is =
     let type = step (record_type fields) (of_geographic_type fields) x is in
-    let right = demanded (is_geographic_reference type.0) HeadOrder (fields_fault 0 types.GeographicReference [] fields >> (required tags.Dspm dspm_content fields >>= judged_geographic)) x type.2 in
+    let right = demanded (is_geographic_reference type.0) HeadOrder
+    (fields_fault 0 types.GeographicReference [] fields >> (required tags.Dspm dspm_content fields >>= judged_geographic)) x type.2 in
     let read = passed (fields_fault 0 types.GeographicReference [] fields) (required tags.Dspm dspm_content fields >>= judged_geographic) x right.1 in
     let p = step (required tags.Dspm dspm_content fields) judged_geographic x read.1 in
     let short = demanded (fits_geographic_reference p.0) TooLong (Ok p.0) x p.2 in
     let same : p.0 ≡ x = cc in
     subst (λ (y : Dspm). HasForms dspm_forms (dspm_row y)) same (first_tagged tags.Dspm dspm_content _ dspm_typed fields p.0 bytes p.1)
 
-head_is_typed : (d : Dsid) (s : Dssi) (p : Dspm) → HasForms dsid_forms (dsid_row d) → HasForms dspm_forms (dspm_row p) → HasItsTypes (empty_cell (head_with d s p))
+head_is_typed : (d : Dsid) (s : Dssi) (p : Dspm) → HasForms dsid_forms (dsid_row d) → HasForms dspm_forms (dspm_row p)
+    → HasItsTypes (empty_cell (head_with d s p))
 head_is_typed d s p dsid dspm =
     let new : 1 < 256 ^ 1 = omega arith in
     record {
@@ -87,7 +105,8 @@ head_is_typed d s p dsid dspm =
     }
 
 -- ---- one record more
-joined : (P : Rec → Type 0) (vi vc ve fe : List Rec) → AllByRecursion P vi → AllByRecursion P vc → AllByRecursion P ve → AllByRecursion P fe → AllByRecursion P (vi ++ vc ++ ve ++ fe)
+joined : (P : Rec → Type 0) (vi vc ve fe : List Rec) → AllByRecursion P vi → AllByRecursion P vc → AllByRecursion P ve → AllByRecursion P fe
+    → AllByRecursion P (vi ++ vc ++ ve ++ fe)
 joined P vi vc ve fe i c e f = each_append P (vi ++ vc ++ ve) fe (each_append P (vi ++ vc) ve (each_append P vi vc i c) e) f
 
 with_kind : (kind : Kind) (r : Rec) (c : Cell) → HasItsTypes c → RecordHasForms c.head.nall r → HasItsTypes (with_record_of_kind kind r c)
@@ -103,10 +122,30 @@ with_kind kind r c typed new = by kind
     grown rs all = each_append P rs (r ∷ []) all (new, tt)
 
     by : (k : Kind) → HasItsTypes (with_record_of_kind k r c)
-    by Vi = record { dsid = typed.dsid; dspm = typed.dspm; records = joined P (c.vi ++ (r ∷ [])) c.vc c.ve c.fe (grown c.vi (each Vi)) (each Vc) (each Ve) (each Fe) }
-    by Vc = record { dsid = typed.dsid; dspm = typed.dspm; records = joined P c.vi (c.vc ++ (r ∷ [])) c.ve c.fe (each Vi) (grown c.vc (each Vc)) (each Ve) (each Fe) }
-    by Ve = record { dsid = typed.dsid; dspm = typed.dspm; records = joined P c.vi c.vc (c.ve ++ (r ∷ [])) c.fe (each Vi) (each Vc) (grown c.ve (each Ve)) (each Fe) }
-    by Fe = record { dsid = typed.dsid; dspm = typed.dspm; records = joined P c.vi c.vc c.ve (c.fe ++ (r ∷ [])) (each Vi) (each Vc) (each Ve) (grown c.fe (each Fe)) }
+    by Vi = record {
+      dsid = typed.dsid;
+      dspm = typed.dspm;
+      records =
+          joined P (c.vi ++ (r ∷ [])) c.vc c.ve c.fe (grown c.vi (each Vi)) (each Vc) (each Ve) (each Fe);
+    }
+    by Vc = record {
+      dsid = typed.dsid;
+      dspm = typed.dspm;
+      records =
+          joined P c.vi (c.vc ++ (r ∷ [])) c.ve c.fe (each Vi) (grown c.vc (each Vc)) (each Ve) (each Fe);
+    }
+    by Ve = record {
+      dsid = typed.dsid;
+      dspm = typed.dspm;
+      records =
+          joined P c.vi c.vc (c.ve ++ (r ∷ [])) c.fe (each Vi) (each Vc) (grown c.ve (each Ve)) (each Fe);
+    }
+    by Fe = record {
+      dsid = typed.dsid;
+      dspm = typed.dspm;
+      records =
+          joined P c.vi c.vc c.ve (c.fe ++ (r ∷ [])) (each Vi) (each Vc) (each Ve) (grown c.fe (each Fe));
+    }
     by HeadKind = typed
 
 -- ---- the file
@@ -125,27 +164,31 @@ of_found : {X : Type 0} (meaning : List Field → Result X RecordFault) (found :
 of_found meaning (Ok frame) x bytes is = record { fields = frame.fields; bytes = bytes; is = is }
 of_found meaning (Err fault) x bytes is = absurd cc
 
-said_is : {X : Type 0} (number : ℕ) (meaning : List Field → Result X RecordFault) (r : FileRecord) (x : X) → RecordIsOfBytes r → said_by number meaning r ≡ Ok x → IsSaid meaning x
+said_is : {X : Type 0} (number : ℕ) (meaning : List Field → Result X RecordFault) (r : FileRecord) (x : X) → RecordIsOfBytes r
+    → said_by number meaning r ≡ Ok x → IsSaid meaning x
 said_is number meaning r x bytes is = of_found meaning r.found x bytes (unplaced (fault_at number r.offset) _ x is)
 
 record IsSaidByNext {X : Type 0} (meaning : List Field → Result X RecordFault) (x : X × List FileRecord) : Type 0 where
   said : IsSaid meaning x.0
   others : AllByRecursion RecordIsOfBytes x.1
 
-next_is : {X : Type 0} (number end : ℕ) (meaning : List Field → Result X RecordFault) (file : List FileRecord) (x : X × List FileRecord) → AllByRecursion RecordIsOfBytes file
+next_is : {X : Type 0} (number end : ℕ) (meaning : List Field → Result X RecordFault) (file : List FileRecord) (x : X × List FileRecord)
+    → AllByRecursion RecordIsOfBytes file
     → said_by_next number end meaning file ≡ Ok x → IsSaidByNext meaning x
 next_is number end meaning [] x bytes is = absurd cc
 next_is number end meaning (r ∷ file) x bytes is =
     let said = mapped_ok (λ y. (y, file)) (said_by number meaning r) x is in
     subst (IsSaidByNext meaning) said.2 (record { said = said_is number meaning r said.0 bytes.0 said.1; others = bytes.1 })
 
-stays_typed : (number : ℕ) (c d : Cell) (file : List FileRecord) → AllByRecursion RecordIsOfBytes file → HasItsTypes c → with_following number c file ≡ Ok d → HasItsTypes d
+stays_typed : (number : ℕ) (c d : Cell) (file : List FileRecord) → AllByRecursion RecordIsOfBytes file → HasItsTypes c
+    → with_following number c file ≡ Ok d → HasItsTypes d
 unfolding with_following
 stays_typed number c d [] bytes typed is = let same : c ≡ d = cc in subst HasItsTypes same typed
 stays_typed number c d (r ∷ file) bytes typed is =
     let said = step (said_by number (record_behind c) r) (λ rec. with_following (number + 1) (with_record rec c) file) d is in
     let found = said_is number (record_behind c) r said.0 bytes.0 said.1 in
-    stays_typed (number + 1) (with_record said.0 c) d file bytes.1 (with_kind (name_of said.0).kind said.0 c typed (behind_is_typed c found.fields said.0 found.bytes found.is)) said.2
+    stays_typed (number + 1) (with_record said.0 c) d file bytes.1
+    (with_kind (name_of said.0).kind said.0 c typed (behind_is_typed c found.fields said.0 found.bytes found.is)) said.2
 
 abbrev behind_geographic : (Dsid × Dssi) → Dspm × List FileRecord → Result Cell CellFault
 behind_geographic g p = with_following 4 (empty_cell (head_with g.0 g.1 p.0)) p.1

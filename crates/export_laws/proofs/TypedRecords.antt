@@ -1,5 +1,32 @@
 -- A record that was read fits its types.
-use Rattle.std.proofs.Common.{◌≡◌, ℕ, ◌==◌, Bool, true, false, not, cond, List, [], ◌∷◌, length, nat_le, nat_lt, find, filter, Option, Some, Result, Ok, Err, refl, subst, arith, ◌<◌, ◌^◌}
+use Rattle.std.proofs.Common.{
+  ◌≡◌,
+  ℕ,
+  ◌==◌,
+  Bool,
+  true,
+  false,
+  not,
+  cond,
+  List,
+  [],
+  ◌∷◌,
+  length,
+  nat_le,
+  nat_lt,
+  find,
+  filter,
+  Option,
+  Some,
+  Result,
+  Ok,
+  Err,
+  refl,
+  subst,
+  arith,
+  ◌<◌,
+  ◌^◌,
+}
 use Rattle.std.specs.List.{AllByRecursion, list_any, flat_map}
 use Rattle.std.specs.Option.{ok_or, option_and_then}
 use Rattle.std.specs.Result.{result_ok, result_unwrap_or}
@@ -12,7 +39,17 @@ use Rattle.s57_types.specs.declared.name.Lnam.{Lnam}
 use Rattle.s57_types.specs.declared.record.Rec.{Rec}
 use Rattle.s57_types.specs.declared.record.Rec.TheVariants.{V, F}
 use Rattle.s57_types.specs.declared.cell.Cell.{Cell}
-use Rattle.field_spec.specs.Contents.{frid_content, foid_content, attribute_content, partner_content, place_content, vrid_content, end_content, plane_content, deep_content}
+use Rattle.field_spec.specs.Contents.{
+  frid_content,
+  foid_content,
+  attribute_content,
+  partner_content,
+  place_content,
+  vrid_content,
+  end_content,
+  plane_content,
+  deep_content,
+}
 use Rattle.field_spec.specs.declared.fault.FieldFault.{FieldFault}
 use Rattle.cell_spec.specs.Lookup.{all_records, name_of, is_named}
 use Rattle.cell_spec.specs.Writable.{record_limit}
@@ -31,10 +68,21 @@ use Rattle.decode_laws.proofs.Records.{step, passed, demanded}
 use Rattle.cell_spec.proofs.EachItem.{each_append}
 use Rattle.export_laws.specs.DecodedTypes.{AreFileBytes}
 use Rattle.export_laws.proofs.FileBytes.{IsOfBytes, AreOfBytes}
-use Rattle.export_laws.proofs.TypedRows.{frid_typed, foid_typed, vrid_typed, attributes_typed, partners_typed, places_typed, ends_typed, plane_typed, deep_typed}
+use Rattle.export_laws.proofs.TypedRows.{
+  frid_typed,
+  foid_typed,
+  vrid_typed,
+  attributes_typed,
+  partners_typed,
+  places_typed,
+  ends_typed,
+  plane_typed,
+  deep_typed,
+}
 
 -- ---- a field that must be there
-module _ {X : Type 0} (tag : FieldTag) (content : List ℕ → Result X FieldFault) (Has : X → Type 0) (typed : (b : List ℕ) (x : X) → AreFileBytes b → content b ≡ Ok x → Has x) where
+module _ {X : Type 0} (tag : FieldTag) (content : List ℕ → Result X FieldFault) (Has : X → Type 0) (typed : (b : List ℕ) (x : X)
+    → AreFileBytes b → content b ≡ Ok x → Has x) where
   content_has : (field : Field) (r : Result X FieldFault) (x : X) → IsOfBytes field → content field.bytes ≡ r → ok_or (result_ok r) MissingField ≡ Ok x → Has x
   content_has field (Ok y) x bytes was is = let same : y ≡ x = cc in subst Has same (typed field.bytes y bytes was)
   content_has field (Err fault) x bytes was is = absurd cc
@@ -47,10 +95,12 @@ module _ {X : Type 0} (tag : FieldTag) (content : List ℕ → Result X FieldFau
 
   pub first_tagged : (fields : List Field) (x : X) → AreOfBytes fields → required tag content fields ≡ Ok x → Has x
   first_tagged [] x bytes is = absurd cc
-  first_tagged (field ∷ fields) x bytes is = this_or_later (is_tagged tag field) field (find (is_tagged tag) fields) x bytes.0 (first_tagged fields x bytes.1) is
+  first_tagged (field ∷ fields) x bytes is = this_or_later (is_tagged tag field) field (find (is_tagged tag) fields) x bytes.0
+      (first_tagged fields x bytes.1) is
 
 -- ---- the rows of all fields of a tag
-module _ {X : Type 0} (tag : FieldTag) (content : List ℕ → Result (List X) FieldFault) (Has : X → Type 0) (typed : (b : List ℕ) (xs : List X) → AreFileBytes b → content b ≡ Ok xs → AllByRecursion Has xs) where
+module _ {X : Type 0} (tag : FieldTag) (content : List ℕ → Result (List X) FieldFault) (Has : X → Type 0)
+    (typed : (b : List ℕ) (xs : List X) → AreFileBytes b → content b ≡ Ok xs → AllByRecursion Has xs) where
   abbrev rows_in : Field → List X
   rows_in field = result_unwrap_or (content field.bytes) []
 
@@ -58,8 +108,10 @@ module _ {X : Type 0} (tag : FieldTag) (content : List ℕ → Result (List X) F
   rows_have field (Ok xs) bytes was = typed field.bytes xs bytes was
   rows_have field (Err fault) bytes was = tt
 
-  these_and_later : (tagged : Bool) (field : Field) (later : List Field) → IsOfBytes field → AllByRecursion Has (flat_map rows_in later) → AllByRecursion Has (flat_map rows_in (cond tagged (field ∷ later) later))
-  these_and_later true field later bytes others = each_append Has (rows_in field) (flat_map rows_in later) (rows_have field (content field.bytes) bytes refl) others
+  these_and_later : (tagged : Bool) (field : Field) (later : List Field) → IsOfBytes field → AllByRecursion Has (flat_map rows_in later)
+      → AllByRecursion Has (flat_map rows_in (cond tagged (field ∷ later) later))
+  these_and_later true field later bytes others = each_append Has (rows_in field) (flat_map rows_in later)
+      (rows_have field (content field.bytes) bytes refl) others
   these_and_later false field later bytes others = others
 
   rows_each : (fields : List Field) → AreOfBytes fields → AllByRecursion Has (rows_of tag content fields)
@@ -138,7 +190,8 @@ feature_is_typed nall fields r bytes is =
       places = rows_each tags.Fspt place_content _ places_typed fields bytes;
     })
 
-values_are_typed : (nall : ℕ) (fields : List Field) (type : RecordType) (r : Rec) → AreOfBytes fields → record_values nall fields type ≡ Ok r → RecordHasForms nall r
+values_are_typed : (nall : ℕ) (fields : List Field) (type : RecordType) (r : Rec) → AreOfBytes fields → record_values nall fields type ≡ Ok r
+    → RecordHasForms nall r
 values_are_typed nall fields types.GeneralInformation r bytes is = absurd cc
 values_are_typed nall fields types.GeographicReference r bytes is = absurd cc
 values_are_typed nall fields types.Vector r bytes is = vector_is_typed nall fields r bytes is

@@ -16,7 +16,19 @@ use Rattle.file_spec.specs.ReadBack.{frid_of}
 use Rattle.file_spec.specs.RoundTrip.{IsInRange, HasForms, VectorHasForms, FeatureHasForms, RecordHasForms}
 use Rattle.text_spec.specs.declared.command.Command.{Command}
 use Rattle.text_spec.specs.declared.command.Command.TheVariants.{View, Commit, Drop, List as Findings, Push, Guard}
-use Rattle.text_spec.specs.ScriptLines.{IsOfWidth, record_subfields, vector_subfields, feature_subfields, IsEditOfWidth, IsCommand, ScriptLine, skipped, spoken, spoken_command, IsLine}
+use Rattle.text_spec.specs.ScriptLines.{
+  IsOfWidth,
+  record_subfields,
+  vector_subfields,
+  feature_subfields,
+  IsEditOfWidth,
+  IsCommand,
+  ScriptLine,
+  skipped,
+  spoken,
+  spoken_command,
+  IsLine,
+}
 use Rattle.edit_laws.specs.ReadBackAfterRuns.{EditHasItsTypes, CommandHasItsTypes}
 use Rattle.cell_spec.proofs.EachItem.{each_weaker, each_front, each_back}
 use Rattle.export_laws.specs.ScriptTypes.{ScriptHasItsTypes}
@@ -34,7 +46,8 @@ AreInRange = AllByRecursion IsInRange
 parts : (row others : List Subfield) → AreInRange (row ++ others) → AreInRange row × AreInRange others
 parts row others all = (each_front IsInRange row others all, each_back IsInRange row others all)
 
-each_row : {X : Type 0} (row : X → List Subfield) (P : X → Type 0) → ((x : X) → AreInRange (row x) → P x) → (xs : List X) → AreInRange (flat_map row xs) → AllByRecursion P xs
+each_row : {X : Type 0} (row : X → List Subfield) (P : X → Type 0) → ((x : X) → AreInRange (row x) → P x) → (xs : List X)
+    → AreInRange (flat_map row xs) → AllByRecursion P xs
 each_row row P from [] all = tt
 each_row row P from (x ∷ xs) all = let both = parts (row x) (flat_map row xs) all in (from x both.0, each_row row P from xs both.1)
 
@@ -42,7 +55,8 @@ each_row row P from (x ∷ xs) all = let both = parts (row x) (flat_map row xs) 
 at_level : (nall : ℕ) (a : Attr) → AreInRange (attribute_row 0 a) → HasForms (attribute_forms nall) (attribute_row nall a)
 at_level nall a all = by (nall == 2)
   where
-    by : (wide : Bool) → HasForms (b12 ∷ (if wide then wide_text else text) ∷ []) (unsigned_of 2 a.code ∷ (if wide then wide_text_of a.value else text_of a.value) ∷ [])
+    by : (wide : Bool) → HasForms (b12 ∷ (if wide then wide_text else text) ∷ [])
+        (unsigned_of 2 a.code ∷ (if wide then wide_text_of a.value else text_of a.value) ∷ [])
     by true = record { forms_are = refl; each = (all.0, (tt, tt)) }
     by false = record { forms_are = refl; each = (all.0, (tt, tt)) }
 

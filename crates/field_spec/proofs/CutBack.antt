@@ -1,5 +1,44 @@
 -- What bytes are cut into spells these bytes.
-use Rattle.std.proofs.Common.{◌≡◌, ℕ, zero, suc, ◌+◌, ◌*◌, ◌/◌, ◌%◌, ◌^◌, ◌<◌, ◌≤◌, ◌==◌, ◌&&◌, Bool, true, false, not, cond, List, [], ◌∷◌, ◌++◌, length, take, drop, position, nat_lt, slice_index, Option, Some, None, refl, sym, ap, ◌∙◌, subst, append_assoc, arith}
+use Rattle.std.proofs.Common.{
+  ◌≡◌,
+  ℕ,
+  zero,
+  suc,
+  ◌+◌,
+  ◌*◌,
+  ◌/◌,
+  ◌%◌,
+  ◌^◌,
+  ◌<◌,
+  ◌≤◌,
+  ◌==◌,
+  ◌&&◌,
+  Bool,
+  true,
+  false,
+  not,
+  cond,
+  List,
+  [],
+  ◌∷◌,
+  ◌++◌,
+  length,
+  take,
+  drop,
+  position,
+  nat_lt,
+  slice_index,
+  Option,
+  Some,
+  None,
+  refl,
+  sym,
+  ap,
+  ◌∙◌,
+  subst,
+  append_assoc,
+  arith,
+}
 use Rattle.std.proofs.lemmas.List.{take-append-drop, length-take-le}
 use Rattle.std.proofs.lemmas.List.Sums.{split_at_first, passes_at_first}
 use Rattle.std.proofs.lemmas.Bool.Decides.{nat_tests}
@@ -10,7 +49,27 @@ use Rattle.std.specs.List.{flat_map, position_or_len, AllByRecursion}
 use Rattle.std.specs.Int.{w32, cast_signed, byte_at, bytes_low_first}
 use Rattle.byteorder.specs.Endian.{little_number, little_from}
 use Rattle.byteorder.specs.Numbers.{little_from-cons}
-use Rattle.s57_types.specs.Subfield.{Form, Subfield, unsigned, signed, text, wide_text, fixed, unsigned_of, signed_of, text_of, wide_text_of, fixed_of, form_of, spelling, row_bytes, IsSubfield, unit_terminator, holds, has_unit}
+use Rattle.s57_types.specs.Subfield.{
+  Form,
+  Subfield,
+  unsigned,
+  signed,
+  text,
+  wide_text,
+  fixed,
+  unsigned_of,
+  signed_of,
+  text_of,
+  wide_text_of,
+  fixed_of,
+  form_of,
+  spelling,
+  row_bytes,
+  IsSubfield,
+  unit_terminator,
+  holds,
+  has_unit,
+}
 use Rattle.field_spec.specs.Cutting.{split, split_units, front, cut_row, cut_rows}
 use Rattle.field_spec.specs.FieldContent.{IsRow}
 
@@ -82,7 +141,8 @@ pub mapped_back : {A B : Type 0} (f : A → B) (P : B → Type 0) (o : Option A)
 mapped_back f P None y e each = absurd cc
 mapped_back f P (Some x) y e each = let same : f x ≡ y = cc in subst P same (each x refl)
 
-pub bound_back : {A B : Type 0} (f : A → Option B) (P : Type 0) (o : Option A) (y : B) → option_and_then f o ≡ Some y → ((x : A) → o ≡ Some x → f x ≡ Some y → P) → P
+pub bound_back : {A B : Type 0} (f : A → Option B) (P : Type 0) (o : Option A) (y : B) → option_and_then f o ≡ Some y
+    → ((x : A) → o ≡ Some x → f x ≡ Some y → P) → P
 bound_back f P None y e each = absurd cc
 bound_back f P (Some x) y e each = each x refl e
 
@@ -97,14 +157,16 @@ unsigned_back w b x all e = mapped_back (λ (y : List ℕ × List ℕ). (unsigne
     })
 
 signed_back : (b : List ℕ) (x : Subfield × List ℕ) → AreBytes b → front signed b ≡ Some x → IsFront signed b x
-signed_back b x all e = mapped_back (λ (y : List ℕ × List ℕ). (signed_of (cast_signed w32 (little_number 4 y.0)), y.1)) (IsFront signed b) (split 4 b) x e (λ y is.
+signed_back b x all e = mapped_back (λ (y : List ℕ × List ℕ). (signed_of (cast_signed w32 (little_number 4 y.0)), y.1)) (IsFront signed b)
+    (split 4 b) x e (λ y is.
     let cut = split_back 4 b y is in
     let parts = AreBytes-append y.0 y.1 (subst AreBytes cut.joined all) in
     let n = little_number 4 y.0 in
     let small = number_fits 4 y.0 cut.size parts.0 in
     record {
       form_is = refl;
-      bytes_are = cut.joined ∙ ap (λ t. t ++ y.1) (sym (ap (bytes_low_first 0 4) (of_z-to_z {w = w32} {n = n} (Fits-of_lt small)) ∙ number_bytes 4 y.0 cut.size parts.0));
+      bytes_are = cut.joined ∙ ap (λ t. t ++ y.1) (sym (ap (bytes_low_first 0 4) (of_z-to_z {w = w32} {n = n} (Fits-of_lt small))
+          ∙ number_bytes 4 y.0 cut.size parts.0));
       fits = sfits_to_z {w = w32} {n = n} (Fits-of_lt small);
     })
 
@@ -112,16 +174,19 @@ none_before : (b : List ℕ) → holds unit_terminator (take (position_or_len (�
 none_before [] = refl
 none_before (c ∷ b) = either (c == unit_terminator) refl (none_before b)
   where
-    either : (here : Bool) → (c == unit_terminator) ≡ here → holds unit_terminator (take (position_or_len (λ d. d == unit_terminator) b) b) ≡ false → holds unit_terminator (take (cond (not here) (1 + position_or_len (λ d. d == unit_terminator) b) 0) (c ∷ b)) ≡ false
+    either : (here : Bool) → (c == unit_terminator) ≡ here → holds unit_terminator (take (position_or_len (λ d. d == unit_terminator) b) b) ≡
+        false → holds unit_terminator (take (cond (not here) (1 + position_or_len (λ d. d == unit_terminator) b) 0) (c ∷ b)) ≡ false
     either true is later = refl
     either false is later =
         let next : 1 + position_or_len (λ d. d == unit_terminator) b ≡ suc (position_or_len (λ d. d == unit_terminator) b) = omega arith in
         rw (next, is) later
 
 text_back : (b : List ℕ) (x : Subfield × List ℕ) → front text b ≡ Some x → IsFront text b x
-text_back b x e = mapped_back (λ (i : ℕ). (text_of (take i b), drop (i + 1) b)) (IsFront text b) (position (λ c. c == unit_terminator) b) x e (λ i is. tested (nat_lt (position_or_len (λ c. c == unit_terminator) b) (length b)) refl i is)
+text_back b x e = mapped_back (λ (i : ℕ). (text_of (take i b), drop (i + 1) b)) (IsFront text b) (position (λ c. c == unit_terminator) b) x e
+    (λ i is. tested (nat_lt (position_or_len (λ c. c == unit_terminator) b) (length b)) refl i is)
   where
-    tested : (found : Bool) → nat_lt (position_or_len (λ c. c == unit_terminator) b) (length b) ≡ found → (i : ℕ) → cond found (Some (position_or_len (λ c. c == unit_terminator) b)) None ≡ Some i
+    tested : (found : Bool) → nat_lt (position_or_len (λ c. c == unit_terminator) b) (length b) ≡ found → (i : ℕ)
+        → cond found (Some (position_or_len (λ c. c == unit_terminator) b)) None ≡ Some i
         → IsFront text b (text_of (take i b), drop (i + 1) b)
     tested false is i e = absurd cc
     tested true is i e =
@@ -151,7 +216,8 @@ units_back (c ∷ d ∷ rest) x e = tested ((c == unit_terminator) && (d == 0)) 
     both true b e = (refl, e)
     both false b e = absurd cc
 
-    tested : (here : Bool) → ((c == unit_terminator) && (d == 0)) ≡ here → ((y : List ℕ × List ℕ) → split_units rest ≡ Some y → IsUnits rest y) → cond here (Some ([], rest)) (option_map (λ y. (c ∷ d ∷ y.0, y.1)) (split_units rest)) ≡ Some x → IsUnits (c ∷ d ∷ rest) x
+    tested : (here : Bool) → ((c == unit_terminator) && (d == 0)) ≡ here → ((y : List ℕ × List ℕ) → split_units rest ≡ Some y → IsUnits rest y)
+        → cond here (Some ([], rest)) (option_map (λ y. (c ∷ d ∷ y.0, y.1)) (split_units rest)) ≡ Some x → IsUnits (c ∷ d ∷ rest) x
     tested true is behind e =
         let parts = both (c == unit_terminator) (d == 0) is in
         let low : c ≡ unit_terminator = grind (arith, nat_tests, parts.0) in
@@ -198,7 +264,8 @@ row_back [] b x all e =
     let start : List Subfield × List ℕ = ([], b) in
     let same : start ≡ x = cc in
     subst (IsRowFront [] b) same (record { is_row = record { forms_are = refl; each = tt }; bytes_are = refl })
-row_back (form ∷ forms) b x all e = bound_back (λ (y : Subfield × List ℕ). option_map (λ z. (y.0 ∷ z.0, z.1)) (cut_row forms y.1)) (IsRowFront (form ∷ forms) b x) (front form b) x e (λ y is more.
+row_back (form ∷ forms) b x all e = bound_back (λ (y : Subfield × List ℕ). option_map (λ z. (y.0 ∷ z.0, z.1)) (cut_row forms y.1))
+    (IsRowFront (form ∷ forms) b x) (front form b) x e (λ y is more.
     let first = front_back form b y all is in
     let parts = AreBytes-append (spelling y.0) y.1 (subst AreBytes first.bytes_are all) in
     mapped_back (λ (z : List Subfield × List ℕ). (y.0 ∷ z.0, z.1)) (IsRowFront (form ∷ forms) b) (cut_row forms y.1) x more (λ z was.
@@ -218,7 +285,8 @@ rows_back n forms [] rows all e =
     let same : [] ≡ rows = cc in
     subst (AreRows forms []) same (record { each = tt; bytes_are = refl })
 rows_back zero forms (c ∷ b) rows all e = absurd cc
-rows_back (suc n) forms (c ∷ b) rows all e = bound_back (λ (x : List Subfield × List ℕ). option_map (λ others. x.0 ∷ others) (cut_rows n forms x.1)) (AreRows forms (c ∷ b) rows) (cut_row forms (c ∷ b)) rows e (λ x is more.
+rows_back (suc n) forms (c ∷ b) rows all e = bound_back (λ (x : List Subfield × List ℕ). option_map (λ others. x.0 ∷ others)
+    (cut_rows n forms x.1)) (AreRows forms (c ∷ b) rows) (cut_row forms (c ∷ b)) rows e (λ x is more.
     let first = row_back forms (c ∷ b) x all is in
     let parts = AreBytes-append (row_bytes x.0) x.1 (subst AreBytes first.bytes_are all) in
     mapped_back (λ (others : List (List Subfield)). x.0 ∷ others) (AreRows forms (c ∷ b)) (cut_rows n forms x.1) rows more (λ others was.

@@ -42,7 +42,8 @@ later : (x : Subfield) (gs : List Form) (cut : Option (List Subfield × List ℕ
 later x gs None = refl
 later x gs (Some z) = with_row-with_row x z.0 (cut_row gs z.1)
 
-after : (fs gs : List Form) → ((b : List ℕ) → cut_row (fs ++ gs) b ≡ then_cut gs (cut_row fs b)) → (taken : Option (Subfield × List ℕ)) → then_row (fs ++ gs) taken ≡ then_cut gs (then_row fs taken)
+after : (fs gs : List Form) → ((b : List ℕ) → cut_row (fs ++ gs) b ≡ then_cut gs (cut_row fs b)) → (taken : Option (Subfield × List ℕ))
+    → then_row (fs ++ gs) taken ≡ then_cut gs (then_row fs taken)
 after fs gs rest None = refl
 after fs gs rest (Some x) = ap (with_row (x.0 ∷ [])) (rest x.1) ∙ later x.0 gs (cut_row fs x.1)
 

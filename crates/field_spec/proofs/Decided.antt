@@ -18,12 +18,14 @@ record IsValued {X : Type 0} (value : List Subfield → X) (good : List Subfield
   plain : list_all is_plain row ≡ true
   value_is : value row ≡ x
 
-row_judged : {X : Type 0} (value : List Subfield → X) (good : List Subfield → Bool) (cut : Option (List Subfield)) (x : X) → result_map_both value (λ e. e) (judged_row good cut) ≡ Ok x
+row_judged : {X : Type 0} (value : List Subfield → X) (good : List Subfield → Bool) (cut : Option (List Subfield)) (x : X)
+    → result_map_both value (λ e. e) (judged_row good cut) ≡ Ok x
     → (row : List Subfield) × (cut ≡ Some row) × IsValued value good row x
 row_judged value good None x is = absurd cc
 row_judged {X} value good (Some row) x is = by (good row) (list_all is_plain row) refl refl is
   where
-    by : (g p : Bool) → good row ≡ g → list_all is_plain row ≡ p → result_map_both value (λ e. e) (cond (not g) (Err BadField) (cond (not p) (Err BadText) (Ok row))) ≡ Ok x
+    by : (g p : Bool) → good row ≡ g → list_all is_plain row ≡ p
+        → result_map_both value (λ e. e) (cond (not g) (Err BadField) (cond (not p) (Err BadText) (Ok row))) ≡ Ok x
         → (found : List Subfield) × (Some row ≡ Some found) × IsValued value good found x
     by true true g p is = (row, refl, record { is_good = g; plain = p; value_is = cc })
     by true false g p is = absurd cc
@@ -34,7 +36,8 @@ record AreValued {X : Type 0} (value : List Subfield → X) (good : List Subfiel
   plain : list_all (list_all is_plain) rows ≡ true
   values_are : map value rows ≡ xs
 
-rows_judged : {X : Type 0} (value : List Subfield → X) (good : List Subfield → Bool) (cut : Option (List (List Subfield))) (xs : List X) → result_map_both (map value) (λ e. e) (judged good cut) ≡ Ok xs
+rows_judged : {X : Type 0} (value : List Subfield → X) (good : List Subfield → Bool) (cut : Option (List (List Subfield))) (xs : List X)
+    → result_map_both (map value) (λ e. e) (judged good cut) ≡ Ok xs
     → (rows : List (List Subfield)) × (cut ≡ Some rows) × AreValued value good rows xs
 rows_judged value good None xs is = absurd cc
 rows_judged {X} value good (Some rows) xs is = by (list_all good rows) (list_all (list_all is_plain) rows) refl refl is
@@ -47,14 +50,20 @@ rows_judged {X} value good (Some rows) xs is = by (list_all good rows) (list_all
     by false p g q is = absurd cc
 
 -- a field's rows tell their values, which pass a test, and each value that passes it has its row
-pub record Tells {X : Type 0} (row : X → List Subfield) (value : List Subfield → X) (forms : List Form) (good : List Subfield → Bool) (Passes : X → Type 0) : Type 0 where
+pub record Tells {X : Type 0} (row : X → List Subfield) (value : List Subfield → X) (forms : List Form) (good : List Subfield → Bool)
+    (Passes : X → Type 0) : Type 0 where
   pub respelled : (cut : List Subfield) → IsRow forms cut → good cut ≡ true → row (value cut) ≡ cut
   pub passes : (cut : List Subfield) → good cut ≡ true → Passes (value cut)
   pub valued : (x : X) → IsFit forms (row x) → Passes x → HasValue value forms good (row x) x
 
-module _ {X : Type 0} (row : X → List Subfield) (value : List Subfield → X) (forms : List Form) (good : List Subfield → Bool) (Passes : X → Type 0) (tells : Tells row value forms good Passes) where
+module _ {X : Type 0} (row : X → List Subfield) (value : List Subfield → X) (forms : List Form) (good : List Subfield → Bool)
+    (Passes : X → Type 0) (tells : Tells row value forms good Passes) where
   pub row_decided : (b : List ℕ) (x : X) → All (λ c. c < 256) b → (row_as value forms good b ≡ Ok x ↔ (SpellsRow forms (row x) b × Passes x))
-  row_decided b x bytes = (read, λ spelled. row_spelled value forms good (row x) x b (tells.valued x (record { is_row = spelled.0.is_field.is_row; has_plain_texts = spelled.0.has_plain_texts }) spelled.1) spelled.0.is_field)
+  row_decided b x bytes = (
+    read,
+    λ spelled. row_spelled value forms good (row x) x b
+        (tells.valued x (record { is_row = spelled.0.is_field.is_row; has_plain_texts = spelled.0.has_plain_texts }) spelled.1) spelled.0.is_field,
+  )
     where
       read : row_as value forms good b ≡ Ok x → SpellsRow forms (row x) b × Passes x
       read is =
@@ -66,21 +75,28 @@ module _ {X : Type 0} (row : X → List Subfield) (value : List Subfield → X) 
             subst Passes found.2.value_is (tells.passes cut found.2.is_good),
           )
 
-  rows_respelled : (rows : List (List Subfield)) → AllByRecursion (IsRow forms) rows → list_all good rows ≡ true → (map row (map value rows) ≡ rows) × AllByRecursion Passes (map value rows)
+  rows_respelled : (rows : List (List Subfield)) → AllByRecursion (IsRow forms) rows → list_all good rows ≡ true
+      → (map row (map value rows) ≡ rows) × AllByRecursion Passes (map value rows)
   rows_respelled [] are all = (refl, tt)
   rows_respelled (cut ∷ rows) are all =
       let parts = both_parts (good cut) (list_all good rows) all in
       let later = rows_respelled rows are.1 parts.1 in
       ((λ i. tells.respelled cut are.0 parts.0 i ∷ later.0 i), (tells.passes cut parts.0, later.1))
 
-  have_values_of : (xs : List X) → AllByRecursion (IsRow forms) (map row xs) → list_all (list_all is_plain) (map row xs) ≡ true → AllByRecursion Passes xs → HaveValues value forms good row xs
+  have_values_of : (xs : List X) → AllByRecursion (IsRow forms) (map row xs) → list_all (list_all is_plain) (map row xs) ≡ true
+      → AllByRecursion Passes xs → HaveValues value forms good row xs
   have_values_of [] are plain pass = tt
   have_values_of (x ∷ xs) are plain pass =
       let parts = both_parts (list_all is_plain (row x)) (list_all (list_all is_plain) (map row xs)) plain in
       (tells.valued x (record { is_row = are.0; has_plain_texts = parts.0 }) pass.0, have_values_of xs are.1 parts.1 pass.1)
 
-  pub rows_decided : (level : ℕ) → CanRepeat level forms → (b : List ℕ) (xs : List X) → All (λ c. c < 256) b → (rows_as value level forms good b ≡ Ok xs ↔ (SpellsRows level forms (map row xs) b × AllByRecursion Passes xs))
-  rows_decided level can b xs bytes = (read, λ spelled. rows_spelled value level forms good row xs b can (have_values_of xs spelled.0.is_field.each spelled.0.has_plain_texts spelled.1) spelled.0.is_field)
+  pub rows_decided : (level : ℕ) → CanRepeat level forms → (b : List ℕ) (xs : List X) → All (λ c. c < 256) b
+      → (rows_as value level forms good b ≡ Ok xs ↔ (SpellsRows level forms (map row xs) b × AllByRecursion Passes xs))
+  rows_decided level can b xs bytes = (
+    read,
+    λ spelled. rows_spelled value level forms good row xs b can
+        (have_values_of xs spelled.0.is_field.each spelled.0.has_plain_texts spelled.1) spelled.0.is_field,
+  )
     where
       read : rows_as value level forms good b ≡ Ok xs → SpellsRows level forms (map row xs) b × AllByRecursion Passes xs
       read is =
@@ -102,15 +118,29 @@ any_of [] = tt
 any_of (x ∷ xs) = (tt, any_of xs)
 
 -- a field of one row, and a field of rows, whose values need pass no test
-pub row_told : {X : Type 0} (row : X → List Subfield) (value : List Subfield → X) (forms : List Form) (good : List Subfield → Bool) → ((cut : List Subfield) → IsRow forms cut → good cut ≡ true → row (value cut) ≡ cut)
-    → ((x : X) → IsFit forms (row x) → HasValue value forms good (row x) x) → (b : List ℕ) (x : X) → All (λ c. c < 256) b → (row_as value forms good b ≡ Ok x ↔ SpellsRow forms (row x) b)
+pub row_told : {X : Type 0} (row : X → List Subfield) (value : List Subfield → X) (forms : List Form) (good : List Subfield → Bool)
+    → ((cut : List Subfield) → IsRow forms cut → good cut ≡ true → row (value cut) ≡ cut)
+    → ((x : X) → IsFit forms (row x) → HasValue value forms good (row x) x) → (b : List ℕ) (x : X) → All (λ c. c < 256) b
+    → (row_as value forms good b ≡ Ok x ↔ SpellsRow forms (row x) b)
 row_told row value forms good respelled valued b x bytes =
-    let decided = row_decided row value forms good Any (record { respelled = respelled; passes = λ cut good. tt; valued = λ x is any. valued x is }) b x bytes in
+    let decided = row_decided row value forms good Any (record {
+      respelled = respelled;
+      passes = λ cut good. tt;
+      valued =
+          λ x is any. valued x is;
+    }) b x bytes in
     ((λ is. (decided.0 is).0), (λ spelled. decided.1 (spelled, tt)))
 
-pub rows_told : {X : Type 0} (row : X → List Subfield) (value : List Subfield → X) (level : ℕ) (forms : List Form) (good : List Subfield → Bool) → CanRepeat level forms
-    → ((cut : List Subfield) → IsRow forms cut → good cut ≡ true → row (value cut) ≡ cut) → ((x : X) → IsFit forms (row x) → HasValue value forms good (row x) x)
+pub rows_told : {X : Type 0} (row : X → List Subfield) (value : List Subfield → X) (level : ℕ) (forms : List Form) (good : List Subfield → Bool)
+    → CanRepeat level forms
+    → ((cut : List Subfield) → IsRow forms cut → good cut ≡ true → row (value cut) ≡ cut)
+    → ((x : X) → IsFit forms (row x) → HasValue value forms good (row x) x)
     → (b : List ℕ) (xs : List X) → All (λ c. c < 256) b → (rows_as value level forms good b ≡ Ok xs ↔ SpellsRows level forms (map row xs) b)
 rows_told row value level forms good can respelled valued b xs bytes =
-    let decided = rows_decided row value forms good Any (record { respelled = respelled; passes = λ cut good. tt; valued = λ x is any. valued x is }) level can b xs bytes in
+    let decided = rows_decided row value forms good Any (record {
+      respelled = respelled;
+      passes = λ cut good. tt;
+      valued =
+          λ x is any. valued x is;
+    }) level can b xs bytes in
     ((λ is. (decided.0 is).0), (λ spelled. decided.1 (spelled, any_of xs)))

@@ -1,5 +1,40 @@
 -- The rows into which a field is cut spell its bytes.
-use Rattle.std.proofs.Common.{◌≡◌, ◌⊎◌, ◌↔◌, inl, inr, ℕ, suc, ◌-◌, ◌%◌, ◌<◌, ◌==◌, ◌&&◌, Bool, true, false, cond, List, [], ◌∷◌, ◌++◌, length, take, drop, nat_lt, slice_index, Option, Some, None, refl, sym, ap, ◌∙◌, subst, arith}
+use Rattle.std.proofs.Common.{
+  ◌≡◌,
+  ◌⊎◌,
+  ◌↔◌,
+  inl,
+  inr,
+  ℕ,
+  suc,
+  ◌-◌,
+  ◌%◌,
+  ◌<◌,
+  ◌==◌,
+  ◌&&◌,
+  Bool,
+  true,
+  false,
+  cond,
+  List,
+  [],
+  ◌∷◌,
+  ◌++◌,
+  length,
+  take,
+  drop,
+  nat_lt,
+  slice_index,
+  Option,
+  Some,
+  None,
+  refl,
+  sym,
+  ap,
+  ◌∙◌,
+  subst,
+  arith,
+}
 use Rattle.std.specs.Prelude.{All}
 use Rattle.std.proofs.lemmas.List.{take-append-drop, append-nil, drop_all}
 use Rattle.std.proofs.Math.Seq.{drop-cons}
@@ -33,13 +68,15 @@ last_two b some =
     let n = length b - 2 in
     let next : suc n ≡ length b - 1 = omega arith in
     let none : drop (suc (length b - 1)) b ≡ [] = drop_all (suc (length b - 1)) b (omega arith) in
-    let behind : drop (suc n) b ≡ slice_index b (length b - 1) ∷ [] = ap (λ m. drop m b) next ∙ drop-cons b (length b - 1) 0 (omega arith) ∙ ap (λ t. slice_index b (length b - 1) ∷ t) none in
+    let behind : drop (suc n) b ≡ slice_index b (length b - 1) ∷ [] = ap (λ m. drop m b) next ∙ drop-cons b (length b - 1) 0 (omega arith)
+    ∙ ap (λ t. slice_index b (length b - 1) ∷ t) none in
     sym (take-append-drop n b) ∙ ap (λ t. take n b ++ t) (drop-cons b n 0 (omega arith) ∙ ap (λ t. slice_index b n ∷ t) behind)
 
 terminator_back : (b body : List ℕ) → before_terminator b ≡ Some body → b ≡ body ++ (field_terminator ∷ [])
 terminator_back b body e = tested (nat_lt 0 (length b) && (slice_index b (length b - 1) == field_terminator)) refl e
   where
-    tested : (good : Bool) → (nat_lt 0 (length b) && (slice_index b (length b - 1) == field_terminator)) ≡ good → cond good (Some (take (length b - 1) b)) None ≡ Some body → b ≡ body ++ (field_terminator ∷ [])
+    tested : (good : Bool) → (nat_lt 0 (length b) && (slice_index b (length b - 1) == field_terminator)) ≡ good
+        → cond good (Some (take (length b - 1) b)) None ≡ Some body → b ≡ body ++ (field_terminator ∷ [])
     tested false is e = absurd cc
     tested true is e =
         let parts = both_true (nat_lt 0 (length b)) (slice_index b (length b - 1) == field_terminator) is in
@@ -65,10 +102,13 @@ wide_terminator_back b body e = odd (length b % 2 == 1) e
         let mark : slice_index b (length b - 2) ≡ field_terminator = grind (arith, nat_tests, inner.1) in
         let last : slice_index b (length b - 1) ≡ 0 = grind (arith, nat_tests, outer.1) in
         let same : take (length b - 2) b ≡ body = cc in
-        inl (last_two b some ∙ ap (λ c. take (length b - 2) b ++ (c ∷ slice_index b (length b - 1) ∷ [])) mark ∙ ap (λ c. take (length b - 2) b ++ (field_terminator ∷ c ∷ [])) last
+        inl (last_two b some ∙ ap (λ c. take (length b - 2) b ++ (c ∷ slice_index b (length b - 1) ∷ [])) mark
+        ∙ ap (λ c. take (length b - 2) b ++ (field_terminator ∷ c ∷ [])) last
         ∙ ap (λ t. t ++ (field_terminator ∷ 0 ∷ [])) same)
 
-    odd : (is_odd : Bool) → cond is_odd (before_terminator b) (cond (nat_lt 1 (length b) && (slice_index b (length b - 2) == field_terminator) && (slice_index b (length b - 1) == 0)) (Some (take (length b - 2) b)) None) ≡ Some body
+    odd : (is_odd : Bool) → cond is_odd (before_terminator b)
+        (cond (nat_lt 1 (length b) && (slice_index b (length b - 2) == field_terminator) && (slice_index b (length b - 1) == 0))
+        (Some (take (length b - 2) b)) None) ≡ Some body
         → EndsWide b body
     odd true e = inr (terminator_back b body e)
     odd false e = tested (nat_lt 1 (length b) && (slice_index b (length b - 2) == field_terminator) && (slice_index b (length b - 1) == 0)) refl e
@@ -85,7 +125,8 @@ whole_back (Some x) row e = left x.0 x.1 e
         absurd cc
 
 field_back : (forms : List Form) (bytes : List ℕ) (row : List Subfield) → AreBytes bytes → field_row forms bytes ≡ Some row → IsField forms bytes row
-field_back forms bytes row all e = bound_back (λ (body : List ℕ). whole (cut_row forms body)) (IsField forms bytes row) (before_terminator bytes) row e (λ body is is_cut.
+field_back forms bytes row all e = bound_back (λ (body : List ℕ). whole (cut_row forms body)) (IsField forms bytes row)
+    (before_terminator bytes) row e (λ body is is_cut.
     let ends = terminator_back bytes body is in
     let parts = AreBytes-append body (field_terminator ∷ []) (subst AreBytes ends all) in
     let found = row_back forms body (row, []) parts.0 (whole_back (cut_row forms body) row is_cut) in
@@ -95,7 +136,8 @@ field_back forms bytes row all e = bound_back (λ (body : List ℕ). whole (cut_
     })
 
 -- a field of one row is decided
-pub field_is_decided_lem : (forms : List Form) (bytes : List ℕ) (row : List Subfield) → All (λ b. b < 256) bytes → (IsField forms bytes row ↔ (field_row forms bytes ≡ Some row))
+pub field_is_decided_lem : (forms : List Form) (bytes : List ℕ) (row : List Subfield) → All (λ b. b < 256) bytes
+    → (IsField forms bytes row ↔ (field_row forms bytes ≡ Some row))
 field_is_decided_lem forms bytes row all = (row_of_field forms bytes row, field_back forms bytes row (all_bytes bytes all))
 
 -- the field's bytes are these with a terminator of the level
@@ -111,8 +153,10 @@ body_bytes true b body all (inl two) = (AreBytes-append body (field_terminator �
 body_bytes true b body all (inr one) = (AreBytes-append body (field_terminator ∷ []) (subst AreBytes one all)).0
 body_bytes false b body all one = (AreBytes-append body (field_terminator ∷ []) (subst AreBytes one all)).0
 
-rows_back_at_level : (level : ℕ) (forms : List Form) (bytes : List ℕ) (rows : List (List Subfield)) → AreBytes bytes → field_rows level forms bytes ≡ Some rows → IsFieldOfRows level forms bytes rows
-rows_back_at_level level forms bytes rows all e = bound_back (λ (body : List ℕ). cut_rows (length body) forms body) (IsFieldOfRows level forms bytes rows) (body_at_level level bytes) rows e (λ body is is_cut.
+rows_back_at_level : (level : ℕ) (forms : List Form) (bytes : List ℕ) (rows : List (List Subfield)) → AreBytes bytes
+    → field_rows level forms bytes ≡ Some rows → IsFieldOfRows level forms bytes rows
+rows_back_at_level level forms bytes rows all e = bound_back (λ (body : List ℕ). cut_rows (length body) forms body)
+    (IsFieldOfRows level forms bytes rows) (body_at_level level bytes) rows e (λ body is is_cut.
     let ends = level_back (level == 2) bytes body is in
     let found = rows_back (length body) forms body rows (body_bytes (level == 2) bytes body all ends) is_cut in
     record {
@@ -121,6 +165,8 @@ rows_back_at_level level forms bytes rows all e = bound_back (λ (body : List �
     })
 
 -- a field whose row repeats is decided
-pub rows_are_decided_lem : (level : ℕ) (forms : List Form) (bytes : List ℕ) (rows : List (List Subfield)) → has_bytes forms ≡ true → fits_level level forms ≡ true → All (λ b. b < 256) bytes
+pub rows_are_decided_lem : (level : ℕ) (forms : List Form) (bytes : List ℕ) (rows : List (List Subfield)) → has_bytes forms ≡ true
+    → fits_level level forms ≡ true → All (λ b. b < 256) bytes
     → (IsFieldOfRows level forms bytes rows ↔ (field_rows level forms bytes ≡ Some rows))
-rows_are_decided_lem level forms bytes rows takes even all = (rows_of_field level forms bytes rows takes even, rows_back_at_level level forms bytes rows (all_bytes bytes all))
+rows_are_decided_lem level forms bytes rows takes even all =
+    (rows_of_field level forms bytes rows takes even, rows_back_at_level level forms bytes rows (all_bytes bytes all))

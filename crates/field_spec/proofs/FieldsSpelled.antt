@@ -1,5 +1,41 @@
 -- The bytes of a field that spell rows are cut into these rows.
-use Rattle.std.proofs.Common.{◌≡◌, ◌⊎◌, inl, inr, ℕ, zero, suc, ◌+◌, ◌-◌, ◌%◌, ◌<◌, ◌≤◌, ◌==◌, ◌&&◌, ◌||◌, Bool, true, false, cond, List, [], ◌∷◌, ◌++◌, length, map, take, nat_lt, slice_index, Some, refl, sym, ap, ◌∙◌, length-append, arith}
+use Rattle.std.proofs.Common.{
+  ◌≡◌,
+  ◌⊎◌,
+  inl,
+  inr,
+  ℕ,
+  zero,
+  suc,
+  ◌+◌,
+  ◌-◌,
+  ◌%◌,
+  ◌<◌,
+  ◌≤◌,
+  ◌==◌,
+  ◌&&◌,
+  ◌||◌,
+  Bool,
+  true,
+  false,
+  cond,
+  List,
+  [],
+  ◌∷◌,
+  ◌++◌,
+  length,
+  map,
+  take,
+  nat_lt,
+  slice_index,
+  Some,
+  refl,
+  sym,
+  ap,
+  ◌∙◌,
+  length-append,
+  arith,
+}
 use Rattle.std.proofs.Math.Seq.{take-append_seam, get_or-append_seam}
 use Rattle.std.proofs.lemmas.List.{append-nil, get_or-append-add}
 use Rattle.std.proofs.lemmas.Bool.Decides.{nat_tests}
@@ -8,7 +44,21 @@ use Rattle.std.specs.Option.{option_map, option_and_then}
 use Rattle.std.specs.List.{flat_map, list_all, AllByRecursion}
 use Rattle.std.specs.Int.{w32, cast_unsigned}
 use Rattle.byteorder.specs.Numbers.{length-bytes_low_first}
-use Rattle.s57_types.specs.Subfield.{Form, Subfield, unsigned_of, signed_of, text_of, wide_text_of, fixed_of, form_of, spelling, row_bytes, IsSubfield, unit_terminator, field_terminator}
+use Rattle.s57_types.specs.Subfield.{
+  Form,
+  Subfield,
+  unsigned_of,
+  signed_of,
+  text_of,
+  wide_text_of,
+  fixed_of,
+  form_of,
+  spelling,
+  row_bytes,
+  IsSubfield,
+  unit_terminator,
+  field_terminator,
+}
 use Rattle.field_spec.specs.Cutting.{cut_row, cut_rows, before_terminator, before_wide_terminator, whole, field_row, field_rows}
 use Rattle.field_spec.specs.FieldContent.{IsRow, IsField, IsFieldOfRows}
 use Rattle.field_spec.specs.FieldFit.{takes_bytes, has_bytes, is_even, fits_level}
@@ -93,7 +143,8 @@ row_then forms row rest is = ap (λ f. cut_row f (row_bytes row ++ rest)) (sym i
 row_takes : (forms : List Form) (row : List Subfield) → has_bytes forms ≡ true → IsRow forms row → 0 < length (row_bytes row)
 row_takes forms row takes is = row_some row (ap has_bytes is.forms_are ∙ takes)
 
-cut_rows_spelling : (forms : List Form) (rows : List (List Subfield)) (n : ℕ) → has_bytes forms ≡ true → AllByRecursion (IsRow forms) rows → length (flat_map row_bytes rows) ≤ n
+cut_rows_spelling : (forms : List Form) (rows : List (List Subfield)) (n : ℕ) → has_bytes forms ≡ true → AllByRecursion (IsRow forms) rows
+    → length (flat_map row_bytes rows) ≤ n
     → cut_rows n forms (flat_map row_bytes rows) ≡ Some rows
 cut_rows_spelling forms [] n takes fits few = refl
 cut_rows_spelling forms (row ∷ rows) zero takes fits few =
@@ -124,18 +175,23 @@ row_even (s ∷ row) even fits =
     let parts = both_true (is_even (form_of s)) (list_all is_even (map form_of row)) even in
     joined_even (spelling s) (row_bytes row) (spelling_even s parts.0 fits.0) (row_even row parts.1 fits.1)
 
-rows_even : (forms : List Form) (rows : List (List Subfield)) → list_all is_even forms ≡ true → AllByRecursion (IsRow forms) rows → length (flat_map row_bytes rows) % 2 ≡ 0
+rows_even : (forms : List Form) (rows : List (List Subfield)) → list_all is_even forms ≡ true → AllByRecursion (IsRow forms) rows
+    → length (flat_map row_bytes rows) % 2 ≡ 0
 rows_even forms [] even fits = refl
 rows_even forms (row ∷ rows) even fits =
-    joined_even (row_bytes row) (flat_map row_bytes rows) (row_even row (ap (list_all is_even) fits.0.forms_are ∙ even) fits.0.each) (rows_even forms rows even fits.1)
+    joined_even (row_bytes row) (flat_map row_bytes rows) (row_even row (ap (list_all is_even) fits.0.forms_are ∙ even) fits.0.each)
+    (rows_even forms rows even fits.1)
 
-by_level : (wide : Bool) (forms : List Form) (rows : List (List Subfield)) (bytes : List ℕ) → cond wide (list_all is_even forms) true ≡ true → AllByRecursion (IsRow forms) rows
+by_level : (wide : Bool) (forms : List Form) (rows : List (List Subfield)) (bytes : List ℕ) → cond wide (list_all is_even forms) true ≡ true
+    → AllByRecursion (IsRow forms) rows
     → MatchBool wide
     ((bytes ≡ flat_map row_bytes rows ++ (field_terminator ∷ 0 ∷ [])) ⊎ (bytes ≡ flat_map row_bytes rows ++ (field_terminator ∷ [])))
     (bytes ≡ flat_map row_bytes rows ++ (field_terminator ∷ []))
     → cond wide (before_wide_terminator bytes) (before_terminator bytes) ≡ Some (flat_map row_bytes rows)
-by_level true forms rows bytes even fits (inl two) = ap before_wide_terminator two ∙ before_wide_terminator-two (flat_map row_bytes rows) (rows_even forms rows even fits)
-by_level true forms rows bytes even fits (inr one) = ap before_wide_terminator one ∙ before_wide_terminator-one (flat_map row_bytes rows) (rows_even forms rows even fits)
+by_level true forms rows bytes even fits (inl two) = ap before_wide_terminator two ∙ before_wide_terminator-two (flat_map row_bytes rows)
+    (rows_even forms rows even fits)
+by_level true forms rows bytes even fits (inr one) = ap before_wide_terminator one ∙ before_wide_terminator-one (flat_map row_bytes rows)
+    (rows_even forms rows even fits)
 by_level false forms rows bytes even fits one = ap before_terminator one ∙ before_terminator-append (flat_map row_bytes rows)
 
 -- a field whose row repeats is cut into its rows

@@ -2,10 +2,75 @@
 use Rattle.std.proofs.Common.{◌≡◌, ℕ, suc, ◌==◌, Bool, true, false, cond, List, [], ◌∷◌, map, slice_get, Option, Some, refl, sym, ap, ◌∙◌}
 use Rattle.std.proofs.lemmas.Bool.Decides.{nat_tests}
 use Rattle.std.proofs.Common.{arith}
-use Rattle.s57_types.specs.Subfield.{Form, Subfield, unsigned, signed, text, wide_text, fixed, b11, b12, unsigned_of, signed_of, text_of, wide_text_of, fixed_of, form_of}
-use Rattle.s57_types.specs.FieldRows.{rcnm_of, dsid_forms, dsid_row, dssi_forms, dssi_row, dspm_forms, dspm_row, frid_forms, frid_row, foid_forms, foid_row, attribute_forms, attribute_row, partner_forms, partner_row, place_forms, place_row, vrid_forms, vrid_row, end_forms, end_row, plane_forms, plane_row, deep_forms, deep_row, number_forms, number_row}
+use Rattle.s57_types.specs.Subfield.{
+  Form,
+  Subfield,
+  unsigned,
+  signed,
+  text,
+  wide_text,
+  fixed,
+  b11,
+  b12,
+  unsigned_of,
+  signed_of,
+  text_of,
+  wide_text_of,
+  fixed_of,
+  form_of,
+}
+use Rattle.s57_types.specs.FieldRows.{
+  rcnm_of,
+  dsid_forms,
+  dsid_row,
+  dssi_forms,
+  dssi_row,
+  dspm_forms,
+  dspm_row,
+  frid_forms,
+  frid_row,
+  foid_forms,
+  foid_row,
+  attribute_forms,
+  attribute_row,
+  partner_forms,
+  partner_row,
+  place_forms,
+  place_row,
+  vrid_forms,
+  vrid_row,
+  end_forms,
+  end_row,
+  plane_forms,
+  plane_row,
+  deep_forms,
+  deep_row,
+  number_forms,
+  number_row,
+}
 use Rattle.s57_types.specs.Fitness.{is_vector_kind}
-use Rattle.field_spec.specs.Contents.{number_value, signed_value, text_value, number_in, text_in, kind_of_rcnm, is_vector_rcnm, names_a_vector, dsid_value, dssi_value, dspm_value, frid_value, lnam_in, attribute_value, partner_value, place_value, vrid_value, end_value, plane_value, deep_value}
+use Rattle.field_spec.specs.Contents.{
+  number_value,
+  signed_value,
+  text_value,
+  number_in,
+  text_in,
+  kind_of_rcnm,
+  is_vector_rcnm,
+  names_a_vector,
+  dsid_value,
+  dssi_value,
+  dspm_value,
+  frid_value,
+  lnam_in,
+  attribute_value,
+  partner_value,
+  place_value,
+  vrid_value,
+  end_value,
+  plane_value,
+  deep_value,
+}
 use Rattle.field_spec.specs.FieldContent.{IsRow}
 
 -- the subfield of a form that has the value of a subfield
@@ -36,7 +101,8 @@ pub row_retold : (forms : List Form) (row : List Subfield) → IsRow forms row �
 row_retold forms row is = ap (λ fs. retold fs (slice_get row)) (sym is.forms_are) ∙ retold_itself row
 
 -- the same where the first number is given
-first_given : (n : ℕ) (forms : List Form) (row : List Subfield) → IsRow (b11 ∷ forms) row → number_in row 0 ≡ n → unsigned_of 1 n ∷ retold forms (λ k. slice_get row (suc k)) ≡ row
+first_given : (n : ℕ) (forms : List Form) (row : List Subfield) → IsRow (b11 ∷ forms) row → number_in row 0 ≡ n
+    → unsigned_of 1 n ∷ retold forms (λ k. slice_get row (suc k)) ≡ row
 first_given n forms row is given = ap (λ m. unsigned_of 1 m ∷ retold forms (λ k. slice_get row (suc k))) (sym given) ∙ row_retold (b11 ∷ forms) row is
 
 pub number_respelled : (row : List Subfield) → IsRow number_forms row → number_row (number_in row 0) ≡ row
@@ -63,7 +129,8 @@ rcnm_of_known n known = isolated (n == 110) refl
   where
     edge : (b : Bool) → (n == 130) ≡ b → (n == 110) ≡ false → (n == 120) ≡ false → (n ≡ rcnm_of (kind_of_rcnm n)) × (is_vector_kind (kind_of_rcnm n) ≡ true)
     edge true is not_isolated not_connected = (rw (not_isolated, not_connected, is) (grind (arith, nat_tests)), rw (not_isolated, not_connected, is) refl)
-    edge false is not_isolated not_connected = absurd (let none : is_vector_rcnm n ≡ false = rw (not_isolated, not_connected, is) refl in let both : true ≡ false = sym known ∙ none in cc both)
+    edge false is not_isolated not_connected = absurd (let none : is_vector_rcnm n ≡ false = rw (not_isolated, not_connected, is) refl in
+        let both : true ≡ false = sym known ∙ none in cc both)
 
     connected : (b : Bool) → (n == 120) ≡ b → (n == 110) ≡ false → (n ≡ rcnm_of (kind_of_rcnm n)) × (is_vector_kind (kind_of_rcnm n) ≡ true)
     connected true is not_isolated = (rw (not_isolated, is) (grind (arith, nat_tests)), rw (not_isolated, is) refl)
@@ -82,7 +149,8 @@ vrid_respelled row is good = first_given _ _ row is (rcnm_of_known (number_in ro
 pub attribute_respelled : (level : ℕ) (row : List Subfield) → IsRow (attribute_forms level) row → attribute_row level (attribute_value row) ≡ row
 attribute_respelled level row is = by_level (level == 2) (row_retold (attribute_forms level) row is)
   where
-    by_level : (wide : Bool) → retold (b12 ∷ cond wide wide_text text ∷ []) (slice_get row) ≡ row → unsigned_of 2 (number_in row 0) ∷ cond wide (wide_text_of (text_in row 1)) (text_of (text_in row 1)) ∷ [] ≡ row
+    by_level : (wide : Bool) → retold (b12 ∷ cond wide wide_text text ∷ []) (slice_get row) ≡ row
+        → unsigned_of 2 (number_in row 0) ∷ cond wide (wide_text_of (text_in row 1)) (text_of (text_in row 1)) ∷ [] ≡ row
     by_level true told = told
     by_level false told = told
 

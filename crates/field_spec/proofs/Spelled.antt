@@ -1,5 +1,38 @@
 -- The bytes that spell subfields are cut into these subfields.
-use Rattle.std.proofs.Common.{◌≡◌, ℕ, ◌+◌, ◌%◌, ◌^◌, ◌<◌, ◌==◌, ◌&&◌, ◌||◌, Bool, true, false, not, List, [], ◌∷◌, ◌++◌, length, map, take, drop, position, nat_lt, Option, Some, refl, sym, ap, ◌∙◌, append_assoc, length-append, arith}
+use Rattle.std.proofs.Common.{
+  ◌≡◌,
+  ℕ,
+  ◌+◌,
+  ◌%◌,
+  ◌^◌,
+  ◌<◌,
+  ◌==◌,
+  ◌&&◌,
+  ◌||◌,
+  Bool,
+  true,
+  false,
+  not,
+  List,
+  [],
+  ◌∷◌,
+  ◌++◌,
+  length,
+  map,
+  take,
+  drop,
+  position,
+  nat_lt,
+  Option,
+  Some,
+  refl,
+  sym,
+  ap,
+  ◌∙◌,
+  append_assoc,
+  length-append,
+  arith,
+}
 use Rattle.std.specs.Prelude.{ℤ, FitsSigned}
 use Rattle.std.proofs.Math.Seq.{take-append_seam, drop-append_seam}
 use Rattle.std.proofs.lemmas.List.{append-nil}
@@ -10,7 +43,25 @@ use Rattle.std.specs.List.{prefix_len, AllByRecursion}
 use Rattle.std.specs.Int.{w32, cast_unsigned, cast_signed, bytes_low_first}
 use Rattle.byteorder.specs.Endian.{little_number, little_from}
 use Rattle.byteorder.specs.Numbers.{little_number-reads_back, length-bytes_low_first}
-use Rattle.s57_types.specs.Subfield.{Subfield, unsigned, signed, text, wide_text, unsigned_of, signed_of, text_of, wide_text_of, fixed_of, form_of, spelling, row_bytes, IsSubfield, unit_terminator, holds, has_unit}
+use Rattle.s57_types.specs.Subfield.{
+  Subfield,
+  unsigned,
+  signed,
+  text,
+  wide_text,
+  unsigned_of,
+  signed_of,
+  text_of,
+  wide_text_of,
+  fixed_of,
+  form_of,
+  spelling,
+  row_bytes,
+  IsSubfield,
+  unit_terminator,
+  holds,
+  has_unit,
+}
 use Rattle.field_spec.specs.Cutting.{split, split_units, front, cut_row}
 
 -- a subfield and the bytes after it
@@ -38,7 +89,8 @@ unsigned_front w n rest fits =
 
 signed_front : (z : ℤ) (rest : List ℕ) → FitsSigned w32 z → front signed (bytes_low_first 0 4 (cast_unsigned w32 z) ++ rest) ≡ cut_off (signed_of z) rest
 signed_front z rest fits =
-    ap (option_map (with_bytes (λ b. signed_of (cast_signed w32 (little_number 4 b))))) (split_append 4 (bytes_low_first 0 4 (cast_unsigned w32 z)) rest (length-bytes_low_first 0 4 (cast_unsigned w32 z)))
+    ap (option_map (with_bytes (λ b. signed_of (cast_signed w32 (little_number 4 b)))))
+    (split_append 4 (bytes_low_first 0 4 (cast_unsigned w32 z)) rest (length-bytes_low_first 0 4 (cast_unsigned w32 z)))
     ∙ ap (λ m. cut_off (signed_of (cast_signed w32 m)) rest) (number_reads 4 (cast_unsigned w32 z) (Fits-lt-pow (Fits-of_z fits)))
     ∙ ap (λ y. cut_off (signed_of y) rest) (to_z-of_z fits)
 
@@ -64,7 +116,8 @@ text_front t rest none =
     let at : position (λ c. c == unit_terminator) b ≡ Some (length t) = rw (place, found) refl in
     let first = take-append_seam t (unit_terminator ∷ rest) in
     let size : length (t ++ (unit_terminator ∷ [])) ≡ length t + 1 = length-append t (unit_terminator ∷ []) in
-    let later : drop (length t + 1) b ≡ rest = ap (λ n. drop n b) (sym size) ∙ ap (drop (length (t ++ (unit_terminator ∷ [])))) (sym regroup) ∙ drop-append_seam (t ++ (unit_terminator ∷ [])) rest in
+    let later : drop (length t + 1) b ≡ rest = ap (λ n. drop n b) (sym size) ∙ ap (drop (length (t ++ (unit_terminator ∷ [])))) (sym regroup)
+    ∙ drop-append_seam (t ++ (unit_terminator ∷ [])) rest in
     ap (front text) regroup ∙ rw (at, first, later) refl
 
 wide_front : (t rest : List ℕ) → length t % 2 ≡ 0 → has_unit unit_terminator t ≡ false → split_units (t ++ (unit_terminator ∷ 0 ∷ rest)) ≡ cut_off t rest
@@ -86,7 +139,8 @@ front_spelling (wide_text_of t) rest fits =
 front_spelling (fixed_of t) rest fits = ap (option_map (with_bytes fixed_of)) (split_append (length t) t rest refl)
 
 -- a row is cut off from the bytes that begin with its spelling
-pub cut_row_spelling : (row : List Subfield) (rest : List ℕ) → AllByRecursion IsSubfield row → cut_row (map form_of row) (row_bytes row ++ rest) ≡ cut_off row rest
+pub cut_row_spelling : (row : List Subfield) (rest : List ℕ) → AllByRecursion IsSubfield row
+    → cut_row (map form_of row) (row_bytes row ++ rest) ≡ cut_off row rest
 cut_row_spelling [] rest fits = refl
 cut_row_spelling (s ∷ row) rest fits =
     ap (cut_row (form_of s ∷ map form_of row)) (append_assoc (spelling s) (row_bytes row) rest)

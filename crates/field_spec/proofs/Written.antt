@@ -1,10 +1,49 @@
 -- Fields that were written are read as their values.
-use Rattle.std.proofs.Common.{◌≡◌, ◌⊎◌, inl, ℕ, ◌==◌, ◌&&◌, Bool, true, false, not, cond, slice_get, List, [], ◌∷◌, ◌++◌, length, map, Ok, Err, refl, sym, ap, ◌∙◌, arith}
+use Rattle.std.proofs.Common.{
+  ◌≡◌,
+  ◌⊎◌,
+  inl,
+  ℕ,
+  ◌==◌,
+  ◌&&◌,
+  Bool,
+  true,
+  false,
+  not,
+  cond,
+  slice_get,
+  List,
+  [],
+  ◌∷◌,
+  ◌++◌,
+  length,
+  map,
+  Ok,
+  Err,
+  refl,
+  sym,
+  ap,
+  ◌∙◌,
+  arith,
+}
 use Rattle.std.specs.Bool.{MatchBool}
 use Rattle.std.proofs.lemmas.List.{length-map}
 use Rattle.std.specs.List.{flat_map, list_all, AllByRecursion}
 use Rattle.std.specs.Result.{result_map_both}
-use Rattle.s57_types.specs.Subfield.{Form, Subfield, form_of, row_bytes, field_terminator, is_plain, text, wide_text, unsigned, unsigned_of, text_of, wide_text_of}
+use Rattle.s57_types.specs.Subfield.{
+  Form,
+  Subfield,
+  form_of,
+  row_bytes,
+  field_terminator,
+  is_plain,
+  text,
+  wide_text,
+  unsigned,
+  unsigned_of,
+  text_of,
+  wide_text_of,
+}
 use Rattle.s57_types.specs.FieldRows.{dssi_forms, dssi_row, rcnm_of, attribute_forms, attribute_row}
 use Rattle.s57_types.specs.RecordFields.{terminator_of}
 use Rattle.s57_types.specs.Fitness.{is_vector_kind}
@@ -31,14 +70,16 @@ judged_good value true true row e f = refl
 judged_good value true false row e f = absurd cc
 judged_good value false p row e f = absurd cc
 
-pub row_spelled : {X : Type 0} (value : List Subfield → X) (forms : List Form) (good : List Subfield → Bool) (row : List Subfield) (x : X) (bytes : List ℕ) → HasValue value forms good row x
+pub row_spelled : {X : Type 0} (value : List Subfield → X) (forms : List Form) (good : List Subfield → Bool) (row : List Subfield)
+    (x : X) (bytes : List ℕ) → HasValue value forms good row x
     → IsField forms bytes row → row_as value forms good bytes ≡ Ok x
 row_spelled value forms good row x bytes has field =
     ap (λ r. result_map_both value (λ e. e) (judged_row good r)) (row_of_field forms bytes row field)
     ∙ judged_good value (good row) (list_all is_plain row) row has.is_good has.fit.has_plain_texts
     ∙ ap Ok has.value_is
 
-pub row_written : {X : Type 0} (value : List Subfield → X) (forms : List Form) (good : List Subfield → Bool) (row : List Subfield) (x : X) → HasValue value forms good row x
+pub row_written : {X : Type 0} (value : List Subfield → X) (forms : List Form) (good : List Subfield → Bool) (row : List Subfield) (x : X)
+    → HasValue value forms good row x
     → row_as value forms good (field_bytes row) ≡ Ok x
 row_written value forms good row x has = row_spelled value forms good row x (field_bytes row) has (record { is_row = has.fit.is_row; bytes_are = refl })
 
@@ -53,20 +94,25 @@ bytes_of_rows : {X : Type 0} (row : X → List Subfield) (xs : List X) → flat_
 bytes_of_rows row [] = refl
 bytes_of_rows row (x ∷ xs) = ap (λ t. row_bytes (row x) ++ t) (bytes_of_rows row xs)
 
-rows_good : {X : Type 0} (value : List Subfield → X) (forms : List Form) (good : List Subfield → Bool) (row : X → List Subfield) (xs : List X) → HaveValues value forms good row xs → list_all good (map row xs) ≡ true
+rows_good : {X : Type 0} (value : List Subfield → X) (forms : List Form) (good : List Subfield → Bool) (row : X → List Subfield) (xs : List X)
+    → HaveValues value forms good row xs → list_all good (map row xs) ≡ true
 rows_good value forms good row [] have = refl
 rows_good value forms good row (x ∷ xs) have = both (good (row x)) (list_all good (map row xs)) have.0.is_good (rows_good value forms good row xs have.1)
 
-rows_plain : {X : Type 0} (value : List Subfield → X) (forms : List Form) (good : List Subfield → Bool) (row : X → List Subfield) (xs : List X) → HaveValues value forms good row xs
+rows_plain : {X : Type 0} (value : List Subfield → X) (forms : List Form) (good : List Subfield → Bool) (row : X → List Subfield) (xs : List X)
+    → HaveValues value forms good row xs
     → list_all (list_all is_plain) (map row xs) ≡ true
 rows_plain value forms good row [] have = refl
-rows_plain value forms good row (x ∷ xs) have = both (list_all is_plain (row x)) (list_all (list_all is_plain) (map row xs)) have.0.fit.has_plain_texts (rows_plain value forms good row xs have.1)
+rows_plain value forms good row (x ∷ xs) have = both (list_all is_plain (row x))
+    (list_all (list_all is_plain) (map row xs)) have.0.fit.has_plain_texts (rows_plain value forms good row xs have.1)
 
-rows_valued : {X : Type 0} (value : List Subfield → X) (forms : List Form) (good : List Subfield → Bool) (row : X → List Subfield) (xs : List X) → HaveValues value forms good row xs → map value (map row xs) ≡ xs
+rows_valued : {X : Type 0} (value : List Subfield → X) (forms : List Form) (good : List Subfield → Bool) (row : X → List Subfield) (xs : List X)
+    → HaveValues value forms good row xs → map value (map row xs) ≡ xs
 rows_valued value forms good row [] have = refl
 rows_valued value forms good row (x ∷ xs) have = rw (have.0.value_is, rows_valued value forms good row xs have.1) refl
 
-rows_formed : {X : Type 0} (value : List Subfield → X) (forms : List Form) (good : List Subfield → Bool) (row : X → List Subfield) (xs : List X) → HaveValues value forms good row xs
+rows_formed : {X : Type 0} (value : List Subfield → X) (forms : List Form) (good : List Subfield → Bool) (row : X → List Subfield) (xs : List X)
+    → HaveValues value forms good row xs
     → AllByRecursion (IsRow forms) (map row xs)
 rows_formed value forms good row [] have = tt
 rows_formed value forms good row (x ∷ xs) have = (have.0.fit.is_row, rows_formed value forms good row xs have.1)
@@ -76,12 +122,14 @@ terminated : (wide : Bool) (bytes body : List ℕ) → bytes ≡ body ++ cond wi
 terminated true bytes body e = inl e
 terminated false bytes body e = e
 
-pub rows_spelled : {X : Type 0} (value : List Subfield → X) (level : ℕ) (forms : List Form) (good : List Subfield → Bool) (row : X → List Subfield) (xs : List X) (bytes : List ℕ) → CanRepeat level forms
+pub rows_spelled : {X : Type 0} (value : List Subfield → X) (level : ℕ) (forms : List Form) (good : List Subfield → Bool)
+    (row : X → List Subfield) (xs : List X) (bytes : List ℕ) → CanRepeat level forms
     → HaveValues value forms good row xs → IsFieldOfRows level forms bytes (map row xs) → rows_as value level forms good bytes ≡ Ok xs
 rows_spelled value level forms good row xs bytes can have field =
     let rows = map row xs in
     ap (λ r. result_map_both (map value) (λ e. e) (judged good r)) (rows_of_field level forms bytes rows can.takes can.fits field)
-    ∙ judged_rows (list_all good rows) (list_all (list_all is_plain) rows) rows (rows_good value forms good row xs have) (rows_plain value forms good row xs have)
+    ∙ judged_rows (list_all good rows) (list_all (list_all is_plain) rows) rows (rows_good value forms good row xs have)
+    (rows_plain value forms good row xs have)
     ∙ ap Ok (rows_valued value forms good row xs have)
   where
     judged_rows : (g p : Bool) (rows : List (List Subfield)) → g ≡ true → p ≡ true
@@ -90,7 +138,8 @@ rows_spelled value level forms good row xs bytes can have field =
     judged_rows true false rows e f = absurd cc
     judged_rows false p rows e f = absurd cc
 
-pub rows_written : {X : Type 0} (value : List Subfield → X) (level : ℕ) (forms : List Form) (good : List Subfield → Bool) (row : X → List Subfield) (xs : List X) → CanRepeat level forms
+pub rows_written : {X : Type 0} (value : List Subfield → X) (level : ℕ) (forms : List Form) (good : List Subfield → Bool)
+    (row : X → List Subfield) (xs : List X) → CanRepeat level forms
     → HaveValues value forms good row xs → rows_as value level forms good (rows_bytes level row xs) ≡ Ok xs
 rows_written value level forms good row xs can have = rows_spelled value level forms good row xs (rows_bytes level row xs) can have (record {
   each = rows_formed value forms good row xs have;
@@ -124,7 +173,8 @@ attribute_value-row level a = by_level (level == 2) a
     by_level false a = refl
 
 -- values whose rows fit, and pass a test
-pub have_values : {X : Type 0} (value : List Subfield → X) (forms : List Form) (good : List Subfield → Bool) (row : X → List Subfield) → ((x : X) → IsFit forms (row x) → HasValue value forms good (row x) x)
+pub have_values : {X : Type 0} (value : List Subfield → X) (forms : List Form) (good : List Subfield → Bool) (row : X → List Subfield)
+    → ((x : X) → IsFit forms (row x) → HasValue value forms good (row x) x)
     → (xs : List X) → AllByRecursion (λ x. IsFit forms (row x)) xs → HaveValues value forms good row xs
 have_values value forms good row each [] fit = tt
 have_values value forms good row each (x ∷ xs) fit = (each x fit.0, have_values value forms good row each xs fit.1)
@@ -142,7 +192,8 @@ abbrev count_at : List ℕ → ℕ → ℕ
 count_at counts k = number_value (slice_get (map (unsigned_of 4) counts) k)
 
 eight : (counts : List ℕ) → length counts ≡ 8
-    → count_at counts 0 ∷ count_at counts 1 ∷ count_at counts 2 ∷ count_at counts 3 ∷ count_at counts 4 ∷ count_at counts 5 ∷ count_at counts 6 ∷ count_at counts 7 ∷ [] ≡ counts
+    → count_at counts 0 ∷ count_at counts 1 ∷ count_at counts 2 ∷ count_at counts 3 ∷ count_at counts 4 ∷ count_at counts
+    5 ∷ count_at counts 6 ∷ count_at counts 7 ∷ [] ≡ counts
 eight [] size = absurd (omega arith)
 eight (a ∷ []) size = absurd (omega arith)
 eight (a ∷ b ∷ []) size = absurd (omega arith)

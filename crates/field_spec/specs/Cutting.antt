@@ -1,9 +1,46 @@
 -- Bytes cut into subfields by their forms.
-use Rattle.std.specs.Prelude.{ℕ, zero, suc, ◌+◌, ◌-◌, ◌%◌, ◌==◌, ◌&&◌, List, [], ◌∷◌, length, take, drop, position, nat_lt, Option, Some, None, slice_index, if◌then◌else◌}
+use Rattle.std.specs.Prelude.{
+  ℕ,
+  zero,
+  suc,
+  ◌+◌,
+  ◌-◌,
+  ◌%◌,
+  ◌==◌,
+  ◌&&◌,
+  List,
+  [],
+  ◌∷◌,
+  length,
+  take,
+  drop,
+  position,
+  nat_lt,
+  Option,
+  Some,
+  None,
+  slice_index,
+  if◌then◌else◌,
+}
 use Rattle.std.specs.Option.{option_map, option_and_then}
 use Rattle.std.specs.Int.{w32, cast_signed}
 use Rattle.byteorder.specs.Endian.{little_number}
-use Rattle.s57_types.specs.Subfield.{Form, Subfield, unsigned, signed, text, wide_text, fixed, unsigned_of, signed_of, text_of, wide_text_of, fixed_of, unit_terminator, field_terminator}
+use Rattle.s57_types.specs.Subfield.{
+  Form,
+  Subfield,
+  unsigned,
+  signed,
+  text,
+  wide_text,
+  fixed,
+  unsigned_of,
+  signed_of,
+  text_of,
+  wide_text_of,
+  fixed_of,
+  unit_terminator,
+  field_terminator,
+}
 
 -- so many bytes, and the bytes after them
 abbrev pub split : ℕ → List ℕ → Option (List ℕ × List ℕ)
@@ -41,7 +78,8 @@ before_terminator b = if nat_lt 0 (length b) && (slice_index b (length b - 1) ==
 -- the same where texts have two-byte units: rows then have even length, and a terminator of one byte is taken too
 abbrev pub before_wide_terminator : List ℕ → Option (List ℕ)
 before_wide_terminator b = if length b % 2 == 1 then before_terminator b else
-    (if nat_lt 1 (length b) && (slice_index b (length b - 2) == field_terminator) && (slice_index b (length b - 1) == 0) then Some (take (length b - 2) b) else None)
+    (if nat_lt 1 (length b) && (slice_index b (length b - 2) == field_terminator) && (slice_index b (length b - 1) == 0) then Some
+    (take (length b - 2) b) else None)
 
 abbrev pub body_at_level : ℕ → List ℕ → Option (List ℕ)
 body_at_level level b = if level == 2 then before_wide_terminator b else before_terminator b

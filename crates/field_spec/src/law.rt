@@ -3,7 +3,9 @@
 ghost use Rattle.std.specs.Prelude.{◌≡◌, ◌↔◌, ◌<◌, ◌≤◌, ◌^◌, ℕ, ℤ, List, Some, Ok, true, All, map};
 ghost use Rattle.std.specs.List.{list_all, AllByRecursion};
 ghost use Rattle.s57_types.specs.Subfield.{Form, Subfield};
-ghost use Rattle.s57_types.specs.FieldRows.{dsid_forms, dssi_forms, dspm_forms, frid_forms, foid_forms, attribute_forms, partner_forms, place_forms, vrid_forms, end_forms, plane_forms, deep_forms, number_forms, number_row, dsid_row, dssi_row, dspm_row, frid_row, foid_row, attribute_row, partner_row, place_row, vrid_row, end_row, plane_row, deep_row};
+ghost use Rattle.s57_types.specs.FieldRows.{dsid_forms, dssi_forms, dspm_forms, frid_forms, foid_forms, attribute_forms, partner_forms, place_forms};
+ghost use Rattle.s57_types.specs.FieldRows.{vrid_forms, end_forms, plane_forms, deep_forms, number_forms, number_row, dsid_row, dssi_row, dspm_row};
+ghost use Rattle.s57_types.specs.FieldRows.{frid_row, foid_row, attribute_row, partner_row, place_row, vrid_row, end_row, plane_row, deep_row};
 ghost use Rattle.s57_types.specs.Fitness.{is_vector_kind};
 ghost use Rattle.s57_types.specs.declared.name.Lnam.{Lnam};
 ghost use Rattle.s57_types.specs.declared.record.Attr.{Attr};
@@ -20,7 +22,8 @@ ghost use Rattle.field_spec.specs.FieldContent.{IsField, IsFieldOfRows};
 ghost use Rattle.field_spec.specs.FieldBytes.{field_bytes, rows_bytes};
 ghost use Rattle.field_spec.specs.FieldFit.{CanRepeat, IsFit};
 ghost use Rattle.field_spec.specs.Spelling.{SpellsRow, SpellsRows};
-ghost use Rattle.field_spec.specs.Contents.{number_content, dsid_content, dssi_content, dspm_content, frid_content, foid_content, attribute_content, partner_content, place_content, vrid_content, end_content, plane_content, deep_content};
+ghost use Rattle.field_spec.specs.Contents.{number_content, dsid_content, dssi_content, dspm_content, frid_content, foid_content, attribute_content};
+ghost use Rattle.field_spec.specs.Contents.{partner_content, place_content, vrid_content, end_content, plane_content, deep_content};
 
 /// The bytes of a field are its subfields and its terminator exactly where they are cut into these subfields.
 pub fn field_is_decided()
@@ -45,7 +48,8 @@ pub fn repeating_fields()
 pub fn values_are_decided()
     ensures number { (b : List ℕ) (n : ℕ) → All (λ c. c < 256) b → (number_content b ≡ Ok n ↔ SpellsRow number_forms (number_row n) b) }
     ensures dsid { (b : List ℕ) (d : Dsid) → All (λ c. c < 256) b → (dsid_content b ≡ Ok d ↔ SpellsRow dsid_forms (dsid_row d) b) }
-    ensures dssi { (b : List ℕ) (d : Dssi) → All (λ c. c < 256) b → (dssi_content b ≡ Ok d ↔ (SpellsRow dssi_forms (dssi_row d) b × ((d.aall ≤ 1) × (d.nall ≤ 2)))) }
+    ensures dssi { (b : List ℕ) (d : Dssi) → All (λ c. c < 256) b
+        → (dssi_content b ≡ Ok d ↔ (SpellsRow dssi_forms (dssi_row d) b × ((d.aall ≤ 1) × (d.nall ≤ 2)))) }
     ensures dspm { (b : List ℕ) (d : Dspm) → All (λ c. c < 256) b → (dspm_content b ≡ Ok d ↔ SpellsRow dspm_forms (dspm_row d) b) }
     ensures frid { (b : List ℕ) (d : Frid) → All (λ c. c < 256) b → (frid_content b ≡ Ok d ↔ SpellsRow frid_forms (frid_row d) b) }
     ensures foid { (b : List ℕ) (d : Lnam) → All (λ c. c < 256) b → (foid_content b ≡ Ok d ↔ SpellsRow foid_forms (foid_row d) b) }

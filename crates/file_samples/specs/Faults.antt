@@ -2,7 +2,26 @@
 use Rattle.std.specs.Prelude.{ℕ, List, [], ◌∷◌, ◌++◌, take, replicate, codes}
 use Rattle.std.specs.List.{flat_map}
 use Rattle.frame_spec.specs.RecordFrame.{Field}
-use Rattle.file_samples.specs.SmallFiles.{AreDecoded, fault, field, number, dsid, dsid_of_bad_text, dssi, dspm, vrid, frid, foid, attributes, bare_description, file, general, geographic, file_with, file_behind}
+use Rattle.file_samples.specs.SmallFiles.{
+  AreDecoded,
+  fault,
+  field,
+  number,
+  dsid,
+  dsid_of_bad_text,
+  dssi,
+  dspm,
+  vrid,
+  frid,
+  foid,
+  attributes,
+  bare_description,
+  file,
+  general,
+  geographic,
+  file_with,
+  file_behind,
+}
 
 -- the bytes of one record of one field: 24 of leader, one entry of six, a terminator, and nine
 abbrev pub node_record : List ℕ
@@ -12,7 +31,8 @@ node_record = codes "00040 D     00031   1104VRID90" ++ (30 ∷ 120 ∷ 1 ∷ 0 
 -- written again
 abbrev pub overlapping_record : List ℕ
 overlapping_record =
-    codes "02061 D     01155   3304VRID009000" ++ flat_map (λ (entry : List ℕ). entry) (replicate 112 (codes "SG2D897009")) ++ (30 ∷ 120 ∷ 1 ∷ 0 ∷ 0 ∷ 0 ∷ 1 ∷ 0 ∷ 1 ∷ 30 ∷ [])
+    codes "02061 D     01155   3304VRID009000" ++ flat_map (λ (entry : List ℕ). entry) (replicate 112 (codes "SG2D897009"))
+    ++ (30 ∷ 120 ∷ 1 ∷ 0 ∷ 0 ∷ 0 ∷ 1 ∷ 0 ∷ 1 ∷ 30 ∷ [])
     ++ replicate 896 0 ++ (30 ∷ [])
 
 abbrev pub text_fault : List ℕ → Field
@@ -21,7 +41,10 @@ text_fault tag = attributes tag 30
 abbrev pub EachFaultIsFound : Type 0
 EachFaultIsFound = AreDecoded (
     -- record cut short, or missing
-    ([], fault 1 0 1) ∷ (bare_description, fault 2 25 1) ∷ (file (general ∷ []), fault 3 140 1) ∷ (file_behind (take 39 node_record), fault 4 198 1) ∷ (file_behind (take 23 node_record), fault 4 198 1) ∷
+    ([], fault 1 0 1) ∷ (bare_description, fault 2 25 1) ∷ (file (general ∷ []), fault 3 140 1) ∷ (
+      file_behind (take 39 node_record),
+      fault 4 198 1,
+    ) ∷ (file_behind (take 23 node_record), fault 4 198 1) ∷
     -- leader fault, directory fault
     (file_behind (codes "00040 L     00031   1104VRID90" ++ (30 ∷ 120 ∷ 1 ∷ 0 ∷ 0 ∷ 0 ∷ 1 ∷ 0 ∷ 1 ∷ 30 ∷ [])), fault 4 198 2) ∷
     (file_behind (codes "00040 D     00031   1104VRID90" ++ (31 ∷ 120 ∷ 1 ∷ 0 ∷ 0 ∷ 0 ∷ 1 ∷ 0 ∷ 1 ∷ 30 ∷ [])), fault 4 198 3) ∷
@@ -37,18 +60,22 @@ EachFaultIsFound = AreDecoded (
     (file ((dsid 1 ∷ dssi 2 0 ∷ dsid 1 ∷ []) ∷ geographic ∷ []), fault 2 25 6) ∷
     -- unexpected field: the leading one, and another
     (file_with ((number ∷ field (codes "CATD") (30 ∷ []) ∷ []) ∷ []), fault 4 198 7) ∷ (file_with ((foid ∷ frid 1 1 ∷ []) ∷ []), fault 4 198 7) ∷
-    (file_with ((vrid 120 1 1 ∷ attributes (codes "ATTF") 65 ∷ []) ∷ []), fault 4 198 7) ∷ (file_with ((vrid 130 1 1 ∷ field (codes "ARCC") (30 ∷ []) ∷ []) ∷ []), fault 4 198 7) ∷
+    (file_with ((vrid 120 1 1 ∷ attributes (codes "ATTF") 65 ∷ []) ∷ []), fault 4 198 7) ∷
+    (file_with ((vrid 130 1 1 ∷ field (codes "ARCC") (30 ∷ []) ∷ []) ∷ []), fault 4 198 7) ∷
     (file ((dsid 1 ∷ dssi 2 0 ∷ dspm ∷ []) ∷ geographic ∷ []), fault 2 25 7) ∷
     -- not a base cell, not chain-node topology
-    (file ((dsid 2 ∷ dssi 2 0 ∷ []) ∷ geographic ∷ []), fault 2 25 8) ∷ (file_with ((vrid 120 1 2 ∷ []) ∷ []), fault 4 198 8) ∷ (file_with ((frid 1 3 ∷ foid ∷ []) ∷ []), fault 4 198 8) ∷
+    (file ((dsid 2 ∷ dssi 2 0 ∷ []) ∷ geographic ∷ []), fault 2 25 8) ∷ (file_with ((vrid 120 1 2 ∷ []) ∷ []), fault 4 198 8) ∷
+    (file_with ((frid 1 3 ∷ foid ∷ []) ∷ []), fault 4 198 8) ∷
     (file ((dsid 1 ∷ dssi 3 0 ∷ []) ∷ geographic ∷ []), fault 2 25 9) ∷
     -- duplicate record name
     (file_with ((vrid 120 1 1 ∷ []) ∷ (vrid 110 1 1 ∷ []) ∷ (vrid 120 1 1 ∷ []) ∷ []), fault 6 278 10) ∷
     -- head records out of order
-    (file (geographic ∷ general ∷ []), fault 2 25 11) ∷ (file (general ∷ general ∷ []), fault 3 140 11) ∷ (file (general ∷ (vrid 120 1 1 ∷ []) ∷ geographic ∷ []), fault 3 140 11) ∷
+    (file (geographic ∷ general ∷ []), fault 2 25 11) ∷ (file (general ∷ general ∷ []), fault 3 140 11) ∷
+    (file (general ∷ (vrid 120 1 1 ∷ []) ∷ geographic ∷ []), fault 3 140 11) ∷
     (file_with (geographic ∷ []), fault 4 198 11) ∷ (file_with ((number ∷ dsid 1 ∷ dssi 2 0 ∷ []) ∷ []), fault 4 198 11) ∷
     -- control byte in a text
-    (file_with ((vrid 120 1 1 ∷ text_fault (codes "ATTV") ∷ []) ∷ []), fault 4 198 12) ∷ (file ((dsid_of_bad_text ∷ dssi 2 0 ∷ []) ∷ geographic ∷ []), fault 2 25 12) ∷ [])
+    (file_with ((vrid 120 1 1 ∷ text_fault (codes "ATTV") ∷ []) ∷ []), fault 4 198 12) ∷
+    (file ((dsid_of_bad_text ∷ dssi 2 0 ∷ []) ∷ geographic ∷ []), fault 2 25 12) ∷ [])
 
 -- files with the faults of two steps, one after the other, of which the first counts
 abbrev pub FirstStepCounts : Type 0

@@ -77,7 +77,12 @@ soundings_bytes =
     255 ∷ 255 ∷ 255 ∷ 127 ∷ 0 ∷ 0 ∷ 0 ∷ 0 ∷ 52 ∷ 0 ∷ 0 ∷ 0 ∷ 30 ∷ []
 
 abbrev pub partners : List Partner
-partners = record { to = record { agen = 513; fidn = 67305985; fids = 65535 }; rind = 2; comt = codes "master" } ∷ record { to = record { agen = 1; fidn = 2; fids = 3 }; rind = 3; comt = [] } ∷ []
+partners = record { to = record { agen = 513; fidn = 67305985; fids = 65535 }; rind = 2; comt = codes "master" } ∷ record {
+  to =
+      record { agen = 1; fidn = 2; fids = 3 };
+  rind = 3;
+  comt = [];
+} ∷ []
 
 abbrev pub partners_bytes : List ℕ
 partners_bytes = (1 ∷ 2 ∷ 1 ∷ 2 ∷ 3 ∷ 4 ∷ 255 ∷ 255 ∷ 2 ∷ []) ++ codes "master" ++ (31 ∷ 1 ∷ 0 ∷ 2 ∷ 0 ∷ 0 ∷ 0 ∷ 3 ∷ 0 ∷ 3 ∷ 31 ∷ 30 ∷ [])
@@ -106,18 +111,23 @@ field_faults =
     ((tags.RecordNumber, []), None) ∷ ((tags.RecordNumber, 1 ∷ []), None) ∷
     -- a record name RCNM that is none of the field's
     ((tags.Dsid, identification_bytes 10 49 (31 ∷ 30 ∷ [])), None) ∷ ((tags.Dsid, identification_bytes 20 49 (31 ∷ 30 ∷ [])), Some BadField) ∷
-    ((tags.Frid, 100 ∷ 1 ∷ 0 ∷ 0 ∷ 0 ∷ 1 ∷ 2 ∷ 42 ∷ 0 ∷ 1 ∷ 0 ∷ 1 ∷ 30 ∷ []), None) ∷ ((tags.Frid, 110 ∷ 1 ∷ 0 ∷ 0 ∷ 0 ∷ 1 ∷ 2 ∷ 42 ∷ 0 ∷ 1 ∷ 0 ∷ 1 ∷ 30 ∷ []), Some BadField) ∷
+    ((tags.Frid, 100 ∷ 1 ∷ 0 ∷ 0 ∷ 0 ∷ 1 ∷ 2 ∷ 42 ∷ 0 ∷ 1 ∷ 0 ∷ 1 ∷ 30 ∷ []), None) ∷
+    ((tags.Frid, 110 ∷ 1 ∷ 0 ∷ 0 ∷ 0 ∷ 1 ∷ 2 ∷ 42 ∷ 0 ∷ 1 ∷ 0 ∷ 1 ∷ 30 ∷ []), Some BadField) ∷
     ((tags.Vrid, 110 ∷ 1 ∷ 0 ∷ 0 ∷ 0 ∷ 1 ∷ 0 ∷ 1 ∷ 30 ∷ []), None) ∷ ((tags.Vrid, 140 ∷ 1 ∷ 0 ∷ 0 ∷ 0 ∷ 1 ∷ 0 ∷ 1 ∷ 30 ∷ []), Some BadField) ∷
     ((tags.Vrid, 100 ∷ 1 ∷ 0 ∷ 0 ∷ 0 ∷ 1 ∷ 0 ∷ 1 ∷ 30 ∷ []), Some BadField) ∷ ((tags.Vrid, 10 ∷ 1 ∷ 0 ∷ 0 ∷ 0 ∷ 1 ∷ 0 ∷ 1 ∷ 30 ∷ []), Some BadField) ∷
     ((tags.Vrpt, 110 ∷ 1 ∷ 0 ∷ 0 ∷ 0 ∷ 255 ∷ 255 ∷ 1 ∷ 255 ∷ 100 ∷ 1 ∷ 0 ∷ 0 ∷ 0 ∷ 255 ∷ 255 ∷ 2 ∷ 255 ∷ 30 ∷ []), Some BadField) ∷
-    ((tags.Vrpt, 10 ∷ 0 ∷ 0 ∷ 0 ∷ 0 ∷ 255 ∷ 255 ∷ 1 ∷ 255 ∷ 30 ∷ []), Some BadField) ∷ ((tags.Fspt, 10 ∷ 0 ∷ 0 ∷ 0 ∷ 0 ∷ 1 ∷ 1 ∷ 255 ∷ 30 ∷ []), Some BadField) ∷
+    ((tags.Vrpt, 10 ∷ 0 ∷ 0 ∷ 0 ∷ 0 ∷ 255 ∷ 255 ∷ 1 ∷ 255 ∷ 30 ∷ []), Some BadField) ∷ (
+      (tags.Fspt, 10 ∷ 0 ∷ 0 ∷ 0 ∷ 0 ∷ 1 ∷ 1 ∷ 255 ∷ 30 ∷ []),
+      Some BadField,
+    ) ∷
     ((tags.Fspt, 130 ∷ 1 ∷ 0 ∷ 0 ∷ 0 ∷ 1 ∷ 1 ∷ 255 ∷ 30 ∷ []), None) ∷ ((tags.Fspt, 100 ∷ 1 ∷ 0 ∷ 0 ∷ 0 ∷ 1 ∷ 1 ∷ 255 ∷ 30 ∷ []), Some BadField) ∷
     -- lexical levels out of range
     ((tags.Dssi, structure_bytes 1 2), None) ∷ ((tags.Dssi, structure_bytes 2 0), Some BadField) ∷ ((tags.Dssi, structure_bytes 0 3), Some BadField) ∷
     -- no terminator, bytes left over, and half a row
     ((tags.Foid, 1 ∷ 0 ∷ 1 ∷ 0 ∷ 0 ∷ 0 ∷ 1 ∷ 0 ∷ 31 ∷ []), Some BadField) ∷ ((tags.Foid, 1 ∷ 0 ∷ 1 ∷ 0 ∷ 0 ∷ 0 ∷ 1 ∷ 0 ∷ 0 ∷ 30 ∷ []), Some BadField) ∷
     ((tags.Foid, 1 ∷ 0 ∷ 1 ∷ 0 ∷ 0 ∷ 0 ∷ 1 ∷ 30 ∷ []), Some BadField) ∷
-    ((tags.Sg2d, 30 ∷ []), None) ∷ ((tags.Sg2d, 1 ∷ 2 ∷ 3 ∷ 4 ∷ 5 ∷ 6 ∷ 7 ∷ 30 ∷ []), Some BadField) ∷ ((tags.Sg2d, 1 ∷ 2 ∷ 3 ∷ 4 ∷ 5 ∷ 6 ∷ 7 ∷ 8 ∷ []), Some BadField) ∷
+    ((tags.Sg2d, 30 ∷ []), None) ∷ ((tags.Sg2d, 1 ∷ 2 ∷ 3 ∷ 4 ∷ 5 ∷ 6 ∷ 7 ∷ 30 ∷ []), Some BadField) ∷
+    ((tags.Sg2d, 1 ∷ 2 ∷ 3 ∷ 4 ∷ 5 ∷ 6 ∷ 7 ∷ 8 ∷ []), Some BadField) ∷
     ((tags.Sg3d, 1 ∷ 2 ∷ 3 ∷ 4 ∷ 5 ∷ 6 ∷ 7 ∷ 8 ∷ 30 ∷ []), Some BadField) ∷
     -- a text without its end, and a control byte in a text and in a fixed text
     ((tags.Dsid, identification_bytes 10 49 (65 ∷ 30 ∷ [])), Some BadField) ∷ ((tags.Dsid, identification_bytes 10 49 (30 ∷ 31 ∷ 30 ∷ [])), Some BadText) ∷
@@ -129,4 +139,5 @@ field_faults =
 
 abbrev pub FieldFaultsAreAsListed : Type 0
 FieldFaultsAreAsListed =
-    map (λ (row : (FieldTag × List ℕ) × Option FieldFault). content_fault 0 row.0.0 row.0.1) field_faults ≡ map (λ (row : (FieldTag × List ℕ) × Option FieldFault). row.1) field_faults
+    map (λ (row : (FieldTag × List ℕ) × Option FieldFault). content_fault 0 row.0.0 row.0.1) field_faults ≡ map
+    (λ (row : (FieldTag × List ℕ) × Option FieldFault). row.1) field_faults

@@ -34,7 +34,8 @@ each_digit = range_with_len 1 9
 
 -- every entry map from 1 to 9
 abbrev pub EntryMapsAreRead : Type 0
-EntryMapsAreRead = AreFrames (flat_map (λ m. map (λ n. (one_field_record m n, framed (31 + m + n) (field (codes "SG2D") (65 ∷ 30 ∷ []) ∷ []))) each_digit) each_digit)
+EntryMapsAreRead = AreFrames (flat_map (λ m. map (λ n. (one_field_record m n, framed (31 + m + n) (field (codes "SG2D") (65 ∷ 30 ∷ []) ∷ [])))
+    each_digit) each_digit)
 
 -- a record of two fields of three bytes: 24 bytes of leader, two entries of seven, a terminator, and six bytes
 abbrev pub two_field_record : List ℕ
@@ -51,10 +52,16 @@ changed place byte = set two_field_record place byte
 abbrev pub FieldsMayOverlap : Type 0
 FieldsMayOverlap = AreFrames (
     (two_field_record, two_fields) ∷
-    (two_field_record ++ codes "ghi", two_fields) ∷
-    (codes "00045 D     00039   1204VRID302SG2D401" ++ (30 ∷ []) ++ codes "abcdef", framed 45 (field (codes "VRID") (codes "cde") ∷ field (codes "SG2D") (codes "bcde") ∷ [])) ∷
-    (codes "00045 D     00039   1204VRID600SG2D600" ++ (30 ∷ []) ++ codes "abcdef", framed 45 (field (codes "VRID") (codes "abcdef") ∷ field (codes "SG2D") (codes "abcdef") ∷ [])) ∷
-    (codes "00045 D     00039   1204VRID105SG2D100" ++ (30 ∷ []) ++ codes "abcdef", framed 45 (field (codes "VRID") (codes "f") ∷ field (codes "SG2D") (codes "a") ∷ [])) ∷
+    (two_field_record ++ codes "ghi", two_fields) ∷ (
+      codes "00045 D     00039   1204VRID302SG2D401" ++ (30 ∷ []) ++ codes "abcdef",
+      framed 45 (field (codes "VRID") (codes "cde") ∷ field (codes "SG2D") (codes "bcde") ∷ []),
+    ) ∷ (
+      codes "00045 D     00039   1204VRID600SG2D600" ++ (30 ∷ []) ++ codes "abcdef",
+      framed 45 (field (codes "VRID") (codes "abcdef") ∷ field (codes "SG2D") (codes "abcdef") ∷ []),
+    ) ∷ (
+      codes "00045 D     00039   1204VRID105SG2D100" ++ (30 ∷ []) ++ codes "abcdef",
+      framed 45 (field (codes "VRID") (codes "f") ∷ field (codes "SG2D") (codes "a") ∷ []),
+    ) ∷
     (codes "00025 D     00025   1204" ++ (30 ∷ []), framed 25 []) ∷
     (codes "00029 D     00025   9904" ++ (30 ∷ []) ++ codes "abcd", framed 29 []) ∷ [])
 

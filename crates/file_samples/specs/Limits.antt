@@ -41,10 +41,13 @@ RecordLimitIsExact =
 -- the last three steps of a record with some values, whatever the cell before it
 pub record LastSteps (c : Cell) (fields : List Field) (r : Rec) : Type 0 where
   pub twice : list_any (is_named (name_of r)) (all_records c) ≡ true → record_behind c fields ≡ Err faults.TwiceName
-  pub too_long : list_any (is_named (name_of r)) (all_records c) ≡ false → length_limit < written_length c.head.nall r → record_behind c fields ≡ Err faults.TooLong
+  pub too_long : list_any (is_named (name_of r)) (all_records c) ≡ false → length_limit < written_length c.head.nall r
+      → record_behind c fields ≡ Err faults.TooLong
   pub too_many : list_any (is_named (name_of r)) (all_records c) ≡ false → written_length c.head.nall r ≤ length_limit → record_limit ≤ length (all_records c)
       → record_behind c fields ≡ Err faults.TooMany
-  pub taken : list_any (is_named (name_of r)) (all_records c) ≡ false → written_length c.head.nall r ≤ length_limit → length (all_records c) < record_limit → record_behind c fields ≡ Ok r
+  pub taken : list_any (is_named (name_of r)) (all_records c) ≡ false → written_length c.head.nall r ≤ length_limit
+      → length (all_records c) < record_limit → record_behind c fields ≡ Ok r
 
 abbrev pub LastStepsHaveOrder : Type 0
-LastStepsHaveOrder = (c : Cell) (fields : List Field) (type : RecordType) (r : Rec) → record_type fields ≡ Ok type → record_values c.head.nall fields type ≡ Ok r → LastSteps c fields r
+LastStepsHaveOrder = (c : Cell) (fields : List Field) (type : RecordType) (r : Rec) → record_type fields ≡ Ok type
+    → record_values c.head.nall fields type ≡ Ok r → LastSteps c fields r

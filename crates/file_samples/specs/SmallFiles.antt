@@ -28,7 +28,8 @@ number = field (codes "0001") (1 ∷ 0 ∷ 30 ∷ [])
 
 -- DSID with an exchange purpose EXPP, and DSSI with a topology DSTR and a level AALL
 abbrev pub dsid : ℕ → Field
-dsid expp = field (codes "DSID") ((10 ∷ 1 ∷ 0 ∷ 0 ∷ 0 ∷ expp ∷ 5 ∷ 31 ∷ 31 ∷ 31 ∷ []) ++ codes "202401012024010103.1" ++ (1 ∷ 31 ∷ 31 ∷ 1 ∷ 1 ∷ 0 ∷ 31 ∷ 30 ∷ []))
+dsid expp = field (codes "DSID") ((10 ∷ 1 ∷ 0 ∷ 0 ∷ 0 ∷ expp ∷ 5 ∷ 31 ∷ 31 ∷ 31 ∷ []) ++ codes "202401012024010103.1"
+    ++ (1 ∷ 31 ∷ 31 ∷ 1 ∷ 1 ∷ 0 ∷ 31 ∷ 30 ∷ []))
 
 -- a control byte stands in the edition STED
 abbrev pub dsid_of_bad_text : Field

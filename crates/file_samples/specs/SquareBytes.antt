@@ -115,7 +115,8 @@ edges_bytes = edge_bytes 7 1 1 2 ++ edge_bytes 8 2 3 4 ++ edge_bytes 9 3 1 3 ++ 
 
 -- the file with some bytes for the first node
 abbrev pub square_with : List ℕ → List ℕ
-square_with first_node = descriptive_bytes ++ general_bytes square_counts ++ geographic_bytes ++ first_node ++ other_nodes_bytes ++ edges_bytes ++ depth_area_bytes ++ coverage_bytes
+square_with first_node = descriptive_bytes ++ general_bytes square_counts ++ geographic_bytes ++ first_node ++ other_nodes_bytes
+    ++ edges_bytes ++ depth_area_bytes ++ coverage_bytes
 
 abbrev pub square_bytes : List ℕ
 square_bytes = square_with (node_bytes 3 1 zero_bytes zero_bytes)

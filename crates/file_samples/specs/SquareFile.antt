@@ -9,11 +9,22 @@ use Rattle.file_spec.specs.EncodedCell.{encoded_cell, record_bytes}
 use Rattle.file_spec.specs.DecodedCell.{decoded_cell}
 use Rattle.file_samples.specs.Parts.{head, node}
 use Rattle.file_samples.specs.Square.{square}
-use Rattle.file_samples.specs.SquareBytes.{square_bytes, square_with, node_bytes, wide_node_bytes, zero_bytes, descriptive_bytes, general_bytes, geographic_bytes, no_counts}
+use Rattle.file_samples.specs.SquareBytes.{
+  square_bytes,
+  square_with,
+  node_bytes,
+  wide_node_bytes,
+  zero_bytes,
+  descriptive_bytes,
+  general_bytes,
+  geographic_bytes,
+  no_counts,
+}
 
 -- how long the fields of the data descriptive record are, all of them, and the record
 abbrev pub DescriptiveRecordHasLengths : Type 0
-DescriptiveRecordHasLengths = map (λ (b : List ℕ). length b) (field_area (descriptive_fields 0 0) ∷ written_record true (descriptive_fields 0 0) ∷ []) ≡ 1377 ∷ 1578 ∷ []
+DescriptiveRecordHasLengths = map (λ (b : List ℕ). length b)
+    (field_area (descriptive_fields 0 0) ∷ written_record true (descriptive_fields 0 0) ∷ []) ≡ 1377 ∷ 1578 ∷ []
 
 abbrev pub DescriptionsHaveLengths : Type 0
 DescriptionsHaveLengths =
@@ -39,14 +50,16 @@ SquareIsRead = decoded_cell square_bytes ≡ Ok square
 
 -- a node with a wide entry map is read as before, and written with the narrow one
 abbrev pub WideNodeIsRead : Type 0
-WideNodeIsRead = (map decoded_cell (square_with wide_node_bytes ∷ []) ≡ Ok square ∷ []) × (map (λ (b : List ℕ). length b) (wide_node_bytes ∷ node_bytes 3 1 zero_bytes zero_bytes ∷ []) ≡ 88 ∷ 67 ∷ [])
+WideNodeIsRead = (map decoded_cell (square_with wide_node_bytes ∷ []) ≡ Ok square ∷ [])
+    × (map (λ (b : List ℕ). length b) (wide_node_bytes ∷ node_bytes 3 1 zero_bytes zero_bytes ∷ []) ≡ 88 ∷ 67 ∷ [])
 
 -- the head alone
 abbrev pub no_records : Cell
 no_records = record { head = head 0 0; vi = []; vc = []; ve = []; fe = [] }
 
 abbrev pub EmptyCellIsWritten : Type 0
-EmptyCellIsWritten = (encoded_cell no_records ≡ descriptive_bytes ++ general_bytes no_counts ++ geographic_bytes) × (decoded_cell (encoded_cell no_records) ≡ Ok no_records)
+EmptyCellIsWritten = (encoded_cell no_records ≡ descriptive_bytes ++ general_bytes no_counts ++ geographic_bytes)
+    × (decoded_cell (encoded_cell no_records) ≡ Ok no_records)
 
 -- a cell fault by its three numbers
 abbrev pub fault : ℕ → ℕ → ℕ → Result Cell CellFault
@@ -74,7 +87,8 @@ changed_bytes =
     ((1842, 0), fault 4 1785 4) ∷ ((1902, 1), fault 5 1852 10) ∷ []
 
 abbrev pub ChangedBytesAreRead : Type 0
-ChangedBytesAreRead = map (λ (row : (ℕ × ℕ) × Result Cell CellFault). decoded_cell (set square_bytes row.0.0 row.0.1)) changed_bytes ≡ map (λ (row : (ℕ × ℕ) × Result Cell CellFault). row.1) changed_bytes
+ChangedBytesAreRead = map (λ (row : (ℕ × ℕ) × Result Cell CellFault). decoded_cell (set square_bytes row.0.0 row.0.1)) changed_bytes ≡
+    map (λ (row : (ℕ × ℕ) × Result Cell CellFault). row.1) changed_bytes
 
 -- the last record once more
 abbrev pub RepeatedRecordIsRead : Type 0

@@ -92,7 +92,13 @@ abbrev pub RecordsMayMix : Type 0
 RecordsMayMix = AreDecoded (
     (file_with [], Ok small_cell) ∷ (
       file_with ((frid 1 1 ∷ foid ∷ []) ∷ (vrid 130 1 1 ∷ []) ∷ (vrid 120 9 1 ∷ []) ∷ (vrid 110 1 1 ∷ []) ∷ (vrid 120 1 1 ∷ []) ∷ []),
-      Ok (record small_cell { vi = bare_vector Vi 1 ∷ []; vc = bare_vector Vc 9 ∷ bare_vector Vc 1 ∷ []; ve = bare_vector Ve 1 ∷ []; fe = bare_feature [] [] [] [] ∷ [] }),
+      Ok (record small_cell {
+        vi = bare_vector Vi 1 ∷ [];
+        vc = bare_vector Vc 9 ∷ bare_vector Vc 1 ∷ [];
+        ve = bare_vector Ve 1 ∷ [];
+        fe =
+            bare_feature [] [] [] [] ∷ [];
+      }),
     ) ∷ [])
 
 -- record identifiers may be missing, repeated, anywhere and of any bytes; the fields behind the leading one have any order
@@ -119,6 +125,7 @@ FieldsJoin = AreDecoded ((
     }) ∷ [];
   }),
 ) ∷ (
-  file_with ((frid 1 1 ∷ foid ∷ spatial_pointer 2 2 ∷ feature_pointer 9 ∷ field (codes "ATTF") (30 ∷ []) ∷ spatial_pointer 1 1 ∷ feature_pointer 8 ∷ field (codes "NATF") (30 ∷ []) ∷ []) ∷ []),
+  file_with ((frid 1 1 ∷ foid ∷ spatial_pointer 2 2 ∷ feature_pointer 9 ∷ field (codes "ATTF")
+      (30 ∷ []) ∷ spatial_pointer 1 1 ∷ feature_pointer 8 ∷ field (codes "NATF") (30 ∷ []) ∷ []) ∷ []),
   Ok (record small_cell { fe = bare_feature [] [] (partner 9 ∷ partner 8 ∷ []) (outer 2 2 ∷ outer 1 1 ∷ []) ∷ [] }),
 ) ∷ [])

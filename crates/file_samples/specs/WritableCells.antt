@@ -29,7 +29,8 @@ are_distinct (n ∷ names) = list_all (λ m. not (same_name n m)) names && are_d
 
 unfoldable pub is_writable : Cell → Bool
 is_writable c = is_fit_head c.head && are_of_kind Vi c.vi && are_of_kind Vc c.vc && are_of_kind Ve c.ve && are_of_kind Fe c.fe
-    && list_all (λ r. is_none (unfitness c.head.nall r)) (all_records c) && are_distinct (map name_of (all_records c)) && nat_le (length (all_records c)) record_limit
+    && list_all (λ r. is_none (unfitness c.head.nall r)) (all_records c) && are_distinct (map name_of (all_records c)) && nat_le
+    (length (all_records c)) record_limit
 
 -- what the tests say is so
 abbrev pub WritableIsDecided : Type 0
@@ -49,7 +50,8 @@ OthersAreNot =
     map is_writable (
     record square { head = head 2 0 } ∷
     record square { fe = area 1 1 42 (attribute 1 (30 ∷ []) ∷ []) [] ∷ [] } ∷
-    record square { vi = node 5 0 0 ∷ [] } ∷ record square { vc = edge 5 1 1 ∷ [] } ∷ record square { ve = node 5 0 0 ∷ [] } ∷ record square { fe = edge 5 1 1 ∷ [] } ∷
+    record square { vi = node 5 0 0 ∷ [] } ∷ record square { vc = edge 5 1 1 ∷ [] } ∷ record square { ve = node 5 0 0 ∷ [] } ∷ record square
+    { fe = edge 5 1 1 ∷ [] } ∷
     record square { ve = edge_at_head ∷ [] } ∷ record square { vc = H (head 0 0) ∷ [] } ∷
     record square { vc = points 12492 ∷ [] } ∷
     record square { vc = node 1 0 0 ∷ node 2 0 0 ∷ node 1 5 5 ∷ [] } ∷ [])

@@ -4,7 +4,9 @@ ghost use Rattle.file_samples.specs.Faults.{EachFaultIsFound, FirstStepCounts, F
 ghost use Rattle.file_samples.specs.Fields.{WideTextsAreRead, WideTextsAreWritten, TextsAreRead, RowsAreRead, RowsAreWritten, FieldFaultsAreAsListed};
 ghost use Rattle.file_samples.specs.Frames.{EntryMapsAreRead, FieldsMayOverlap, LeadersAreJudged, DirectoriesAreJudged, FrameFaultsHaveOrder, PlacesDontMatter};
 ghost use Rattle.file_samples.specs.Limits.{LengthLimitIsExact, RecordLimitIsExact, LastStepsHaveOrder};
-ghost use Rattle.file_samples.specs.SquareFile.{DescriptionsHaveLengths, DescriptiveRecordHasLengths, DescriptiveRecordIsWritten, FirstNodeIsWritten, SquareIsWritten, SquareHasOffsets, EmptyCellIsWritten, SquareIsRead, WideNodeIsRead, CutsAreRead, ChangedBytesAreRead, RepeatedRecordIsRead};
+ghost use Rattle.file_samples.specs.SquareFile.{DescriptionsHaveLengths, DescriptiveRecordHasLengths, DescriptiveRecordIsWritten};
+ghost use Rattle.file_samples.specs.SquareFile.{FirstNodeIsWritten, SquareIsWritten, SquareHasOffsets, EmptyCellIsWritten, SquareIsRead};
+ghost use Rattle.file_samples.specs.SquareFile.{WideNodeIsRead, CutsAreRead, ChangedBytesAreRead, RepeatedRecordIsRead};
 ghost use Rattle.file_samples.specs.UnusualFiles.{RecordsMayMix, FieldsMayMix, FieldsJoin};
 ghost use Rattle.file_samples.specs.WritableCells.{WritableIsDecided, SamplesAreWritable, OthersAreNot, TooManyIsNot};
 ghost use Rattle.file_samples.specs.WrittenFiles.{LevelsAreWritten, CountsAreByClass, NumbersBeginAnew, EveryFieldIsWritten, EveryFieldIsRead};

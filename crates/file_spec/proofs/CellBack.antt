@@ -1,5 +1,32 @@
 -- A cell that was written is read again, where each of its fields is.
-use Rattle.std.proofs.Common.{◌≡◌, ◌≤◌, ◌<◌, ℕ, ◌+◌, Bool, true, false, ◌&&◌, ◌||◌, List, [], ◌∷◌, ◌++◌, length, map, None, Result, Ok, refl, sym, ap, ◌∙◌, subst, arith, append_assoc}
+use Rattle.std.proofs.Common.{
+  ◌≡◌,
+  ◌≤◌,
+  ◌<◌,
+  ℕ,
+  ◌+◌,
+  Bool,
+  true,
+  false,
+  ◌&&◌,
+  ◌||◌,
+  List,
+  [],
+  ◌∷◌,
+  ◌++◌,
+  length,
+  map,
+  None,
+  Result,
+  Ok,
+  refl,
+  sym,
+  ap,
+  ◌∙◌,
+  subst,
+  arith,
+  append_assoc,
+}
 use Rattle.std.specs.Prelude.{◌==◌}
 use Rattle.std.specs.Result.{result_map_both}
 use Rattle.std.specs.List.{AllByRecursion, IsDistinct, list_any, enumerate_from}
@@ -38,7 +65,8 @@ general_is_read : (h : Head) (counts : List ℕ) → HeadIsReadBack h counts →
 unfolding general_information fields_fault
 general_is_read h counts back fits = rw (back.dsid, back.dssi, le-leb _ _ fits) refl
 
-geographic_is_read : (h : Head) (counts : List ℕ) → HeadIsReadBack h counts → record_length (field_lengths (parameter_fields 0 h)) ≤ length_limit → geographic_reference (parameter_fields 2 h) ≡ Ok (dspm_of_head h)
+geographic_is_read : (h : Head) (counts : List ℕ) → HeadIsReadBack h counts → record_length (field_lengths (parameter_fields 0 h)) ≤ length_limit
+    → geographic_reference (parameter_fields 2 h) ≡ Ok (dspm_of_head h)
 unfolding geographic_reference fields_fault
 geographic_is_read h counts back fits = rw (back.dspm, le-leb _ _ fits) refl
 
@@ -51,12 +79,18 @@ feature_kind Fe others e = refl
 feature_kind HeadKind others e = absurd cc
 
 -- a record behind those of a cell
-record_is_read : (c : Cell) (n : ℕ) (r : Rec) → RecordIsReadBack c.head.nall r → unfitness c.head.nall r ≡ None → list_any (is_named (name_of r)) (all_records c) ≡ false
+record_is_read : (c : Cell) (n : ℕ) (r : Rec) → RecordIsReadBack c.head.nall r → unfitness c.head.nall r ≡ None
+    → list_any (is_named (name_of r)) (all_records c) ≡ false
     → length (all_records c) < record_limit → record_behind c (record_fields c.head.nall n r) ≡ Ok r
 unfolding record_behind
 record_is_read c n (V v) back fit new room = rw (vector_is_read_back n v back, new, le-leb _ _ (fit_is_found c.head.nall (V v) fit).short, lt-ltb _ _ room) refl
 record_is_read c n (F f) back fit new room =
-    rw (feature_is_read_back c.head.nall n f (feature_kind f.name.kind _ (fit_is_found c.head.nall (F f) fit).names) back, new, le-leb _ _ (fit_is_found c.head.nall (F f) fit).short, lt-ltb _ _ room) refl
+    rw (
+      feature_is_read_back c.head.nall n f (feature_kind f.name.kind _ (fit_is_found c.head.nall (F f) fit).names) back,
+      new,
+      le-leb _ _ (fit_is_found c.head.nall (F f) fit).short,
+      lt-ltb _ _ room,
+    ) refl
 record_is_read c n (H h) back fit new room = let never : false ≡ true = (fit_is_found c.head.nall (H h) fit).names in absurd cc
 
 -- a cell with one record more
@@ -70,7 +104,8 @@ none_in p xs ys first second = list_any-append p xs ys ∙ ap (λ b. b || list_a
 parts_of : (p : Rec → Bool) (xs ys : List Rec) → list_any p (xs ++ ys) ≡ false → (list_any p xs ≡ false) × (list_any p ys ≡ false)
 parts_of p xs ys none = or_parts (list_any p xs) (list_any p ys) (sym (list_any-append p xs ys) ∙ none)
 
-none_in_more : (p : Rec → Bool) (kind : Kind) (r : Rec) (c : Cell) → list_any p (all_records c) ≡ false → p r ≡ false → list_any p (all_records (with_record_of_kind kind r c)) ≡ false
+none_in_more : (p : Rec → Bool) (kind : Kind) (r : Rec) (c : Cell) → list_any p (all_records c) ≡ false → p r ≡ false
+    → list_any p (all_records (with_record_of_kind kind r c)) ≡ false
 none_in_more p kind r c none isnt =
     let features = parts_of p (c.vi ++ c.vc ++ c.ve) c.fe none in
     let edges = parts_of p (c.vi ++ c.vc) c.ve features.0 in
@@ -80,10 +115,14 @@ none_in_more p kind r c none isnt =
   where
     by : (kind : Kind) → list_any p c.vi ≡ false → list_any p c.vc ≡ false → list_any p c.ve ≡ false → list_any p c.fe ≡ false → list_any p (r ∷ []) ≡ false
         → list_any p (all_records (with_record_of_kind kind r c)) ≡ false
-    by Vi vi vc ve fe one = none_in p (c.vi ++ (r ∷ []) ++ c.vc ++ c.ve) c.fe (none_in p (c.vi ++ (r ∷ []) ++ c.vc) c.ve (none_in p (c.vi ++ (r ∷ [])) c.vc (none_in p c.vi (r ∷ []) vi one) vc) ve) fe
-    by Vc vi vc ve fe one = none_in p (c.vi ++ (c.vc ++ (r ∷ [])) ++ c.ve) c.fe (none_in p (c.vi ++ (c.vc ++ (r ∷ []))) c.ve (none_in p c.vi (c.vc ++ (r ∷ [])) vi (none_in p c.vc (r ∷ []) vc one)) ve) fe
-    by Ve vi vc ve fe one = none_in p (c.vi ++ c.vc ++ (c.ve ++ (r ∷ []))) c.fe (none_in p (c.vi ++ c.vc) (c.ve ++ (r ∷ [])) (none_in p c.vi c.vc vi vc) (none_in p c.ve (r ∷ []) ve one)) fe
-    by Fe vi vc ve fe one = none_in p (c.vi ++ c.vc ++ c.ve) (c.fe ++ (r ∷ [])) (none_in p (c.vi ++ c.vc) c.ve (none_in p c.vi c.vc vi vc) ve) (none_in p c.fe (r ∷ []) fe one)
+    by Vi vi vc ve fe one = none_in p (c.vi ++ (r ∷ []) ++ c.vc ++ c.ve) c.fe
+        (none_in p (c.vi ++ (r ∷ []) ++ c.vc) c.ve (none_in p (c.vi ++ (r ∷ [])) c.vc (none_in p c.vi (r ∷ []) vi one) vc) ve) fe
+    by Vc vi vc ve fe one = none_in p (c.vi ++ (c.vc ++ (r ∷ [])) ++ c.ve) c.fe
+        (none_in p (c.vi ++ (c.vc ++ (r ∷ []))) c.ve (none_in p c.vi (c.vc ++ (r ∷ [])) vi (none_in p c.vc (r ∷ []) vc one)) ve) fe
+    by Ve vi vc ve fe one = none_in p (c.vi ++ c.vc ++ (c.ve ++ (r ∷ []))) c.fe
+        (none_in p (c.vi ++ c.vc) (c.ve ++ (r ∷ [])) (none_in p c.vi c.vc vi vc) (none_in p c.ve (r ∷ []) ve one)) fe
+    by Fe vi vc ve fe one = none_in p (c.vi ++ c.vc ++ c.ve) (c.fe ++ (r ∷ [])) (none_in p (c.vi ++ c.vc) c.ve (none_in p c.vi c.vc vi vc) ve)
+        (none_in p c.fe (r ∷ []) fe one)
     by HeadKind vi vc ve fe one = none
 
 -- the head stands in no list
@@ -106,13 +145,15 @@ equal_from_either : (a b : ℕ) → (a == b) ≡ (b == a)
 equal_from_either a b = same_from_decides (a == b) (b == a) (Decides-eqb a b) (Decides-like (b == a) sym sym (Decides-eqb b a))
 
 same_from_either : (a b : RecName) → same_name a b ≡ same_name b a
-same_from_either a b = ap (λ x. x && (a.id == b.id)) (equal_from_either (kind_rank a.kind) (kind_rank b.kind)) ∙ ap (λ x. (kind_rank b.kind == kind_rank a.kind) && x) (equal_from_either a.id b.id)
+same_from_either a b = ap (λ x. x && (a.id == b.id)) (equal_from_either (kind_rank a.kind) (kind_rank b.kind))
+    ∙ ap (λ x. (kind_rank b.kind == kind_rank a.kind) && x) (equal_from_either a.id b.id)
 
 -- records whose names are new in a cell
 abbrev AreNew : Cell → List Rec → Type 0
 AreNew c = AllByRecursion (λ r. list_any (is_named (name_of r)) (all_records c) ≡ false)
 
-still_new : (c : Cell) (r : Rec) (records : List Rec) → AreNew c records → AllByRecursion (λ n. same_name (name_of r) n ≡ false) (map name_of records) → AreNew (with_record r c) records
+still_new : (c : Cell) (r : Rec) (records : List Rec) → AreNew c records → AllByRecursion (λ n. same_name (name_of r) n ≡ false)
+    (map name_of records) → AreNew (with_record r c) records
 still_new c r [] new others = tt
 still_new c r (s ∷ records) new others =
     (none_in_more (is_named (name_of s)) (name_of r).kind r c new.0 (same_from_either (name_of s) (name_of r) ∙ others.0), still_new c r records new.1 others.1)
@@ -122,19 +163,26 @@ with_all : Cell → List Rec → Cell
 with_all c [] = c
 with_all c (r ∷ records) = with_all (with_record r c) records
 
-records_are_read : (number first offset nall : ℕ) (c : Cell) (records : List Rec) → c.head.nall ≡ nall → AllByRecursion (RecordIsReadBack nall) records → AllByRecursion (λ r. unfitness nall r ≡ None) records
+records_are_read : (number first offset nall : ℕ) (c : Cell) (records : List Rec) → c.head.nall ≡ nall
+    → AllByRecursion (RecordIsReadBack nall) records → AllByRecursion (λ r. unfitness nall r ≡ None) records
     → AreNew c records → IsDistinct same_name (map name_of records) → length (all_records c) + length records ≤ record_limit
-    → with_following number c (placed_records offset (map (λ (p : ℕ × Rec). record_fields nall (record_number p.0) p.1) (enumerate_from first records))) ≡ Ok (with_all c records)
+    → with_following number c (placed_records offset (map (λ (p : ℕ × Rec). record_fields nall (record_number p.0) p.1)
+    (enumerate_from first records))) ≡ Ok (with_all c records)
 unfolding with_following with_all IsDistinct
 records_are_read number first offset nall c [] same back fit new distinct room = refl
 records_are_read number first offset nall c (r ∷ records) same back fit new distinct room =
     let behind : record_behind c (record_fields nall (record_number first) r) ≡ Ok r =
     subst (λ m. record_behind c (record_fields m (record_number first) r) ≡ Ok r) same
-    (record_is_read c (record_number first) r (subst (λ m. RecordIsReadBack m r) (sym same) back.0) (subst (λ m. unfitness m r ≡ None) (sym same) fit.0) new.0 (omega (arith, room))) in
-    let others = placed_records (offset + record_length (field_lengths (record_fields nall (record_number first) r))) (map (λ (p : ℕ × Rec). record_fields nall (record_number p.0) p.1) (enumerate_from (first + 1) records)) in
+    (record_is_read c (record_number first) r (subst (λ m. RecordIsReadBack m r) (sym same) back.0)
+    (subst (λ m. unfitness m r ≡ None) (sym same) fit.0) new.0 (omega (arith, room))) in
+    let others = placed_records (offset + record_length (field_lengths (record_fields nall (record_number first) r)))
+    (map (λ (p : ℕ × Rec). record_fields nall (record_number p.0) p.1) (enumerate_from (first + 1) records)) in
     let more = one_more (name_of r).kind r c in
-    ap (λ (answer : Result Rec RecordFault). result_map_both (λ x. x) (fault_at number offset) answer >>= λ rec. with_following (number + 1) (with_record rec c) others) behind
-    ∙ records_are_read (number + 1) (first + 1) _ nall (with_record r c) records (ap (λ (h : Head). h.nall) (same_head (name_of r).kind r c) ∙ same) back.1 fit.1 (still_new c r records new.1 distinct.0) distinct.1 (omega (arith, room, more))
+    ap (λ (answer : Result Rec RecordFault). result_map_both (λ x. x) (fault_at number offset) answer >>= λ rec. with_following
+    (number + 1) (with_record rec c) others) behind
+    ∙ records_are_read (number + 1) (first + 1) _ nall (with_record r c) records
+    (ap (λ (h : Head). h.nall) (same_head (name_of r).kind r c) ∙ same) back.1 fit.1 (still_new c r records new.1 distinct.0) distinct.1
+    (omega (arith, room, more))
 
 -- the lists of a cell, taken one after the other
 with_all-append : (c : Cell) (xs ys : List Rec) → with_all c (xs ++ ys) ≡ with_all (with_all c xs) ys
@@ -193,6 +241,8 @@ unfolding decoded_records
 cell_is_read_back c w back =
     let fits = head_fits c.head w.head_fits in
     let few = w.not_too_many in
-    let records = records_are_read 4 3 _ c.head.nall (empty_cell c.head) (all_records c) refl back.records (recursion_from_All _ (all_records c) w.records_fit) (all_new c.head (all_records c)) w.names_distinct (omega (arith, few)) in
+    let records = records_are_read 4 3 _ c.head.nall (empty_cell c.head) (all_records c) refl back.records
+    (recursion_from_All _ (all_records c) w.records_fit) (all_new c.head (all_records c)) w.names_distinct (omega (arith, few)) in
     ap (decoded_records (length (encoded_cell c))) (cell_records_found c w)
-    ∙ rw (general_is_read c.head (record_counts c) back.head fits.0, geographic_is_read c.head (record_counts c) back.head fits.1) (records ∙ ap Ok (whole_cell c w))
+    ∙ rw (general_is_read c.head (record_counts c) back.head fits.0, geographic_is_read c.head (record_counts c) back.head fits.1)
+    (records ∙ ap Ok (whole_cell c w))

@@ -9,8 +9,35 @@ use Rattle.std.proofs.lemmas.List.Elements.{All-append, All-cons, All-nil, All-f
 use Rattle.frame_spec.specs.RecordFrame.{Field}
 use Rattle.frame_spec.specs.WrittenRecord.{CanBeWritten, record_length, field_lengths, written_record}
 use Rattle.s57_types.specs.Fitness.{is_fit_head, unfitness, has_good_names, has_good_texts}
-use Rattle.s57_types.specs.RecordFields.{number_field, dsid_of_head, dssi_of_head, dspm_of_head, identification_fields, parameter_fields, record_fields, rows_field, field_of, written_length, identification_length, length_limit}
-use Rattle.s57_types.specs.FieldRows.{number_row, dsid_row, dssi_row, dspm_row, vrid_row, frid_row, foid_row, attribute_row, partner_row, place_row, end_row, plane_row, deep_row}
+use Rattle.s57_types.specs.RecordFields.{
+  number_field,
+  dsid_of_head,
+  dssi_of_head,
+  dspm_of_head,
+  identification_fields,
+  parameter_fields,
+  record_fields,
+  rows_field,
+  field_of,
+  written_length,
+  identification_length,
+  length_limit,
+}
+use Rattle.s57_types.specs.FieldRows.{
+  number_row,
+  dsid_row,
+  dssi_row,
+  dspm_row,
+  vrid_row,
+  frid_row,
+  foid_row,
+  attribute_row,
+  partner_row,
+  place_row,
+  end_row,
+  plane_row,
+  deep_row,
+}
 use Rattle.s57_types.specs.Subfield.{Subfield, row_bytes, field_terminator}
 use Rattle.s57_types.specs.declared.fault.Unfit.TheVariants.{TooLong, BadText, BadName}
 use Rattle.s57_types.specs.declared.cell.Cell.{Cell}
@@ -65,7 +92,8 @@ description_length d = simp length-append (omega (arith, length_level d.level))
 
 descriptions_lengths : (ds : List Description) → field_lengths (map description_field ds) ≡ map counted ds
 descriptions_lengths [] = refl
-descriptions_lengths (d ∷ ds) = ap (λ n. n ∷ field_lengths (map description_field ds)) (description_length d) ∙ ap (λ ns. counted d ∷ ns) (descriptions_lengths ds)
+descriptions_lengths (d ∷ ds) = ap (λ n. n ∷ field_lengths (map description_field ds)) (description_length d)
+    ∙ ap (λ ns. counted d ∷ ns) (descriptions_lengths ds)
 
 descriptive_length : (aall nall : ℕ) → record_length (field_lengths (descriptive_fields aall nall)) ≡ 1578
 unfolding digits counted
@@ -98,7 +126,8 @@ descriptions_whole (d ∷ ds) = (described_whole d (tag_length d.tag), descripti
 
 descriptive_can : (aall nall : ℕ) → CanBeWritten (descriptive_fields aall nall)
 descriptive_can aall nall =
-    can_be_written (descriptive_fields aall nall) (record { tag = refl; some = omega arith }, descriptions_whole (descriptions aall nall)) (omega (arith, descriptive_length aall nall))
+    can_be_written (descriptive_fields aall nall) (record { tag = refl; some = omega arith }, descriptions_whole (descriptions aall nall))
+    (omega (arith, descriptive_length aall nall))
 
 -- the head records
 pub both : (x y : Bool) → (x && y) ≡ true → (x ≡ true) × (y ≡ true)
@@ -113,12 +142,20 @@ head_fits h fit =
     (leb-true _ _ first.1, leb-true _ _ last.1)
 
 identification_can : (h : Head) (n : ℕ) (c : Cell) → is_fit_head h ≡ true → CanBeWritten (identification_fields n h (record_counts c))
-identification_can h n c fit = can_be_written (identification_fields n h (record_counts c))
-    (row_whole (codes "0001") (number_row n) refl, (row_whole (codes "DSID") (dsid_row (dsid_of_head h)) refl, (row_whole (codes "DSSI") (dssi_row (dssi_of_head h (record_counts c))) refl, tt)))
+identification_can h n c fit = can_be_written (identification_fields n h (record_counts c)) (
+  row_whole (codes "0001") (number_row n) refl,
+  (
+    row_whole (codes "DSID") (dsid_row (dsid_of_head h)) refl,
+    (row_whole (codes "DSSI") (dssi_row (dssi_of_head h (record_counts c))) refl, tt),
+  ),
+)
     (head_fits h fit).0
 
 parameter_can : (h : Head) (n : ℕ) → is_fit_head h ≡ true → CanBeWritten (parameter_fields n h)
-parameter_can h n fit = can_be_written (parameter_fields n h) (row_whole (codes "0001") (number_row n) refl, (row_whole (codes "DSPM") (dspm_row (dspm_of_head h)) refl, tt)) (head_fits h fit).1
+parameter_can h n fit = can_be_written (parameter_fields n h) (
+  row_whole (codes "0001") (number_row n) refl,
+  (row_whole (codes "DSPM") (dspm_row (dspm_of_head h)) refl, tt),
+) (head_fits h fit).1
 
 -- vector and feature records
 rows_whole : {X : Type 0} (level : ℕ) (tag : List ℕ) (row : X → List Subfield) (xs : List X) → length tag ≡ 4 → All IsWhole (rows_field level tag row xs)
@@ -129,15 +166,18 @@ rows_whole level tag row (x ∷ xs) four = All-cons IsWhole _ [] (record { tag =
     by true = ends (flat_map (λ y. row_bytes (row y)) (x ∷ xs)) field_terminator (0 ∷ [])
     by false = ends (flat_map (λ y. row_bytes (row y)) (x ∷ xs)) field_terminator []
 
-whole_five : (a b c d e : List Field) → AllByRecursion IsWhole a → All IsWhole b → All IsWhole c → All IsWhole d → All IsWhole e → All IsWhole (a ++ b ++ c ++ d ++ e)
+whole_five : (a b c d e : List Field) → AllByRecursion IsWhole a → All IsWhole b → All IsWhole c → All IsWhole d → All IsWhole e
+    → All IsWhole (a ++ b ++ c ++ d ++ e)
 whole_five a b c d e a_whole b_whole c_whole d_whole e_whole =
     All-append IsWhole (a ++ b ++ c ++ d) e
-    (All-append IsWhole (a ++ b ++ c) d (All-append IsWhole (a ++ b) c (All-append IsWhole a b (All-from_recursion IsWhole a a_whole) b_whole) c_whole) d_whole) e_whole
+    (All-append IsWhole (a ++ b ++ c) d (All-append IsWhole (a ++ b) c (All-append IsWhole a b (All-from_recursion IsWhole a a_whole) b_whole)
+    c_whole) d_whole) e_whole
 
 record_whole : (nall n : ℕ) (r : Rec) → All IsWhole (record_fields nall n r)
 record_whole nall n (V v) =
     let identifier : List Subfield = vrid_row (record { name = v.name; rver = v.rver; ruin = 1 }) in
-    whole_five (number_field n ∷ field_of (codes "VRID") identifier ∷ []) (rows_field 0 (codes "ATTV") (attribute_row 0) v.attrs) (rows_field 0 (codes "VRPT") end_row v.ends)
+    whole_five (number_field n ∷ field_of (codes "VRID") identifier ∷ []) (rows_field 0 (codes "ATTV") (attribute_row 0) v.attrs)
+    (rows_field 0 (codes "VRPT") end_row v.ends)
     (rows_field 0 (codes "SG2D") plane_row v.plane) (rows_field 0 (codes "SG3D") deep_row v.deep)
     (row_whole (codes "0001") (number_row n) refl, (row_whole (codes "VRID") identifier refl, tt))
     (rows_whole 0 (codes "ATTV") (attribute_row 0) v.attrs refl) (rows_whole 0 (codes "VRPT") end_row v.ends refl)
@@ -176,7 +216,8 @@ fit_is_found nall r fit = by (has_good_names r) (has_good_texts nall r) (nat_lt 
     by false texts long names is short e = absurd cc
 
 record_can : (nall n : ℕ) (r : Rec) → unfitness nall r ≡ None → CanBeWritten (record_fields nall n r)
-record_can nall n r fit = can_be_written (record_fields nall n r) (recursion_from_All IsWhole _ (record_whole nall n r)) (subst (λ (k : ℕ). k ≤ 99999) (sym (same_length nall n r)) (fit_is_found nall r fit).short)
+record_can nall n r fit = can_be_written (record_fields nall n r) (recursion_from_All IsWhole _ (record_whole nall n r))
+    (subst (λ (k : ℕ). k ≤ 99999) (sym (same_length nall n r)) (fit_is_found nall r fit).short)
 
 records_can : (nall n : ℕ) (records : List Rec) → AllByRecursion (λ r. unfitness nall r ≡ None) records
     → AllByRecursion CanBeWritten (map (λ (p : ℕ × Rec). record_fields nall (record_number p.0) p.1) (enumerate_from n records))
@@ -196,7 +237,8 @@ cell_can c w = (
 )
 
 -- the file of a cell is its records one after the other
-following_are : (nall : ℕ) (records : List (ℕ × Rec)) → flat_map (λ (p : ℕ × Rec). record_bytes nall p.0 p.1) records ≡ written_records false (map (λ (p : ℕ × Rec). record_fields nall (record_number p.0) p.1) records)
+following_are : (nall : ℕ) (records : List (ℕ × Rec)) → flat_map (λ (p : ℕ × Rec). record_bytes nall p.0 p.1) records ≡ written_records false
+    (map (λ (p : ℕ × Rec). record_fields nall (record_number p.0) p.1) records)
 following_are nall [] = refl
 following_are nall (p ∷ records) = ap (λ b. record_bytes nall p.0 p.1 ++ b) (following_are nall records)
 

@@ -1,5 +1,34 @@
 -- One record of a file and the records after it.
-use Rattle.std.proofs.Common.{◌≡◌, ◌≤◌, ◌<◌, ℕ, zero, suc, ◌+◌, ◌-◌, Bool, false, List, [], ◌∷◌, length, Result, Ok, Err, Some, None, refl, sym, ap, subst, ◌∙◌, inl, inr, MatchResult, arith}
+use Rattle.std.proofs.Common.{
+  ◌≡◌,
+  ◌≤◌,
+  ◌<◌,
+  ℕ,
+  zero,
+  suc,
+  ◌+◌,
+  ◌-◌,
+  Bool,
+  false,
+  List,
+  [],
+  ◌∷◌,
+  length,
+  Result,
+  Ok,
+  Err,
+  Some,
+  None,
+  refl,
+  sym,
+  ap,
+  subst,
+  ◌∙◌,
+  inl,
+  inr,
+  MatchResult,
+  arith,
+}
 use Rattle.std.specs.Option.{option_map}
 use Rattle.std.specs.Result.{result_ok}
 use Rattle.std.proofs.lemmas.Bool.{le-leb, lt-leb, cases_lt}
@@ -31,7 +60,8 @@ frame_has_length b p first frame is =
     let length_is = stands.length_is in
     omega (arith, base, within, length_is)
 
-same_then : (others more : FrameView → List FileRecord) (p : ℕ) (found : Result FrameView FrameFault) → ((frame : FrameView) → found ≡ Ok frame → others frame ≡ more frame)
+same_then : (others more : FrameView → List FileRecord) (p : ℕ) (found : Result FrameView FrameFault)
+    → ((frame : FrameView) → found ≡ Ok frame → others frame ≡ more frame)
     → record_then others p found ≡ record_then more p found
 same_then others more p (Ok frame) later = ap (λ rs. record { offset = p; found = Ok frame } ∷ rs) (later frame refl)
 same_then others more p (Err fault) later = refl
@@ -45,7 +75,8 @@ enough_steps b (suc n) (suc m) p first n_enough m_enough =
       | inl before ↦
           records_from-suc n b p first before
           ∙ same_then (λ frame. records_from n b (p + frame.length) false) (λ frame. records_from m b (p + frame.length) false) p (frame_at b p first)
-          (λ frame is. let long = frame_has_length b p first frame is in enough_steps b n m (p + frame.length) false (omega (arith, long)) (omega (arith, long)))
+          (λ frame is. let long = frame_has_length b p first frame is in
+          enough_steps b n m (p + frame.length) false (omega (arith, long)) (omega (arith, long)))
           ∙ sym (records_from-suc m b p first before)
       | inr past ↦ records_from-end (suc n) b p first past ∙ sym (records_from-end (suc m) b p first past)
     ]
@@ -62,8 +93,10 @@ records_after-next b p first before =
     let one_more : length b - p ≡ suc (length b - (p + 1)) = omega arith in
     ap (λ n. records_from n b p first) one_more
     ∙ records_from-suc (length b - (p + 1)) b p first before
-    ∙ same_then (λ frame. records_from (length b - (p + 1)) b (p + frame.length) false) (λ frame. records_from (length b - (p + frame.length)) b (p + frame.length) false) p (frame_at b p first)
-    (λ frame is. let long = frame_has_length b p first frame is in enough_steps b (length b - (p + 1)) (length b - (p + frame.length)) (p + frame.length) false (omega (arith, long)) (omega arith))
+    ∙ same_then (λ frame. records_from (length b - (p + 1)) b (p + frame.length) false)
+    (λ frame. records_from (length b - (p + frame.length)) b (p + frame.length) false) p (frame_at b p first)
+    (λ frame is. let long = frame_has_length b p first frame is in
+    enough_steps b (length b - (p + 1)) (length b - (p + frame.length)) (p + frame.length) false (omega (arith, long)) (omega arith))
 
 -- the first record from a place on
 pub first_frame-found : (b : List ℕ) (p : ℕ) (frame : FrameView) (first : Bool) → p < length b → frame_at b p first ≡ Ok frame
@@ -71,7 +104,8 @@ pub first_frame-found : (b : List ℕ) (p : ℕ) (frame : FrameView) (first : Bo
 first_frame-found b p frame first before is =
     ap first_frame (records_after-next b p first before ∙ ap (record_then (λ frame. records_after b (p + frame.length) false) p) is)
 
-pub first_frame-fault : (b : List ℕ) (p : ℕ) (fault : FrameFault) (first : Bool) → p < length b → frame_at b p first ≡ Err fault → first_frame (records_after b p first) ≡ None
+pub first_frame-fault : (b : List ℕ) (p : ℕ) (fault : FrameFault) (first : Bool) → p < length b → frame_at b p first ≡ Err fault
+    → first_frame (records_after b p first) ≡ None
 first_frame-fault b p fault first before is =
     ap first_frame (records_after-next b p first before ∙ ap (record_then (λ frame. records_after b (p + frame.length) false) p) is)
 
@@ -86,7 +120,8 @@ first_frame-is b p first (Err fault) before is = sym (first_frame-fault b p faul
 
 -- before the end of a file there is one
 pub records_after-some : (b : List ℕ) (p : ℕ) (first : Bool) → p < length b → 0 < length (records_after b p first)
-records_after-some b p first before = rw (records_after-next b p first before) (not_empty (λ frame. records_after b (p + frame.length) false) p (frame_at b p first))
+records_after-some b p first before = rw (records_after-next b p first before)
+    (not_empty (λ frame. records_after b (p + frame.length) false) p (frame_at b p first))
   where
     not_empty : (others : FrameView → List FileRecord) (p : ℕ) (found : Result FrameView FrameFault) → 0 < length (record_then others p found)
     not_empty others p (Ok frame) = omega arith

@@ -7,8 +7,47 @@ use Rattle.std.proofs.lemmas.List.{length-append}
 use Rattle.std.proofs.lemmas.List.Sums.{count_by-le-length}
 use Rattle.std.proofs.lemmas.List.Folds.{list_all-append}
 use Rattle.std.proofs.lemmas.List.Elements.{recursion_from_All}
-use Rattle.s57_types.specs.Subfield.{Form, Subfield, unsigned_of, signed_of, text_of, wide_text_of, fixed_of, is_plain, holds, has_unit, unit_terminator, field_terminator, IsSubfield}
-use Rattle.s57_types.specs.FieldRows.{dsid_forms, dssi_forms, dspm_forms, frid_forms, foid_forms, attribute_forms, partner_forms, place_forms, vrid_forms, end_forms, plane_forms, deep_forms, dsid_row, dssi_row, dspm_row, frid_row, foid_row, attribute_row, partner_row, place_row, vrid_row, end_row, plane_row, deep_row}
+use Rattle.s57_types.specs.Subfield.{
+  Form,
+  Subfield,
+  unsigned_of,
+  signed_of,
+  text_of,
+  wide_text_of,
+  fixed_of,
+  is_plain,
+  holds,
+  has_unit,
+  unit_terminator,
+  field_terminator,
+  IsSubfield,
+}
+use Rattle.s57_types.specs.FieldRows.{
+  dsid_forms,
+  dssi_forms,
+  dspm_forms,
+  frid_forms,
+  foid_forms,
+  attribute_forms,
+  partner_forms,
+  place_forms,
+  vrid_forms,
+  end_forms,
+  plane_forms,
+  deep_forms,
+  dsid_row,
+  dssi_row,
+  dspm_row,
+  frid_row,
+  foid_row,
+  attribute_row,
+  partner_row,
+  place_row,
+  vrid_row,
+  end_row,
+  plane_row,
+  deep_row,
+}
 use Rattle.s57_types.specs.Fitness.{unfitness, is_vector_kind, is_feature_kind, is_fit_head}
 use Rattle.s57_types.specs.RecordFields.{dsid_of_head, dssi_of_head, dspm_of_head}
 use Rattle.s57_types.specs.declared.cell.Cell.{Cell}
@@ -27,7 +66,20 @@ use Rattle.s57_types.specs.declared.record.Rec.{Rec}
 use Rattle.s57_types.specs.declared.record.Rec.TheVariants.{V, F, H}
 use Rattle.cell_spec.specs.Lookup.{all_records}
 use Rattle.cell_spec.specs.Writable.{IsWritable}
-use Rattle.field_spec.specs.Contents.{dsid_content, dssi_content, dspm_content, frid_content, foid_content, attribute_content, partner_content, place_content, vrid_content, end_content, plane_content, deep_content}
+use Rattle.field_spec.specs.Contents.{
+  dsid_content,
+  dssi_content,
+  dspm_content,
+  frid_content,
+  foid_content,
+  attribute_content,
+  partner_content,
+  place_content,
+  vrid_content,
+  end_content,
+  plane_content,
+  deep_content,
+}
 use Rattle.field_spec.specs.FieldBytes.{field_bytes, rows_bytes}
 use Rattle.field_spec.specs.FieldFit.{IsFit}
 use Rattle.file_spec.specs.EncodedCell.{record_counts, is_meta, is_cartographic, is_geo, is_collection}
@@ -44,12 +96,17 @@ pub record FieldLaws : Type 0 where
   pub frid : (d : Frid) → IsFit frid_forms (frid_row d) → frid_content (field_bytes (frid_row d)) ≡ Ok d
   pub foid : (d : Lnam) → IsFit foid_forms (foid_row d) → foid_content (field_bytes (foid_row d)) ≡ Ok d
   pub vrid : (d : Vrid) → IsFit vrid_forms (vrid_row d) → is_vector_kind d.name.kind ≡ true → vrid_content (field_bytes (vrid_row d)) ≡ Ok d
-  pub attributes : (level : ℕ) (attrs : List Attr) → AllByRecursion (λ a. IsFit (attribute_forms level) (attribute_row level a)) attrs → attribute_content level (rows_bytes level (attribute_row level) attrs) ≡ Ok attrs
-  pub partners : (partners : List Partner) → AllByRecursion (λ p. IsFit partner_forms (partner_row p)) partners → partner_content (rows_bytes 0 partner_row partners) ≡ Ok partners
-  pub places : (places : List Spot) → AllByRecursion (λ s. IsFit place_forms (place_row s)) places → list_all (λ s. is_vector_kind s.to.kind) places ≡ true → place_content (rows_bytes 0 place_row places) ≡ Ok places
-  pub ends : (ends : List End) → AllByRecursion (λ e. IsFit end_forms (end_row e)) ends → list_all (λ e. is_vector_kind e.to.kind) ends ≡ true → end_content (rows_bytes 0 end_row ends) ≡ Ok ends
+  pub attributes : (level : ℕ) (attrs : List Attr) → AllByRecursion (λ a. IsFit (attribute_forms level) (attribute_row level a)) attrs
+      → attribute_content level (rows_bytes level (attribute_row level) attrs) ≡ Ok attrs
+  pub partners : (partners : List Partner) → AllByRecursion (λ p. IsFit partner_forms (partner_row p)) partners
+      → partner_content (rows_bytes 0 partner_row partners) ≡ Ok partners
+  pub places : (places : List Spot) → AllByRecursion (λ s. IsFit place_forms (place_row s)) places
+      → list_all (λ s. is_vector_kind s.to.kind) places ≡ true → place_content (rows_bytes 0 place_row places) ≡ Ok places
+  pub ends : (ends : List End) → AllByRecursion (λ e. IsFit end_forms (end_row e)) ends → list_all (λ e. is_vector_kind e.to.kind) ends ≡ true
+      → end_content (rows_bytes 0 end_row ends) ≡ Ok ends
   pub plane : (points : List (ℤ × ℤ)) → AllByRecursion (λ p. IsFit plane_forms (plane_row p)) points → plane_content (rows_bytes 0 plane_row points) ≡ Ok points
-  pub deep : (soundings : List (ℤ × ℤ × ℤ)) → AllByRecursion (λ p. IsFit deep_forms (deep_row p)) soundings → deep_content (rows_bytes 0 deep_row soundings) ≡ Ok soundings
+  pub deep : (soundings : List (ℤ × ℤ × ℤ)) → AllByRecursion (λ p. IsFit deep_forms (deep_row p)) soundings
+      → deep_content (rows_bytes 0 deep_row soundings) ≡ Ok soundings
 
 not_true : (b : Bool) → not b ≡ true → b ≡ false
 not_true true e = absurd cc
@@ -67,12 +124,14 @@ subfield_fits (fixed_of t) range plain = tt
 
 each_fits : (row : List Subfield) → AllByRecursion IsInRange row → list_all is_plain row ≡ true → AllByRecursion IsSubfield row
 each_fits [] range plain = tt
-each_fits (s ∷ row) range plain = let parts = both (is_plain s) (list_all is_plain row) plain in (subfield_fits s range.0 parts.0, each_fits row range.1 parts.1)
+each_fits (s ∷ row) range plain = let parts = both (is_plain s) (list_all is_plain row) plain in
+    (subfield_fits s range.0 parts.0, each_fits row range.1 parts.1)
 
 fit_row : (forms : List Form) (row : List Subfield) → HasForms forms row → list_all is_plain row ≡ true → IsFit forms row
 fit_row forms row has plain = record { is_row = record { forms_are = has.forms_are; each = each_fits row has.each plain }; has_plain_texts = plain }
 
-fit_rows : {X : Type 0} (forms : List Form) (row : X → List Subfield) (xs : List X) → AllByRecursion (λ x. HasForms forms (row x)) xs → list_all is_plain (flat_map row xs) ≡ true → AllByRecursion (λ x. IsFit forms (row x)) xs
+fit_rows : {X : Type 0} (forms : List Form) (row : X → List Subfield) (xs : List X) → AllByRecursion (λ x. HasForms forms (row x)) xs
+    → list_all is_plain (flat_map row xs) ≡ true → AllByRecursion (λ x. IsFit forms (row x)) xs
 fit_rows forms row [] has plain = tt
 fit_rows forms row (x ∷ xs) has plain =
     let parts = both (list_all is_plain (row x)) (list_all is_plain (flat_map row xs)) (sym (list_all-append is_plain (row x) (flat_map row xs)) ∙ plain) in
@@ -81,7 +140,8 @@ fit_rows forms row (x ∷ xs) has plain =
 -- rows of numbers have no text
 plain_rows : {X : Type 0} (row : X → List Subfield) → ((x : X) → list_all is_plain (row x) ≡ true) → (xs : List X) → list_all is_plain (flat_map row xs) ≡ true
 plain_rows row plain [] = refl
-plain_rows row plain (x ∷ xs) = list_all-append is_plain (row x) (flat_map row xs) ∙ ap (λ b. b && list_all is_plain (flat_map row xs)) (plain x) ∙ plain_rows row plain xs
+plain_rows row plain (x ∷ xs) = list_all-append is_plain (row x) (flat_map row xs) ∙ ap (λ b. b && list_all is_plain (flat_map row xs)) (plain x)
+    ∙ plain_rows row plain xs
 
 record_back : (laws : FieldLaws) (nall : ℕ) (r : Rec) → unfitness nall r ≡ None → RecordHasForms nall r → RecordIsReadBack nall r
 record_back laws nall (V v) fit has =
@@ -110,7 +170,8 @@ record_back laws nall (F f) fit has =
     }
 record_back laws nall (H h) fit has = tt
 
-records_back : (laws : FieldLaws) (nall : ℕ) (records : List Rec) → AllByRecursion (λ r. unfitness nall r ≡ None) records → AllByRecursion (RecordHasForms nall) records → AllByRecursion (RecordIsReadBack nall) records
+records_back : (laws : FieldLaws) (nall : ℕ) (records : List Rec) → AllByRecursion (λ r. unfitness nall r ≡ None) records
+    → AllByRecursion (RecordHasForms nall) records → AllByRecursion (RecordIsReadBack nall) records
 records_back laws nall [] fit has = tt
 records_back laws nall (r ∷ records) fit has = (record_back laws nall r fit.0 has.0, records_back laws nall records fit.1 has.1)
 
@@ -122,8 +183,19 @@ counts_fit c w =
     let meta = count_by-le-length is_meta c.fe in
     let cartographic = count_by-le-length is_cartographic c.fe in
     let geo = count_by-le-length is_geo c.fe in
-    let collection = count_by-le-length is_collection c.fe in
-    (omega (arith, parts, meta), (omega (arith, parts, cartographic), (omega (arith, parts, geo), (omega (arith, parts, collection), (omega (arith, parts), (omega (arith, parts), (omega (arith, parts), (omega arith, tt))))))))
+    let collection = count_by-le-length is_collection c.fe in (
+      omega (arith, parts, meta),
+      (
+        omega (arith, parts, cartographic),
+        (
+          omega (arith, parts, geo),
+          (
+            omega (arith, parts, collection),
+            (omega (arith, parts), (omega (arith, parts), (omega (arith, parts), (omega arith, tt)))),
+          ),
+        ),
+      ),
+    )
 
 head_back : (laws : FieldLaws) (c : Cell) → IsWritable c → HasItsTypes c → HeadIsReadBack c.head (record_counts c)
 unfolding is_fit_head
@@ -146,4 +218,8 @@ head_back laws c w has =
     }
 
 pub round_trip_from : FieldLaws → RoundTrip
-round_trip_from laws c w has = cell_is_read_back c w (record { head = head_back laws c w has; records = records_back laws c.head.nall (all_records c) (recursion_from_All _ (all_records c) w.records_fit) has.records })
+round_trip_from laws c w has = cell_is_read_back c w (record {
+  head = head_back laws c w has;
+  records =
+      records_back laws c.head.nall (all_records c) (recursion_from_All _ (all_records c) w.records_fit) has.records;
+})

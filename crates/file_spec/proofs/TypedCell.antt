@@ -11,9 +11,13 @@ use Rattle.cell_spec.proofs.EachItem.{each_weaker}
 pub of_lent : {X : Type 0} (P : X → Type 0) (lent items : List X) → lent ≡ items → AllByRecursion P lent → AllByRecursion P items
 of_lent P lent items is all = subst (AllByRecursion P) is all
 
-pub attributes_at : (level : ℕ) (lent attrs : List Attr) → lent ≡ attrs → AllByRecursion AttributeHasForms lent → AllByRecursion (λ a. HasForms (attribute_forms level) (attribute_row level a)) attrs
-attributes_at level lent attrs is all = each_weaker AttributeHasForms (λ a. HasForms (attribute_forms level) (attribute_row level a)) (λ a has. has level) attrs (of_lent AttributeHasForms lent attrs is all)
+pub attributes_at : (level : ℕ) (lent attrs : List Attr) → lent ≡ attrs → AllByRecursion AttributeHasForms lent
+    → AllByRecursion (λ a. HasForms (attribute_forms level) (attribute_row level a)) attrs
+attributes_at level lent attrs is all = each_weaker AttributeHasForms (λ a. HasForms (attribute_forms level) (attribute_row level a))
+    (λ a has. has level) attrs (of_lent AttributeHasForms lent attrs is all)
 
-pub records_at : (nall : ℕ) (lent records : List Rec) → lent ≡ records → AllByRecursion (λ rec. (level : ℕ) → RecordHasForms level rec) lent → AllByRecursion (RecordHasForms nall) records
+pub records_at : (nall : ℕ) (lent records : List Rec) → lent ≡ records → AllByRecursion (λ rec. (level : ℕ) → RecordHasForms level rec) lent
+    → AllByRecursion (RecordHasForms nall) records
 records_at nall lent records is all =
-    each_weaker (λ rec. (level : ℕ) → RecordHasForms level rec) (RecordHasForms nall) (λ rec has. has nall) records (of_lent (λ rec. (level : ℕ) → RecordHasForms level rec) lent records is all)
+    each_weaker (λ rec. (level : ℕ) → RecordHasForms level rec) (RecordHasForms nall) (λ rec has. has nall) records
+    (of_lent (λ rec. (level : ℕ) → RecordHasForms level rec) lent records is all)

@@ -15,7 +15,20 @@ use Rattle.s57_types.specs.declared.field.Dsid.{Dsid}
 use Rattle.s57_types.specs.declared.field.Dssi.{Dssi}
 use Rattle.s57_types.specs.declared.field.Dspm.{Dspm}
 use Rattle.s57_types.specs.declared.cell.Cell.{Cell}
-use Rattle.field_spec.specs.Contents.{dsid_content, dssi_content, dspm_content, frid_content, foid_content, attribute_content, partner_content, place_content, vrid_content, end_content, plane_content, deep_content}
+use Rattle.field_spec.specs.Contents.{
+  dsid_content,
+  dssi_content,
+  dspm_content,
+  frid_content,
+  foid_content,
+  attribute_content,
+  partner_content,
+  place_content,
+  vrid_content,
+  end_content,
+  plane_content,
+  deep_content,
+}
 use Rattle.cell_spec.specs.Lookup.{all_records, name_of, is_named}
 use Rattle.cell_spec.specs.Writable.{record_limit}
 use Rattle.file_spec.specs.CellRecords.{empty_cell, head_with, with_record}
@@ -42,7 +55,8 @@ is_geographic_reference types.Feature = false
 
 -- the two head records take no more bytes than they may, when they are written again
 abbrev pub fits_general_information : Dsid → Dssi → Bool
-fits_general_information d s = nat_le (record_length (field_lengths (number_field 0 ∷ field_of (codes "DSID") (dsid_row d) ∷ field_of (codes "DSSI") (dssi_row s) ∷ []))) length_limit
+fits_general_information d s = nat_le (record_length (field_lengths
+    (number_field 0 ∷ field_of (codes "DSID") (dsid_row d) ∷ field_of (codes "DSSI") (dssi_row s) ∷ []))) length_limit
 
 abbrev pub fits_geographic_reference : Dspm → Bool
 fits_geographic_reference p = nat_le (record_length (field_lengths (number_field 0 ∷ field_of (codes "DSPM") (dspm_row p) ∷ []))) length_limit
@@ -125,7 +139,8 @@ record_behind c fields = do
 
 -- what the record of a number says, or its fault. The fault of its frame comes first
 abbrev pub said_by : {X : Type 0} → ℕ → (List Field → Result X RecordFault) → FileRecord → Result X CellFault
-said_by number meaning r = result_map_both (λ x. x) (fault_at number r.offset) (result_map_both (λ (frame : FrameView). frame.fields) of_frame r.found >>= meaning)
+said_by number meaning r = result_map_both (λ x. x) (fault_at number r.offset)
+    (result_map_both (λ (frame : FrameView). frame.fields) of_frame r.found >>= meaning)
 
 -- the same of a record that must be there, with the records behind it; a file that ends before it is cut short at its end
 abbrev pub said_by_next : {X : Type 0} → ℕ → ℕ → (List Field → Result X RecordFault) → List FileRecord → Result (X × List FileRecord) CellFault

@@ -161,14 +161,16 @@ label_text rows labels = codes "*" ++ labels
 abbrev pub description_field : Description → Field
 description_field d = record {
   tag = tag_text d.tag;
-  bytes = structure_controls d.structure ++ level_controls d.level ++ d.name ++ (unit_terminator ∷ []) ++ label_text d.structure d.labels ++ (unit_terminator ∷ []) ++ d.formats ++ (field_terminator ∷ []);
+  bytes = structure_controls d.structure ++ level_controls d.level ++ d.name ++ (unit_terminator ∷ []) ++ label_text d.structure d.labels
+      ++ (unit_terminator ∷ []) ++ d.formats ++ (field_terminator ∷ []);
 }
 
 -- the file control field has no title
 abbrev pub control_field : Field
 control_field = record {
   tag = codes "0000";
-  bytes = codes "0000;&   " ++ (unit_terminator ∷ []) ++ flat_map (λ (pair : FieldTag × FieldTag). tag_text pair.0 ++ tag_text pair.1) tag_pairs ++ (field_terminator ∷ []);
+  bytes = codes "0000;&   " ++ (unit_terminator ∷ []) ++ flat_map (λ (pair : FieldTag × FieldTag). tag_text pair.0 ++ tag_text pair.1) tag_pairs
+      ++ (field_terminator ∷ []);
 }
 
 abbrev pub descriptive_fields : ℕ → ℕ → List Field

@@ -32,7 +32,8 @@ is_geo r = not (has_class_from 300 599 r)
 
 -- NOMR, NOCR, NOGR, NOLR, NOIN, NOCN, NOED and NOFA; there are no faces
 abbrev pub record_counts : Cell → List ℕ
-record_counts c = count_by is_meta c.fe ∷ count_by is_cartographic c.fe ∷ count_by is_geo c.fe ∷ count_by is_collection c.fe ∷ length c.vi ∷ length c.vc ∷ length c.ve ∷ 0 ∷ []
+record_counts c = count_by is_meta c.fe ∷ count_by is_cartographic c.fe ∷ count_by is_geo c.fe ∷ count_by is_collection c.fe
+    ∷ length c.vi ∷ length c.vc ∷ length c.ve ∷ 0 ∷ []
 
 -- data records have numbers from 1 on; behind 65,535 comes 0. This project's own choice
 abbrev pub record_number : ℕ → ℕ

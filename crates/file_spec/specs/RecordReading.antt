@@ -5,7 +5,20 @@ use Rattle.std.specs.List.{list_any, flat_map}
 use Rattle.std.specs.Option.{option_map, option_or, option_and_then, ok_or}
 use Rattle.std.specs.Result.{result_ok, result_err, result_unwrap_or}
 use Rattle.frame_spec.specs.RecordFrame.{Field}
-use Rattle.field_spec.specs.Contents.{dsid_content, dssi_content, dspm_content, frid_content, foid_content, attribute_content, partner_content, place_content, vrid_content, end_content, plane_content, deep_content}
+use Rattle.field_spec.specs.Contents.{
+  dsid_content,
+  dssi_content,
+  dspm_content,
+  frid_content,
+  foid_content,
+  attribute_content,
+  partner_content,
+  place_content,
+  vrid_content,
+  end_content,
+  plane_content,
+  deep_content,
+}
 use Rattle.field_spec.specs.declared.fault.FieldFault.{FieldFault}
 use Rattle.file_spec.specs.RecordFaults.{of_field}
 use Rattle.file_spec.specs.FieldTags.{is_tagged, tag_in, may_repeat}
@@ -24,7 +37,8 @@ leading_tag types.Vector = tags.Vrid
 leading_tag types.Feature = tags.Frid
 
 abbrev pub type_of_leading : Field → Option RecordType
-type_of_leading field = find (λ type. is_tagged (leading_tag type) field) (types.GeneralInformation ∷ types.GeographicReference ∷ types.Vector ∷ types.Feature ∷ [])
+type_of_leading field = find (λ type. is_tagged (leading_tag type) field)
+    (types.GeneralInformation ∷ types.GeographicReference ∷ types.Vector ∷ types.Feature ∷ [])
 
 -- the type of a record, by its first field but the record identifier
 abbrev pub record_type : List Field → Result RecordType RecordFault
@@ -60,7 +74,8 @@ field_fault nall type before field = of_tag (tag_in type field)
   where
     of_tag : Option FieldTag → Option RecordFault
     of_tag None = Some ForeignTag
-    of_tag (Some tag) = if list_any (is_tagged tag) before && not (may_repeat tag) then Some RepeatedField else option_map of_field (content_fault nall tag field.bytes)
+    of_tag (Some tag) = if list_any (is_tagged tag) before && not (may_repeat tag) then Some RepeatedField else option_map of_field
+        (content_fault nall tag field.bytes)
 
 -- the fault of the first field that has one, among fields behind others
 unfoldable pub fields_fault : ℕ → RecordType → List Field → List Field → Option RecordFault

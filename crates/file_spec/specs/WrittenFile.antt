@@ -33,7 +33,8 @@ fields_of_cell c =
 
 -- a file of records that can be written has these records
 abbrev pub WrittenRecordsAreFound : Type 0
-WrittenRecordsAreFound = (records : List (List Field)) → AllByRecursion CanBeWritten records → file_records (written_records true records) ≡ placed_records 0 records
+WrittenRecordsAreFound = (records : List (List Field)) → AllByRecursion CanBeWritten records
+    → file_records (written_records true records) ≡ placed_records 0 records
 
 -- the file of a writable cell has the cell's records
 abbrev pub CellRecordsAreFound : Type 0

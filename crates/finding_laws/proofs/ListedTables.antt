@@ -35,7 +35,8 @@ pub all_is_right : (c : Cell) → IsVerdictTable c (all_findings c)
 unfolding all_findings
 all_is_right c = record {
   ascending = made_ascends subject_order total_subjects exact_subjects (findings_of_subject c) has_some (subjects c) (sorted_subjects c);
-  exact = λ s. value_made subject_order total_subjects exact_subjects (findings_of_subject c) has_some s (subjects c) ∙ sym (verdict_by c s (holds subject_order s (subjects c)) (sym (holds_subject c s)));
+  exact = λ s. value_made subject_order total_subjects exact_subjects (findings_of_subject c) has_some s (subjects c)
+      ∙ sym (verdict_by c s (holds subject_order s (subjects c)) (sym (holds_subject c s)));
 }
 
 -- ---- reads

@@ -24,5 +24,6 @@ module _ (follow : FindingsFollowReads) (local : EditedAnswersAreLocal) where
       each_weaker (λ k. list_any (same_key k) stale ≡ false) (λ k. AnswerAlike e f k)
       (λ k none. local edits c d fit_c fit_d k (kept k none)) row.reads clear in
       let reads : row.reads ≡ read_set e row.subject = ap (λ (r : Row). r.reads) exact in
-      let same = follow row.subject e f (All-from_recursion (λ k. AnswerAlike e f k) (read_set e row.subject) (subst (AllByRecursion (λ k. AnswerAlike e f k)) reads alike)) in
+      let same = follow row.subject e f (All-from_recursion (λ k. AnswerAlike e f k) (read_set e row.subject)
+      (subst (AllByRecursion (λ k. AnswerAlike e f k)) reads alike)) in
       exact ∙ (λ i. record { subject = row.subject; findings = same.findings i; reads = same.reads i })

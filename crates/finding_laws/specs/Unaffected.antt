@@ -29,7 +29,8 @@ UnaffectedSubjectsKeepFindings = (edits : List Edit) (c : Cell) → FindTheirRec
 -- a record, a side or an identifier of the cell before or after that isn't affected has the same read set before and after
 abbrev pub UnaffectedSinglesKeepReads : Type 0
 UnaffectedSinglesKeepReads = (edits : List Edit) (c : Cell) → FindTheirRecords edits c → (s : Subject) → is_single s ≡ true
-    → (is_subject c s || is_subject (apply_edits edits c) s) ≡ true → is_affected (change_by edits c) s ≡ false → read_set (apply_edits edits c) s ≡ read_set c s
+    → (is_subject c s || is_subject (apply_edits edits c) s) ≡ true → is_affected (change_by edits c) s ≡ false
+    → read_set (apply_edits edits c) s ≡ read_set c s
 
 -- a record that isn't affected has the same segments before and after
 abbrev pub UnaffectedRecordsKeepSegments : Type 0

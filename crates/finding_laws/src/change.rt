@@ -1,6 +1,7 @@
 //! Laws of what edits change and what they leave. Each law is the contract of a function that does nothing.
 
-ghost use Rattle.finding_laws.specs.Unaffected.{AffectedAreConsidered, AffectedListIsSet, SubjectsAreListed, UnaffectedRecordsKeepSegments, UnaffectedSinglesKeepReads, UnaffectedSubjectsKeepFindings, ValidRowsStayExact};
+ghost use Rattle.finding_laws.specs.Unaffected.{AffectedAreConsidered, AffectedListIsSet, SubjectsAreListed, UnaffectedRecordsKeepSegments};
+ghost use Rattle.finding_laws.specs.Unaffected.{UnaffectedSinglesKeepReads, UnaffectedSubjectsKeepFindings, ValidRowsStayExact};
 
 use crate::pair::found_pairs_are_candidates;
 use answer_laws::{edited_answers_are_local, untouched_keys_keep_answers};

@@ -1,5 +1,35 @@
 -- The tests of a record frame decide what they are named for.
-use Rattle.std.proofs.Common.{◌≡◌, ◌≤◌, ◌<◌, ℕ, ◌+◌, ◌-◌, ◌%◌, Bool, true, false, not, List, length, get_or, Decides, ◌&&◌, Result, MatchResult, Ok, Err, refl, sym, ◌∙◌, subst, arith, zero-add, cond, nat_lt, nat_le}
+use Rattle.std.proofs.Common.{
+  ◌≡◌,
+  ◌≤◌,
+  ◌<◌,
+  ℕ,
+  ◌+◌,
+  ◌-◌,
+  ◌%◌,
+  Bool,
+  true,
+  false,
+  not,
+  List,
+  length,
+  get_or,
+  Decides,
+  ◌&&◌,
+  Result,
+  MatchResult,
+  Ok,
+  Err,
+  refl,
+  sym,
+  ◌∙◌,
+  subst,
+  arith,
+  zero-add,
+  cond,
+  nat_lt,
+  nat_le,
+}
 use Rattle.std.specs.Prelude.{All, slice_index}
 use Rattle.std.specs.List.{list_all, range_with_len}
 use Rattle.std.proofs.lemmas.Bool.Decides.{nat_tests, Decides-eqb, Decides-and, Decides-like, Decides-ltb, not_from_Decides}
@@ -7,14 +37,37 @@ use Rattle.std.proofs.lemmas.Bool.{ltb-false, ltb-true}
 use Rattle.std.proofs.lemmas.List.Sums.{AllPass-from_list_all, list_all-from_AllPass}
 use Rattle.std.proofs.lemmas.List.FromFn.{length-range_with_len, get_or-range_with_len}
 use Rattle.std.specs.Char.{IsAsciiDigit}
-use Rattle.frame_spec.specs.RecordFrame.{FrameView, AreDigits, IsSize, IsLeader, IsEntry, IsDirectory, RecordFrame, in_leader, in_record, bytes_at, kind_of, length_at, base_at, length_text, position_text, field_length, field_position, entry_size_at, count_at}
+use Rattle.frame_spec.specs.RecordFrame.{
+  FrameView,
+  AreDigits,
+  IsSize,
+  IsLeader,
+  IsEntry,
+  IsDirectory,
+  RecordFrame,
+  in_leader,
+  in_record,
+  bytes_at,
+  kind_of,
+  length_at,
+  base_at,
+  length_text,
+  position_text,
+  field_length,
+  field_position,
+  entry_size_at,
+  count_at,
+}
 use Rattle.frame_spec.specs.FrameDecision.{is_digit, is_size, is_leader, is_entry, is_directory, record_at, frame_at}
 use Rattle.frame_spec.specs.FrameFaults.{HasFrameFault}
 use Rattle.frame_spec.specs.declared.fault.FrameFault.{FrameFault}
 use Rattle.frame_spec.specs.declared.fault.FrameFault.TheVariants.{Short, BadLeader, BadDirectory}
 
 Decides-list_all : {X : Type 0} (p : X → Bool) (P : X → Type 0) → ((x : X) → Decides (p x) (P x)) → (xs : List X) → Decides (list_all p xs) (All P xs)
-Decides-list_all p P each xs = (λ e k d h. (each (get_or xs k d)).0 (AllPass-from_list_all p xs e k d h), λ all. list_all-from_AllPass p xs (λ k d h. (each (get_or xs k d)).1 (all k d h)))
+Decides-list_all p P each xs = (
+  λ e k d h. (each (get_or xs k d)).0 (AllPass-from_list_all p xs e k d h),
+  λ all. list_all-from_AllPass p xs (λ k d h. (each (get_or xs k d)).1 (all k d h)),
+)
 
 le_decides : (a b : ℕ) → Decides (nat_le a b) (a ≤ b)
 le_decides a b = (λ e. grind (arith, nat_tests), λ h. grind (arith, nat_tests))
@@ -35,7 +88,17 @@ digits_decide = Decides-list_all is_digit IsAsciiDigit digit_decides
 leader_decides : (b : List ℕ) (p : ℕ) (first : Bool) → Decides (is_leader b p first) (IsLeader b p first)
 unfolding is_leader
 leader_decides b p first = Decides-like _
-    (λ (((((((a, k), c), d), e), f), g), h). record { length_digits = a; kind = k; base_digits = c; length_size = d; position_size = e; tag_size = f; base_above = g; base_within = h })
+    (λ (((((((a, k), c), d), e), f), g), h). record {
+      length_digits = a;
+      kind = k;
+      base_digits = c;
+      length_size = d;
+      position_size =
+          e;
+      tag_size = f;
+      base_above = g;
+      base_within = h;
+    })
     (λ l. (((((((l.length_digits, l.kind), l.base_digits), l.length_size), l.position_size), l.tag_size), l.base_above), l.base_within))
     (digits_decide (bytes_at b p 5) and Decides-eqb (slice_index b (p + 6)) (kind_of first) and digits_decide (bytes_at b (p + 12) 5)
     and size_decides (slice_index b (p + 20)) and size_decides (slice_index b (p + 21)) and Decides-eqb (slice_index b (p + 23)) 52
@@ -72,7 +135,8 @@ chosen : (short no_leader short_record no_directory : Bool) (O : FrameView → T
     → (short ≡ false → no_leader ≡ true → short_record ≡ true → F Short)
     → (short ≡ false → no_leader ≡ true → short_record ≡ false → no_directory ≡ false → F BadDirectory)
     → (short ≡ false → no_leader ≡ true → short_record ≡ false → no_directory ≡ true → O x)
-    → MatchResult (cond short (Err Short) (cond (not no_leader) (Err BadLeader) (cond short_record (Err Short) (cond (not no_directory) (Err BadDirectory) (Ok x))))) O F
+    → MatchResult (cond short (Err Short) (cond (not no_leader) (Err BadLeader)
+    (cond short_record (Err Short) (cond (not no_directory) (Err BadDirectory) (Ok x))))) O F
 chosen true l r d O F x a b c e f = a refl
 chosen false false r d O F x a b c e f = b refl refl
 chosen false true true d O F x a b c e f = c refl refl refl
@@ -84,12 +148,27 @@ unfolding frame_at
 frame_decides b p first =
     let leader = leader_decides b p first in
     let directory = directory_decides b p in
-    chosen (nat_lt (length b) (p + 24)) (is_leader b p first) (nat_lt (length b) (p + length_at b p)) (is_directory b p) (RecordFrame b p first) (HasFrameFault b p first) (record_at b p)
+    chosen (nat_lt (length b) (p + 24)) (is_leader b p first) (nat_lt (length b) (p + length_at b p)) (is_directory b p)
+    (RecordFrame b p first) (HasFrameFault b p first) (record_at b p)
     (λ short. in_leader (ltb-true _ _ short))
     (λ long none. record { leader_fits = ltb-false _ _ long; no_leader = not_from_Decides _ leader none })
     (λ long is short. in_record (ltb-false _ _ long) (leader.0 is) (ltb-true _ _ short))
-    (λ long is fits none. record { leader_fits = ltb-false _ _ long; leader = leader.0 is; fits = ltb-false _ _ fits; no_directory = not_from_Decides _ directory none })
-    (λ long is fits all. record { leader_fits = ltb-false _ _ long; leader = leader.0 is; fits = ltb-false _ _ fits; directory = directory.0 all; length_is = refl; fields_are = refl })
+    (λ long is fits none. record {
+      leader_fits = ltb-false _ _ long;
+      leader = leader.0 is;
+      fits = ltb-false _ _ fits;
+      no_directory =
+          not_from_Decides _ directory none;
+    })
+    (λ long is fits all. record {
+      leader_fits = ltb-false _ _ long;
+      leader = leader.0 is;
+      fits = ltb-false _ _ fits;
+      directory =
+          directory.0 all;
+      length_is = refl;
+      fields_are = refl;
+    })
 
 -- answers that both hold are one
 same_answer : (b : List ℕ) (p : ℕ) (first : Bool) (x y : Result FrameView FrameFault)
@@ -111,5 +190,6 @@ same_answer b p first (Err BadDirectory) (Err Short) h k = absurd (grind arith)
 same_answer b p first (Err BadDirectory) (Err BadLeader) h k = absurd (k.no_leader h.leader)
 same_answer b p first (Err BadDirectory) (Err BadDirectory) h k = refl
 
-pub answer_is : (b : List ℕ) (p : ℕ) (first : Bool) (answer : Result FrameView FrameFault) → MatchResult answer (RecordFrame b p first) (HasFrameFault b p first) → answer ≡ frame_at b p first
+pub answer_is : (b : List ℕ) (p : ℕ) (first : Bool) (answer : Result FrameView FrameFault)
+    → MatchResult answer (RecordFrame b p first) (HasFrameFault b p first) → answer ≡ frame_at b p first
 answer_is b p first answer h = same_answer b p first answer (frame_at b p first) h (frame_decides b p first)

@@ -21,7 +21,8 @@ stands_left b p x y h = let t : List ℕ = drop p b in
 pub stands_right : (b : List ℕ) (p : ℕ) (x y : List ℕ) → StandsAt b p (x ++ y) → StandsAt b (p + length x) y
 stands_right b p x y h = let t : List ℕ = drop p b in
     let both : take (length x + length y) t ≡ x ++ y = ap (λ n. take n t) (sym (length-append x y)) ∙ stands_take b p (x ++ y) h in
-    take_stands b (p + length x) y (ap (take (length y)) (sym (drop-drop (length x) p b)) ∙ sym (drop-take (length x) (length y) t) ∙ ap (drop (length x)) both ∙ drop-append_seam x y)
+    take_stands b (p + length x) y (ap (take (length y)) (sym (drop-drop (length x) p b)) ∙ sym (drop-take (length x) (length y) t)
+    ∙ ap (drop (length x)) both ∙ drop-append_seam x y)
 
 -- the byte at a place
 pub stands_byte : (b : List ℕ) (p c : ℕ) (rest : List ℕ) → StandsAt b p (c ∷ rest) → get_or b p 0 ≡ c
@@ -41,7 +42,8 @@ stands_within b p x some h = let e : length (take (length x) (drop p b)) ≡ len
 
 -- what stands in the bytes stands at its place
 pub stands_at : (b : List ℕ) (p : ℕ) (x : List ℕ) (i : ℕ) → StandsAt b p x → i < length x → get_or b (p + i) 0 ≡ get_or x i 0
-stands_at b p x i h within = sym (get_or-drop p b i 0) ∙ sym (get_or-take (length x) (drop p b) i 0 within) ∙ ap (λ (y : List ℕ). get_or y i 0) (stands_take b p x h)
+stands_at b p x i h within = sym (get_or-drop p b i 0) ∙ sym (get_or-take (length x) (drop p b) i 0 within)
+    ∙ ap (λ (y : List ℕ). get_or y i 0) (stands_take b p x h)
 
 pub stands_part : (b : List ℕ) (p : ℕ) (x : List ℕ) (i n : ℕ) → StandsAt b p x → i + n ≤ length x → bytes_at b (p + i) n ≡ bytes_at x i n
 stands_part b p x i n h within = let t : List ℕ = drop p b in

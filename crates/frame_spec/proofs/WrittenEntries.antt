@@ -18,7 +18,8 @@ pub record EntryAt (b : List ℕ) (e m n position : ℕ) (field : Field) : Type 
   pub length_text : bytes_at b (e + 4) m ≡ digits m (length field.bytes)
   pub position_text : bytes_at b (e + 4 + m) n ≡ digits n position
 
-pub length-entries : (m n position : ℕ) (fields : List Field) → AllByRecursion (IsField m) fields → length (directory_entries m n position fields) ≡ length fields * (4 + m + n)
+pub length-entries : (m n position : ℕ) (fields : List Field) → AllByRecursion (IsField m) fields
+    → length (directory_entries m n position fields) ≡ length fields * (4 + m + n)
 length-entries m n position [] each = omega arith
 length-entries m n position (field ∷ fields) each =
     let rest = length-entries m n (position + length field.bytes) fields each.1 in
@@ -39,8 +40,10 @@ entry_first b p m n position field rest four h =
     let c : length y ≡ n = length-digits n position in (
       record {
         tag = stands_bytes b p field.tag 4 (stands_left b p field.tag (x ++ (y ++ rest)) h) four;
-        length_text = stands_bytes b (p + 4) x m (stands_place b (p + length field.tag) (p + 4) x (omega arith) (stands_left b (p + length field.tag) x (y ++ rest) h1)) a;
-        position_text = stands_bytes b (p + 4 + m) y n (stands_place b (p + length field.tag + length x) (p + 4 + m) y (omega arith) (stands_left b (p + length field.tag + length x) y rest h2)) c;
+        length_text = stands_bytes b (p + 4) x m (stands_place b (p + length field.tag) (p + 4) x (omega arith)
+            (stands_left b (p + length field.tag) x (y ++ rest) h1)) a;
+        position_text = stands_bytes b (p + 4 + m) y n (stands_place b (p + length field.tag + length x) (p + 4 + m) y (omega arith)
+            (stands_left b (p + length field.tag + length x) y rest h2)) c;
       },
       stands_place b (p + length field.tag + length x + length y) (p + (4 + m + n)) rest (omega arith) h3,
     )
@@ -55,18 +58,22 @@ entries_first m n position field fields =
     append_assoc (field.tag ++ x) y rest ∙ append_assoc field.tag x (y ++ rest)
 
 pub entry_at : (b : List ℕ) (p m n position : ℕ) (fields : List Field) (k : ℕ) (d : Field) → AllByRecursion (IsField m) fields → k < length fields
-    → StandsAt b p (directory_entries m n position fields) → EntryAt b (p + k * (4 + m + n)) m n (position + length (field_area (take k fields))) (get_or fields k d)
+    → StandsAt b p (directory_entries m n position fields) → EntryAt b (p + k * (4 + m + n)) m n (position + length (field_area (take k fields)))
+    (get_or fields k d)
 entry_at b p m n position [] k d each below h = absurd (omega arith)
 entry_at b p m n position (field ∷ fields) zero d each below h =
-    let one = entry_first b p m n position field (directory_entries m n (position + length field.bytes) fields) each.0.tag (subst (StandsAt b p) (entries_first m n position field fields) h) in
+    let one = entry_first b p m n position field (directory_entries m n (position + length field.bytes) fields) each.0.tag
+    (subst (StandsAt b p) (entries_first m n position field fields) h) in
     let e : p ≡ p + 0 * (4 + m + n) = omega arith in
     let f : position ≡ position + 0 = omega arith in
     subst (λ (i : ℕ). EntryAt b i m n (position + 0) field) e (subst (λ (i : ℕ). EntryAt b p m n i field) f one.0)
 entry_at b p m n position (field ∷ fields) (suc k) d each below h =
-    let one = entry_first b p m n position field (directory_entries m n (position + length field.bytes) fields) each.0.tag (subst (StandsAt b p) (entries_first m n position field fields) h) in
+    let one = entry_first b p m n position field (directory_entries m n (position + length field.bytes) fields) each.0.tag
+    (subst (StandsAt b p) (entries_first m n position field fields) h) in
     let more = entry_at b (p + (4 + m + n)) m n (position + length field.bytes) fields k d each.1 (omega arith) one.1 in
     let e : p + (4 + m + n) + k * (4 + m + n) ≡ p + suc k * (4 + m + n) = omega arith in
-    let f : position + length field.bytes + length (field_area (take k fields)) ≡ position + length (field_area (take (suc k) (field ∷ fields))) = omega (arith, length-append field.bytes (field_area (take k fields))) in
+    let f : position + length field.bytes + length (field_area (take k fields)) ≡ position + length
+    (field_area (take (suc k) (field ∷ fields))) = omega (arith, length-append field.bytes (field_area (take k fields))) in
     subst (λ (i : ℕ). EntryAt b i m n (position + length (field_area (take (suc k) (field ∷ fields)))) (get_or fields k d)) e
     (subst (λ (i : ℕ). EntryAt b (p + (4 + m + n) + k * (4 + m + n)) m n i (get_or fields k d)) f more)
 
@@ -76,12 +83,14 @@ pub bytes_in_area : (b : List ℕ) (p : ℕ) (fields : List Field) (k : ℕ) (d 
 bytes_in_area b p [] k d below h = absurd (omega arith)
 bytes_in_area b p (field ∷ fields) zero d below h = stands_place b p (p + 0) field.bytes (omega arith) (stands_left b p field.bytes (field_area fields) h)
 bytes_in_area b p (field ∷ fields) (suc k) d below h =
-    stands_place b (p + length field.bytes + length (field_area (take k fields))) (p + length (field_area (take (suc k) (field ∷ fields)))) (get_or fields k d).bytes
+    stands_place b (p + length field.bytes + length (field_area (take k fields))) (p + length (field_area (take (suc k) (field ∷ fields))))
+    (get_or fields k d).bytes
     (omega (arith, length-append field.bytes (field_area (take k fields))))
     (bytes_in_area b (p + length field.bytes) fields k d (omega arith) (stands_right b p field.bytes (field_area fields) h))
 
 -- a field ends in the area
-pub field_in_area : (fields : List Field) (k : ℕ) (d : Field) → k < length fields → length (field_area (take k fields)) + length (get_or fields k d).bytes ≤ length (field_area fields)
+pub field_in_area : (fields : List Field) (k : ℕ) (d : Field) → k < length fields
+    → length (field_area (take k fields)) + length (get_or fields k d).bytes ≤ length (field_area fields)
 field_in_area [] k d below = absurd (omega arith)
 field_in_area (field ∷ fields) zero d below = omega (arith, length-append field.bytes (field_area fields))
 field_in_area (field ∷ fields) (suc k) d below =

@@ -1,5 +1,34 @@
 -- The entry map of a record that is written has room for each length and each position.
-use Rattle.std.proofs.Common.{◌≡◌, ◌≤◌, ◌<◌, ℕ, zero, suc, ◌+◌, ◌-◌, ◌*◌, ◌/◌, ◌%◌, ◌^◌, Bool, List, [], ◌∷◌, ◌++◌, length, take, max, refl, sym, ap, ◌∙◌, subst, arith, add-one, append_assoc}
+use Rattle.std.proofs.Common.{
+  ◌≡◌,
+  ◌≤◌,
+  ◌<◌,
+  ℕ,
+  zero,
+  suc,
+  ◌+◌,
+  ◌-◌,
+  ◌*◌,
+  ◌/◌,
+  ◌%◌,
+  ◌^◌,
+  Bool,
+  List,
+  [],
+  ◌∷◌,
+  ◌++◌,
+  length,
+  take,
+  max,
+  refl,
+  sym,
+  ap,
+  ◌∙◌,
+  subst,
+  arith,
+  add-one,
+  append_assoc,
+}
 use Rattle.std.specs.Prelude.{fold, sum}
 use Rattle.std.specs.List.{AllByRecursion}
 use Rattle.std.proofs.Math.Nat.{pow-suc}
@@ -8,7 +37,22 @@ use Rattle.std.proofs.lemmas.List.{length-append, length_push, length-map}
 use Rattle.std.proofs.lemmas.List.Elements.{recursion_from_All}
 use Rattle.std.proofs.lemmas.List.Sums.{sum_by-cons, sum_by-take-le}
 use Rattle.frame_spec.specs.RecordFrame.{Field, RecordFrame}
-use Rattle.frame_spec.specs.WrittenRecord.{CanBeWritten, StandsAt, WrittenHasLength, WrittenIsRead, digit_count, length_digits, position_digits, base_address, record_length, field_lengths, field_area, directory_entries, leader_text, written_record}
+use Rattle.frame_spec.specs.WrittenRecord.{
+  CanBeWritten,
+  StandsAt,
+  WrittenHasLength,
+  WrittenIsRead,
+  digit_count,
+  length_digits,
+  position_digits,
+  base_address,
+  record_length,
+  field_lengths,
+  field_area,
+  directory_entries,
+  leader_text,
+  written_record,
+}
 use Rattle.frame_spec.proofs.WrittenEntries.{IsField}
 use Rattle.frame_spec.proofs.WrittenFrame.{AreFields, base_of, length_of, record_text, text_length, record_stands}
 use Rattle.frame_spec.proofs.WrittenLeader.{leader_with}
@@ -40,7 +84,8 @@ area_length [] = refl
 area_length (f ∷ fields) = omega (arith, length-append f.bytes (field_area fields), area_length fields, sum-cons (length f.bytes) (field_lengths fields))
 
 -- each field but the last begins before the last
-below_last : (fields : List Field) (k : ℕ) → k < length fields → length (field_area (take k fields)) ≤ sum (take (length (field_lengths fields) - 1) (field_lengths fields))
+below_last : (fields : List Field) (k : ℕ) → k < length fields → length (field_area (take k fields)) ≤ sum
+    (take (length (field_lengths fields) - 1) (field_lengths fields))
 below_last [] k below = absurd (omega arith)
 below_last (f ∷ fields) zero below = omega arith
 below_last (f ∷ []) (suc k) below = absurd (omega arith)
@@ -52,16 +97,20 @@ below_last (f ∷ g ∷ fields) (suc k) below =
     ap (λ i. sum (take i (length f.bytes ∷ lengths))) one_more ∙ sum-cons (length f.bytes) (take (length lengths - 1) lengths) in
     omega (arith, rest, last, length-append f.bytes (field_area (take k (g ∷ fields))))
 
-each_fits : (m a : ℕ) (fields : List Field) → AllByRecursion (λ (f : Field). length f.tag ≡ 4) fields → AllByRecursion (λ (f : Field). 0 < length f.bytes) fields
+each_fits : (m a : ℕ) (fields : List Field) → AllByRecursion (λ (f : Field). length f.tag ≡ 4) fields
+    → AllByRecursion (λ (f : Field). 0 < length f.bytes) fields
     → fold max a (field_lengths fields) < 10 ^ m → AllByRecursion (IsField m) fields
 each_fits m a [] tags some most = tt
 each_fits m a (f ∷ fields) tags some most = let here = max_above (max a (length f.bytes)) (field_lengths fields) in
     (record { tag = tags.0; some = some.0; fits = omega (arith, here, most) }, each_fits m (max a (length f.bytes)) fields tags.1 some.1 most)
 
-pub base_is : (fields : List Field) → base_address (field_lengths fields) ≡ base_of (length_digits (field_lengths fields)) (position_digits (field_lengths fields)) fields
-base_is fields = ap (λ k. 25 + k * (4 + length_digits (field_lengths fields) + position_digits (field_lengths fields))) (length-map fields (λ (f : Field). length f.bytes))
+pub base_is : (fields : List Field) → base_address (field_lengths fields) ≡ base_of (length_digits (field_lengths fields))
+    (position_digits (field_lengths fields)) fields
+base_is fields = ap (λ k. 25 + k * (4 + length_digits (field_lengths fields) + position_digits (field_lengths fields)))
+    (length-map fields (λ (f : Field). length f.bytes))
 
-pub length_is : (fields : List Field) → record_length (field_lengths fields) ≡ length_of (length_digits (field_lengths fields)) (position_digits (field_lengths fields)) fields
+pub length_is : (fields : List Field) → record_length (field_lengths fields) ≡ length_of (length_digits (field_lengths fields))
+    (position_digits (field_lengths fields)) fields
 length_is fields = omega (arith, base_is fields, area_length fields)
 
 -- one digit to five
@@ -82,12 +131,14 @@ fields_fit fields can =
     record {
       length_size = size_fits (fold max 0 lengths) greatest;
       position_size = size_fits last last_below;
-      each = each_fits (length_digits lengths) 0 fields (recursion_from_All _ fields can.tags) (recursion_from_All _ fields can.not_empty) (below_power (fold max 0 lengths) (omega (arith, greatest)));
+      each = each_fits (length_digits lengths) 0 fields (recursion_from_All _ fields can.tags) (recursion_from_All _ fields can.not_empty)
+          (below_power (fold max 0 lengths) (omega (arith, greatest)));
       positions = λ k below. let before = below_last fields k below in let power = below_power last (omega (arith, last_below)) in omega (arith, before, power);
       fits = subst (λ n. n ≤ 99999) (length_is fields) fits;
     }
 
-written_is : (first : Bool) (fields : List Field) → written_record first fields ≡ record_text first (length_digits (field_lengths fields)) (position_digits (field_lengths fields)) fields
+written_is : (first : Bool) (fields : List Field) → written_record first fields ≡ record_text first (length_digits (field_lengths fields))
+    (position_digits (field_lengths fields)) fields
 unfolding written_record
 written_is first fields =
     let m : ℕ = length_digits (field_lengths fields) in

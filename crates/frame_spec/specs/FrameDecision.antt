@@ -1,7 +1,20 @@
 -- The record at a place, or its first fault, by tests that compute.
 use Rattle.std.specs.Prelude.{ℕ, ◌+◌, ◌-◌, ◌%◌, ◌==◌, ◌&&◌, Bool, List, length, nat_lt, nat_le, not, slice_index, Result, Ok, Err, if◌then◌else◌}
 use Rattle.std.specs.List.{list_all, range_with_len}
-use Rattle.frame_spec.specs.RecordFrame.{FrameView, bytes_at, kind_of, length_at, base_at, length_text, position_text, field_length, field_position, entry_size_at, count_at, fields_at}
+use Rattle.frame_spec.specs.RecordFrame.{
+  FrameView,
+  bytes_at,
+  kind_of,
+  length_at,
+  base_at,
+  length_text,
+  position_text,
+  field_length,
+  field_position,
+  entry_size_at,
+  count_at,
+  fields_at,
+}
 use Rattle.frame_spec.specs.declared.fault.FrameFault.{FrameFault}
 use Rattle.frame_spec.specs.declared.fault.FrameFault.TheVariants.{Short, BadLeader, BadDirectory}
 
@@ -21,7 +34,8 @@ is_entry b p k = list_all is_digit (length_text b p k) && list_all is_digit (pos
     && nat_le (base_at b p + field_position b p k + field_length b p k) (length_at b p)
 
 unfoldable pub is_directory : List ℕ → ℕ → Bool
-is_directory b p = (slice_index b (p + base_at b p - 1) == 30) && ((base_at b p - 25) % entry_size_at b p == 0) && list_all (is_entry b p) (range_with_len 0 (count_at b p))
+is_directory b p = (slice_index b (p + base_at b p - 1) == 30) && ((base_at b p - 25) % entry_size_at b p == 0) && list_all
+    (is_entry b p) (range_with_len 0 (count_at b p))
 
 abbrev pub record_at : List ℕ → ℕ → FrameView
 record_at b p = record { length = length_at b p; fields = fields_at b p }

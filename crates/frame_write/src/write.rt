@@ -1,7 +1,8 @@
 //! Writing a record.
 
 ghost use Rattle.std.specs.Prelude.{◌≡◌, ◌↔◌, Err, OnOk, OnErr, ◌+◌, ◌<◌, ◌≤◌, ◌++◌, ◌∷◌, [], sum};
-ghost use Rattle.frame_spec.specs.WrittenRecord.{digits, directory_entries, field_area, identifier_text, character_set_text, leader_text, record_length, written_record};
+ghost use Rattle.frame_spec.specs.WrittenRecord.{digits, directory_entries, field_area, identifier_text, character_set_text, leader_text};
+ghost use Rattle.frame_spec.specs.WrittenRecord.{record_length, written_record};
 ghost use Rattle.frame_write.specs.OutFields.{fields_of, is_first, lengths_of};
 ghost use Rattle.frame_write.specs.Layouts.{IsLayoutOf};
 

@@ -44,12 +44,14 @@ passed_sign x i e = ap passed e ∙ passed_sign_of x
 pub one_sign_found : (x y i j : ℤ) (test found : Bool) → i ≡ int_signum x → j ≡ int_signum y → test ≡ have_one_sign (passed i) (passed j)
     → test ≡ found → have_one_sign x y ≡ found
 one_sign_found x y i j test found e f g h =
-    sym (one_sign_by_signs x y) ∙ (ap (λ z. have_one_sign z (int_signum y)) (sym (passed_sign x i e)) ∙ (ap (λ z. have_one_sign (passed i) z) (sym (passed_sign y j f)) ∙ (sym g ∙ h)))
+    sym (one_sign_by_signs x y) ∙ (ap (λ z. have_one_sign z (int_signum y)) (sym (passed_sign x i e))
+    ∙ (ap (λ z. have_one_sign (passed i) z) (sym (passed_sign y j f)) ∙ (sym g ∙ h)))
 
 pub zeros_found : (x y i j : ℤ) (test found : Bool) → i ≡ int_signum x → j ≡ int_signum y → test ≡ are_zero (passed i) (passed j) → test ≡ found
     → are_zero x y ≡ found
 zeros_found x y i j test found e f g h =
-    sym (zeros_by_signs x y) ∙ (ap (λ z. are_zero z (int_signum y)) (sym (passed_sign x i e)) ∙ (ap (λ z. are_zero (passed i) z) (sym (passed_sign y j f)) ∙ (sym g ∙ h)))
+    sym (zeros_by_signs x y) ∙ (ap (λ z. are_zero z (int_signum y)) (sym (passed_sign x i e))
+    ∙ (ap (λ z. are_zero (passed i) z) (sym (passed_sign y j f)) ∙ (sym g ∙ h)))
 
 pub zero_found : (x i : ℤ) (test : Bool) → i ≡ int_signum x → test ≡ int_eq (passed i) (pos 0) → test ≡ int_eq x (pos 0)
 zero_found x i test e g = g ∙ (ap (λ z. int_eq z (pos 0)) (passed_sign x i e) ∙ zero_by_sign x)

@@ -43,14 +43,17 @@ none_by_boxes : (shift width : ℕ) (p q r s : Point) → AreCovered shift width
 none_by_boxes shift width p q r s f e w = ⊎_elim
     (λ rows. ⊎_elim
     (λ h. no_mean_across w.a w.m w.b w.n _ _ _ _ w.some w.even (gap_shifted shift p.0 q.0 r.0 s.0 f.at_p.y f.at_q.y f.at_r.y f.at_s.y h) w.same_y)
-    (λ h. no_mean_across w.b w.n w.a w.m _ _ _ _ (omega (arith, w.some, w.even)) (sym w.even) (gap_shifted shift r.0 s.0 p.0 q.0 f.at_r.y f.at_s.y f.at_p.y f.at_q.y h) (sym w.same_y))
+    (λ h. no_mean_across w.b w.n w.a w.m _ _ _ _ (omega (arith, w.some, w.even)) (sym w.even)
+    (gap_shifted shift r.0 s.0 p.0 q.0 f.at_r.y f.at_s.y f.at_p.y f.at_q.y h) (sym w.same_y))
     rows)
     (λ columns. ⊎_elim
     (λ h. no_mean_across w.a w.m w.b w.n _ _ _ _ w.some w.even (gap_shifted shift p.1 q.1 r.1 s.1 f.at_p.x f.at_q.x f.at_r.x f.at_s.x h) w.same_x)
-    (λ h. no_mean_across w.b w.n w.a w.m _ _ _ _ (omega (arith, w.some, w.even)) (sym w.even) (gap_shifted shift r.1 s.1 p.1 q.1 f.at_r.x f.at_s.x f.at_p.x f.at_q.x h) (sym w.same_x))
+    (λ h. no_mean_across w.b w.n w.a w.m _ _ _ _ (omega (arith, w.some, w.even)) (sym w.even)
+    (gap_shifted shift r.1 s.1 p.1 q.1 f.at_r.x f.at_s.x f.at_p.x f.at_q.x h) (sym w.same_x))
     columns)
     (one_of_four _ _ _ _ e)
 
 pub apart_by_boxes : (p q r s : Point) → IsTrue (are_disjoint (box_of p q) (box_of r s)) → meeting_of p q r s ≡ Apart
 apart_by_boxes p q r s e = one_case p q r s (meeting_of p q r s) Apart (meeting_is p q r s)
-    (is_apart (shift_for p q r s) (width_for p q r s) p q r s (are_covered p q r s) (none_by_boxes (shift_for p q r s) (width_for p q r s) p q r s (are_covered p q r s) e))
+    (is_apart (shift_for p q r s) (width_for p q r s) p q r s (are_covered p q r s)
+    (none_by_boxes (shift_for p q r s) (width_for p q r s) p q r s (are_covered p q r s) e))

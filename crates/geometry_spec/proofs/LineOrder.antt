@@ -123,7 +123,8 @@ high_rank width p q r s = min (max (rank width p) (rank width q)) (max (rank wid
 
 not_under : (width : ℕ) (p q r s : GridPoint) (w : Weights p q r s) → (w.a + w.m) * low_rank width p q r s ≤ w.a * rank width p + w.m * rank width q
 not_under width p q r s w = ⊎_elim
-    (λ l. let h : (w.b + w.n) * low_rank width p q r s ≤ w.b * rank width r + w.n * rank width s = mean_not_below w.b w.n (rank width r) (rank width s) (low_rank width p q r s) (omega arith) (omega arith) in
+    (λ l. let h : (w.b + w.n) * low_rank width p q r s ≤ w.b * rank width r + w.n * rank width s =
+    mean_not_below w.b w.n (rank width r) (rank width s) (low_rank width p q r s) (omega arith) (omega arith) in
     omega (arith, h, even_rank width p q r s w, ap (λ t. t * low_rank width p q r s) w.even))
     (λ g. mean_not_below w.a w.m (rank width p) (rank width q) (low_rank width p q r s) (omega arith) (omega arith))
     (cases_lt (min (rank width p) (rank width q)) (min (rank width r) (rank width s)))
@@ -131,7 +132,8 @@ not_under width p q r s w = ⊎_elim
 not_over : (width : ℕ) (p q r s : GridPoint) (w : Weights p q r s) → w.a * rank width p + w.m * rank width q ≤ (w.a + w.m) * high_rank width p q r s
 not_over width p q r s w = ⊎_elim
     (λ l. mean_not_above w.a w.m (rank width p) (rank width q) (high_rank width p q r s) (omega arith) (omega arith))
-    (λ g. let h : w.b * rank width r + w.n * rank width s ≤ (w.b + w.n) * high_rank width p q r s = mean_not_above w.b w.n (rank width r) (rank width s) (high_rank width p q r s) (omega arith) (omega arith) in
+    (λ g. let h : w.b * rank width r + w.n * rank width s ≤ (w.b + w.n) * high_rank width p q r s =
+    mean_not_above w.b w.n (rank width r) (rank width s) (high_rank width p q r s) (omega arith) (omega arith) in
     omega (arith, h, even_rank width p q r s w, ap (λ t. t * high_rank width p q r s) w.even))
     (cases_lt (max (rank width p) (rank width q)) (max (rank width r) (rank width s)))
 

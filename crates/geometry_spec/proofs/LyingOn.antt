@@ -51,15 +51,19 @@ module _ (shift width : ℕ) (w p q : Point) (fw : IsCovered shift width w) (fp 
   from_test : IsTrue (lies_on w p q) → LiesOn w p q
   unfolding lies_on
   from_test t =
-      let tests : (int_eq (orientation_of p q w) (pos 0) ≡ true) × (is_le (point_cmp (earlier p q) w) ≡ true) × (is_le (point_cmp w (later p q)) ≡ true) = all_three _ _ _ t in
+      let tests : (int_eq (orientation_of p q w) (pos 0) ≡ true) × (is_le (point_cmp (earlier p q) w) ≡ true)
+      × (is_le (point_cmp w (later p q)) ≡ true) = all_three _ _ _ t in
       let low : IsChosen shift width p q (earlier p q) (min (rank_of shift width p) (rank_of shift width q)) = earlier_is shift width p q fp fq in
       let high : IsChosen shift width p q (later p q) (max (rank_of shift width p) (rank_of shift width q)) = later_is shift width p q fp fq in
       let side : IsSide (orientation_of p q w) (grid_point shift p) (grid_point shift q) (grid_point shift w) = side_of shift width p q w fp fq fw in
       let flat : up (orientation_of p q w) ≡ down (orientation_of p q w) = zero_is (orientation_of p q w) tests.0 in
-      let after : rank_of shift width (earlier p q) ≤ rank_of shift width w = not_after shift width _ _ _ (ranked shift width (earlier p q) w low.covered fw) tests.1 in
-      let before : rank_of shift width w ≤ rank_of shift width (later p q) = not_after shift width _ _ _ (ranked shift width w (later p q) fw high.covered) tests.2 in
+      let after : rank_of shift width (earlier p q) ≤ rank_of shift width w =
+      not_after shift width _ _ _ (ranked shift width (earlier p q) w low.covered fw) tests.1 in
+      let before : rank_of shift width w ≤ rank_of shift width (later p q) =
+      not_after shift width _ _ _ (ranked shift width w (later p q) fw high.covered) tests.2 in
       lies_on_of shift width w p q fw fp fq
-      (between width (grid_point shift p) (grid_point shift q) (grid_point shift w) (in_grid shift width p fp) (in_grid shift width q fq) (in_grid shift width w fw)
+      (between width (grid_point shift p) (grid_point shift q) (grid_point shift w) (in_grid shift width p fp) (in_grid shift width q fq)
+      (in_grid shift width w fw)
       (omega (arith, low.has_rank, after)) (omega (arith, high.has_rank, before)) (omega (arith, side.is, flat)))
 
   to_test : LiesOn w p q → IsTrue (lies_on w p q)

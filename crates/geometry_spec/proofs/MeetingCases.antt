@@ -12,7 +12,21 @@ use Rattle.geometry_spec.proofs.LineOrder.{none_in_rank, one_in_rank, differ_by_
 use Rattle.geometry_spec.proofs.Shift.{grid_point, in_grid}
 use Rattle.geometry_spec.proofs.ShiftedPoints.{AreCovered, WeightsOf, weights_of, common_point_of, same_points, same_weights}
 use Rattle.geometry_spec.proofs.Sides.{FourSides, four_sides, none_on_one_side, some_across, one_across, on_one_line}
-use Rattle.geometry_spec.proofs.OneLine.{IsRanked, ranked, OnOneLine, IsBound, start_of, end_of, start_is, end_is, low_of, high_of, rank_of, IsCommonAt, common_at_bound}
+use Rattle.geometry_spec.proofs.OneLine.{
+  IsRanked,
+  ranked,
+  OnOneLine,
+  IsBound,
+  start_of,
+  end_of,
+  start_is,
+  end_is,
+  low_of,
+  high_of,
+  rank_of,
+  IsCommonAt,
+  common_at_bound,
+}
 
 -- ---- a shift and a width for four points
 abbrev pub shift_for : Point → Point → Point → Point → ℕ
@@ -50,7 +64,8 @@ is_along : (shift width : ℕ) (p q r s e g : Point) → AreCovered shift width 
 is_along shift width p q r s e g f v w less = (
   common_point_of shift width p q r s f v.weights,
   common_point_of shift width p q r s f w.weights,
-  λ same. differ_by_rank width (grid_point shift p) (grid_point shift q) (grid_point shift e) (grid_point shift g) v.weights.a v.weights.m w.weights.a w.weights.m v.weights.some w.weights.some v.there w.there less
+  λ same. differ_by_rank width (grid_point shift p) (grid_point shift q) (grid_point shift e)
+      (grid_point shift g) v.weights.a v.weights.m w.weights.a w.weights.m v.weights.some w.weights.some v.there w.there less
       (same_weights shift width p q r s f v.weights w.weights same),
 )
 
@@ -64,7 +79,8 @@ line_case shift width p q r s f low high Less h = is_along shift width p q r s (
     (common_at_bound shift width p q r s (end_of p q r s) f.covered high.on_both (omega (arith, low.has_rank, high.has_rank, h)) (omega (arith, high.has_rank)))
     h
 line_case shift width p q r s f low high Equal h = is_at shift width p q r s f.covered
-    (common_at_bound shift width p q r s (start_of p q r s) f.covered low.on_both (omega (arith, low.has_rank)) (omega (arith, low.has_rank, high.has_rank, h))).weights
+    (common_at_bound shift width p q r s (start_of p q r s) f.covered low.on_both (omega (arith, low.has_rank))
+    (omega (arith, low.has_rank, high.has_rank, h))).weights
     (one_in_rank width _ _ _ _ (in_grid shift width p f.covered.at_p) (in_grid shift width q f.covered.at_q) (omega (arith, low.has_rank, high.has_rank, h)))
 line_case shift width p q r s f low high Greater h = is_apart shift width p q r s f.covered
     (none_in_rank width _ _ _ _ (omega (arith, low.has_rank, high.has_rank, h)))
@@ -73,7 +89,8 @@ line_meeting : (shift width : ℕ) (p q r s : Point) → OnOneLine shift width p
 line_meeting shift width p q r s f =
     let low : IsBound shift width p q r s (start_of p q r s) (low_of shift width p q r s) = start_is shift width p q r s f in
     let high : IsBound shift width p q r s (end_of p q r s) (high_of shift width p q r s) = end_is shift width p q r s f in
-    line_case shift width p q r s f low high (point_cmp (start_of p q r s) (end_of p q r s)) (ranked shift width (start_of p q r s) (end_of p q r s) low.on_both.covered high.on_both.covered)
+    line_case shift width p q r s f low high (point_cmp (start_of p q r s) (end_of p q r s))
+    (ranked shift width (start_of p q r s) (end_of p q r s) low.on_both.covered high.on_both.covered)
 
 -- ---- by the tests
 meeting_by : (shift width : ℕ) (p q r s : Point) → AreCovered shift width p q r s → (first second line : Bool)
@@ -82,7 +99,8 @@ meeting_by : (shift width : ℕ) (p q r s : Point) → AreCovered shift width p 
     → SegmentMeeting p q r s (cond first Apart (cond second Apart (cond line (meeting_on_line p q r s) At)))
 meeting_by shift width p q r s f first second line e g h = by first second line e g h
   where
-    sides : FourSides (grid_point shift p) (grid_point shift q) (grid_point shift r) (grid_point shift s) (orientation_of p q r) (orientation_of p q s) (orientation_of r s p) (orientation_of r s q)
+    sides : FourSides (grid_point shift p) (grid_point shift q) (grid_point shift r) (grid_point shift s) (orientation_of p q r)
+        (orientation_of p q s) (orientation_of r s p) (orientation_of r s q)
     sides = four_sides shift width p q r s f
 
     by : (first second line : Bool) → have_one_sign (orientation_of p q r) (orientation_of p q s) ≡ first

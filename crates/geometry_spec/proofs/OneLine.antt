@@ -19,7 +19,8 @@ rank_of shift width p = rank width (grid_point shift p)
 
 abbrev pub IsRanked : ℕ → ℕ → Point → Point → Ordering → Type 0
 IsRanked shift width a b o =
-    MatchOrdering o (rank_of shift width a < rank_of shift width b) (rank_of shift width a ≡ rank_of shift width b) (rank_of shift width b < rank_of shift width a)
+    MatchOrdering o (rank_of shift width a < rank_of shift width b) (rank_of shift width a ≡ rank_of shift width b)
+    (rank_of shift width b < rank_of shift width a)
 
 lower_row : (y x y' x' width : ℕ) → y < y' → x < width → y * width + x < y' * width + x'
 lower_row y x y' x' width h g = omega (arith, mul-le-mul_right width h)
@@ -100,7 +101,8 @@ later_is shift width a b fa fb = later_by shift width a b fa fb (point_cmp b a) 
 pub record IsOnBothLines (shift width : ℕ) (p q r s e : Point) : Type 0 where
   pub covered : IsCovered shift width e
   pub first : right_sum (grid_point shift p) (grid_point shift q) (grid_point shift e) ≡ left_sum (grid_point shift p) (grid_point shift q) (grid_point shift e)
-  pub second : right_sum (grid_point shift r) (grid_point shift s) (grid_point shift e) ≡ left_sum (grid_point shift r) (grid_point shift s) (grid_point shift e)
+  pub second : right_sum (grid_point shift r) (grid_point shift s) (grid_point shift e) ≡ left_sum (grid_point shift r) (grid_point shift s)
+      (grid_point shift e)
 
 first_on_line : (a b : GridPoint) → right_sum a b a ≡ left_sum a b a
 first_on_line a b = omega arith
@@ -144,7 +146,8 @@ start_by : (shift width : ℕ) (p q r s a b e : Point) → OnOneLine shift width
     → IsChosen shift width r s b (min (rank_of shift width r) (rank_of shift width s))
     → IsChosen shift width a b e (max (rank_of shift width a) (rank_of shift width b)) → IsBound shift width p q r s e (low_of shift width p q r s)
 start_by shift width p q r s a b e f ca cb ce = record {
-  on_both = of_chosen (λ x. IsOnBothLines shift width p q r s x) a b e ce.which (of_first shift width p q r s a f ca.which) (of_second shift width p q r s b f cb.which);
+  on_both = of_chosen (λ x. IsOnBothLines shift width p q r s x) a b e ce.which (of_first shift width p q r s a f ca.which)
+      (of_second shift width p q r s b f cb.which);
   has_rank = omega (arith, ca.has_rank, cb.has_rank, ce.has_rank);
 }
 
@@ -153,22 +156,27 @@ end_by : (shift width : ℕ) (p q r s a b e : Point) → OnOneLine shift width p
     → IsChosen shift width r s b (max (rank_of shift width r) (rank_of shift width s))
     → IsChosen shift width a b e (min (rank_of shift width a) (rank_of shift width b)) → IsBound shift width p q r s e (high_of shift width p q r s)
 end_by shift width p q r s a b e f ca cb ce = record {
-  on_both = of_chosen (λ x. IsOnBothLines shift width p q r s x) a b e ce.which (of_first shift width p q r s a f ca.which) (of_second shift width p q r s b f cb.which);
+  on_both = of_chosen (λ x. IsOnBothLines shift width p q r s x) a b e ce.which (of_first shift width p q r s a f ca.which)
+      (of_second shift width p q r s b f cb.which);
   has_rank = omega (arith, ca.has_rank, cb.has_rank, ce.has_rank);
 }
 
 pub start_is : (shift width : ℕ) (p q r s : Point) → OnOneLine shift width p q r s
     → IsBound shift width p q r s (start_of p q r s) (low_of shift width p q r s)
 start_is shift width p q r s f =
-    let a : IsChosen shift width p q (earlier p q) (min (rank_of shift width p) (rank_of shift width q)) = earlier_is shift width p q f.covered.at_p f.covered.at_q in
-    let b : IsChosen shift width r s (earlier r s) (min (rank_of shift width r) (rank_of shift width s)) = earlier_is shift width r s f.covered.at_r f.covered.at_s in
+    let a : IsChosen shift width p q (earlier p q) (min (rank_of shift width p) (rank_of shift width q)) =
+    earlier_is shift width p q f.covered.at_p f.covered.at_q in
+    let b : IsChosen shift width r s (earlier r s) (min (rank_of shift width r) (rank_of shift width s)) =
+    earlier_is shift width r s f.covered.at_r f.covered.at_s in
     start_by shift width p q r s (earlier p q) (earlier r s) (start_of p q r s) f a b (later_is shift width (earlier p q) (earlier r s) a.covered b.covered)
 
 pub end_is : (shift width : ℕ) (p q r s : Point) → OnOneLine shift width p q r s
     → IsBound shift width p q r s (end_of p q r s) (high_of shift width p q r s)
 end_is shift width p q r s f =
-    let a : IsChosen shift width p q (later p q) (max (rank_of shift width p) (rank_of shift width q)) = later_is shift width p q f.covered.at_p f.covered.at_q in
-    let b : IsChosen shift width r s (later r s) (max (rank_of shift width r) (rank_of shift width s)) = later_is shift width r s f.covered.at_r f.covered.at_s in
+    let a : IsChosen shift width p q (later p q) (max (rank_of shift width p) (rank_of shift width q)) =
+    later_is shift width p q f.covered.at_p f.covered.at_q in
+    let b : IsChosen shift width r s (later r s) (max (rank_of shift width r) (rank_of shift width s)) =
+    later_is shift width r s f.covered.at_r f.covered.at_s in
     end_by shift width p q r s (later p q) (later r s) (end_of p q r s) f a b (earlier_is shift width (later p q) (later r s) a.covered b.covered)
 
 -- ---- a common point at a bound

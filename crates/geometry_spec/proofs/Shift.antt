@@ -50,16 +50,19 @@ product_of_differences : (u v u' v' b a b' a' : ℕ) → u + a ≡ v + b → u' 
 product_of_differences u v u' v' b a b' a' e e' = omega (arith, ap (λ t. t * u') e, ap (λ t. t * v') e, ap (λ t. b * t) e', ap (λ t. a * t) e')
 
 shifted_product : (shift : ℕ) (b a d c : ℤ) → down b ≤ shift → down a ≤ shift → down d ≤ shift → down c ≤ shift
-    → up ((b -ℤ a) *ℤ (d -ℤ c)) + (shifted shift b * shifted shift c + shifted shift a * shifted shift d) ≡ down ((b -ℤ a) *ℤ (d -ℤ c)) + (shifted shift b * shifted shift d + shifted shift a * shifted shift c)
+    → up ((b -ℤ a) *ℤ (d -ℤ c)) + (shifted shift b * shifted shift c + shifted shift a * shifted shift d) ≡ down ((b -ℤ a) *ℤ (d -ℤ c)) +
+    (shifted shift b * shifted shift d + shifted shift a * shifted shift c)
 shifted_product shift b a d c fb fa fd fc =
     omega (
       arith,
       product_is (b -ℤ a) (d -ℤ c),
-      product_of_differences (up (b -ℤ a)) (down (b -ℤ a)) (up (d -ℤ c)) (down (d -ℤ c)) (shifted shift b) (shifted shift a) (shifted shift d) (shifted shift c) (shifted_difference shift b a fb fa) (shifted_difference shift d c fd fc),
+      product_of_differences (up (b -ℤ a)) (down (b -ℤ a)) (up (d -ℤ c)) (down (d -ℤ c)) (shifted shift b) (shifted shift a)
+          (shifted shift d) (shifted shift c) (shifted_difference shift b a fb fa) (shifted_difference shift d c fd fc),
     )
 
 pub shifted_orientation : (shift width : ℕ) (a b c : Point) → IsCovered shift width a → IsCovered shift width b → IsCovered shift width c
-    → up (orientation_of a b c) + right_sum (grid_point shift a) (grid_point shift b) (grid_point shift c) ≡ down (orientation_of a b c) + left_sum (grid_point shift a) (grid_point shift b) (grid_point shift c)
+    → up (orientation_of a b c) + right_sum (grid_point shift a) (grid_point shift b) (grid_point shift c) ≡ down
+    (orientation_of a b c) + left_sum (grid_point shift a) (grid_point shift b) (grid_point shift c)
 shifted_orientation shift width a b c fa fb fc =
     omega (
       arith,

@@ -92,8 +92,10 @@ weights_of shift width p q r s f w = record {
   n = w.n;
   some = omega (arith, w.positive, w.on_first);
   even = omega (arith, w.on_first, w.on_second);
-  same_y = even_shifted shift p.0 q.0 r.0 s.0 w.d (w.d - w.m) w.m (w.d - w.n) w.n f.at_p.y f.at_q.y f.at_r.y f.at_s.y (omega (arith, w.on_first)) (omega (arith, w.on_second)) w.same_y;
-  same_x = even_shifted shift p.1 q.1 r.1 s.1 w.d (w.d - w.m) w.m (w.d - w.n) w.n f.at_p.x f.at_q.x f.at_r.x f.at_s.x (omega (arith, w.on_first)) (omega (arith, w.on_second)) w.same_x;
+  same_y = even_shifted shift p.0 q.0 r.0 s.0 w.d (w.d - w.m) w.m (w.d - w.n) w.n f.at_p.y f.at_q.y f.at_r.y f.at_s.y (omega (arith, w.on_first))
+      (omega (arith, w.on_second)) w.same_y;
+  same_x = even_shifted shift p.1 q.1 r.1 s.1 w.d (w.d - w.m) w.m (w.d - w.n) w.n f.at_p.x f.at_q.x f.at_r.x f.at_s.x (omega (arith, w.on_first))
+      (omega (arith, w.on_second)) w.same_x;
 }
 
 abbrev pub common_point_of : (shift width : ℕ) (p q r s : Point) → AreCovered shift width p q r s → WeightsOf shift p q r s → CommonPoint p q r s

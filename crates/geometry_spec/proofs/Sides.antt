@@ -5,7 +5,21 @@ use Rattle.std.proofs.lemmas.Bool.Decides.{nat_tests}
 use borrow.Author.Differences.{up, down}
 use Rattle.geometry_spec.specs.Points.{Point, orientation_of}
 use Rattle.geometry_spec.specs.Signs.{have_one_sign, are_zero}
-use Rattle.geometry_spec.proofs.Weights.{GridPoint, left_sum, right_sum, Weights, IsSameWeighted, four_determinants, determinants_cancel, none_to_the_right, none_to_the_left, crossing_leftwards, crossing_rightwards, same_proportion, same_by_proportion}
+use Rattle.geometry_spec.proofs.Weights.{
+  GridPoint,
+  left_sum,
+  right_sum,
+  Weights,
+  IsSameWeighted,
+  four_determinants,
+  determinants_cancel,
+  none_to_the_right,
+  none_to_the_left,
+  crossing_leftwards,
+  crossing_rightwards,
+  same_proportion,
+  same_by_proportion,
+}
 use Rattle.geometry_spec.proofs.Shift.{IsCovered, grid_point, shifted_orientation}
 use Rattle.geometry_spec.proofs.ShiftedPoints.{AreCovered}
 
@@ -155,7 +169,8 @@ pub side_of : (shift width : ℕ) (a b c : Point) → IsCovered shift width a �
 side_of shift width a b c fa fb fc = record { is = shifted_orientation shift width a b c fa fb fc }
 
 pub four_sides : (shift width : ℕ) (p q r s : Point) → AreCovered shift width p q r s
-    → FourSides (grid_point shift p) (grid_point shift q) (grid_point shift r) (grid_point shift s) (orientation_of p q r) (orientation_of p q s) (orientation_of r s p) (orientation_of r s q)
+    → FourSides (grid_point shift p) (grid_point shift q) (grid_point shift r) (grid_point shift s) (orientation_of p q r)
+    (orientation_of p q s) (orientation_of r s p) (orientation_of r s q)
 four_sides shift width p q r s f = record {
   r_side = side_of shift width p q r f.at_p f.at_q f.at_r;
   s_side = side_of shift width p q s f.at_p f.at_q f.at_s;

@@ -42,11 +42,13 @@ four_determinants p q r s = omega arith
 
 -- the determinants are the weights of the point where two lines cross
 crossing_y : (p q r s : GridPoint)
-    → right_sum p q r * s.y + left_sum p q s * r.y + (right_sum r s p * q.y + left_sum r s q * p.y) ≡ left_sum p q r * s.y + right_sum p q s * r.y + (left_sum r s p * q.y + right_sum r s q * p.y)
+    → right_sum p q r * s.y + left_sum p q s * r.y + (right_sum r s p * q.y + left_sum r s q * p.y) ≡
+    left_sum p q r * s.y + right_sum p q s * r.y + (left_sum r s p * q.y + right_sum r s q * p.y)
 crossing_y p q r s = omega arith
 
 crossing_x : (p q r s : GridPoint)
-    → right_sum p q r * s.x + left_sum p q s * r.x + (right_sum r s p * q.x + left_sum r s q * p.x) ≡ left_sum p q r * s.x + right_sum p q s * r.x + (left_sum r s p * q.x + right_sum r s q * p.x)
+    → right_sum p q r * s.x + left_sum p q s * r.x + (right_sum r s p * q.x + left_sum r s q * p.x) ≡
+    left_sum p q r * s.x + right_sum p q s * r.x + (left_sum r s p * q.x + right_sum r s q * p.x)
 crossing_x p q r s = omega arith
 
 -- at a common point the determinants of r and s, weighted, cancel
@@ -54,9 +56,18 @@ weighted_determinants : (p q r s : GridPoint) (a m b n : ℕ) → a + m ≡ b + 
     → a * p.x + m * q.x ≡ b * r.x + n * s.x
     → b * right_sum p q r + n * right_sum p q s ≡ b * left_sum p q r + n * left_sum p q s
 weighted_determinants p q r s a m b n e ey ex =
-    omega (arith, ap (λ t. t * (p.y * q.x)) e, ap (λ t. t * (p.x * q.y)) e, ap (λ t. t * q.x) ey, ap (λ t. t * p.x) ey, ap (λ t. t * q.y) ex, ap (λ t. t * p.y) ex)
+    omega (
+      arith,
+      ap (λ t. t * (p.y * q.x)) e,
+      ap (λ t. t * (p.x * q.y)) e,
+      ap (λ t. t * q.x) ey,
+      ap (λ t. t * p.x) ey,
+      ap (λ t. t * q.y) ex,
+      ap (λ t. t * p.y) ex,
+    )
 
-pub determinants_cancel : (p q r s : GridPoint) (w : Weights p q r s) → w.b * right_sum p q r + w.n * right_sum p q s ≡ w.b * left_sum p q r + w.n * left_sum p q s
+pub determinants_cancel : (p q r s : GridPoint) (w : Weights p q r s) → w.b * right_sum p q r + w.n * right_sum p q s ≡
+    w.b * left_sum p q r + w.n * left_sum p q s
 determinants_cancel p q r s w = weighted_determinants p q r s w.a w.m w.b w.n w.even w.same_y w.same_x
 
 -- ---- r and s strictly on one side of p q: no common point

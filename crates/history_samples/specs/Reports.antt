@@ -144,7 +144,8 @@ abbrev pub GuardsAreContested : Type 0
 GuardsAreContested =
     report dangling (
     (Push (Set (renewed (node 1 (at 0 1)))) ∷ Push (move_second 3) ∷ Commit ∷ []) ∷
-    (Guard (vc 1) ∷ Push (move_second 2) ∷ Guard (vc 1) ∷ Commit ∷ Guard (vc 1) ∷ Drop ∷ Commit ∷ View ∷ Guard (vc 1) ∷ Guard (fe 7) ∷ Push (move_second 2) ∷ Commit ∷ []) ∷ [])
+    (Guard (vc 1) ∷ Push (move_second 2) ∷ Guard (vc 1) ∷ Commit ∷ Guard (vc 1) ∷ Drop ∷ Commit ∷ View ∷ Guard (vc 1) ∷ Guard
+    (fe 7) ∷ Push (move_second 2) ∷ Commit ∷ []) ∷ [])
     (1 ∷ 2 ∷ 2 ∷ 2 ∷ 2 ∷ [])
     ≡ text_of_lines (
     codes "order 1 2 2 2 2" ∷

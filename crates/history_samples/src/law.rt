@@ -2,7 +2,8 @@
 
 ghost use Rattle.history_samples.specs.Lines.{EditsAreSpelled, RepliesAreTold};
 ghost use Rattle.history_samples.specs.Orders.{OrdersAreTaken, OrdersAreRefused};
-ghost use Rattle.history_samples.specs.Reports.{ClashIsReported, GuardsAreContested, HeadIsEdited, MinimalRunIsReported, TwoSessionsAreReported, ViewEndsTheClash};
+ghost use Rattle.history_samples.specs.Reports.{ClashIsReported, GuardsAreContested, HeadIsEdited, MinimalRunIsReported, TwoSessionsAreReported};
+ghost use Rattle.history_samples.specs.Reports.{ViewEndsTheClash};
 
 /// The lines of edits of every kind of record.
 pub fn lines_are_spelled()

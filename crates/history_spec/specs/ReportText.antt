@@ -99,12 +99,14 @@ history_text at commits = line (codes "history") [] ++ flat_map (commit_text at)
 -- the report of a run that gave these replies and left this state
 abbrev pub report_with : Cell → List (List Command) → List ℕ → List (ℕ × Reply) → History → List ℕ
 report_with c scripts order replies last = order_line order
-    ++ flat_map (λ session. session_text (λ n. cell_after n last.commits c) session (script_of scripts session) (replies_to session replies)) (range_with_len 1 (length scripts))
+    ++ flat_map (λ session. session_text (λ n. cell_after n last.commits c) session (script_of scripts session) (replies_to session replies))
+    (range_with_len 1 (length scripts))
     ++ history_text (λ n. cell_after n last.commits c) last.commits ++ cell_text last.cell
 
 -- the report of scripts on a cell in an order
 unfoldable pub report : Cell → List (List Command) → List ℕ → List ℕ
-report c scripts order = report_with c scripts order (replies_from (opening c) (ordered_requests scripts order)) (history_after (opening c) (ordered_requests scripts order))
+report c scripts order = report_with c scripts order (replies_from (opening c) (ordered_requests scripts order))
+    (history_after (opening c) (ordered_requests scripts order))
 
 -- the cell that is left
 unfoldable pub final_cell : Cell → List (List Command) → List ℕ → Cell

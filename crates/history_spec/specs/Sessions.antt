@@ -34,7 +34,8 @@ script_of scripts session = slice_index_or scripts (session - 1) []
 
 -- in an order of sessions each place is the next request of its session
 abbrev pub request_at : List (List Command) → List ℕ → ℕ × ℕ → Option (ℕ × Request)
-request_at scripts order (place, session) = option_map (λ request. (session, request)) (slice_get (requests_of (script_of scripts session)) (count_by (λ other. other == session) (take place order)))
+request_at scripts order (place, session) = option_map (λ request. (session, request))
+    (slice_get (requests_of (script_of scripts session)) (count_by (λ other. other == session) (take place order)))
 
 abbrev pub ordered_requests : List (List Command) → List ℕ → List (ℕ × Request)
 ordered_requests scripts order = filter_map (request_at scripts order) (enumerate_from 0 order)

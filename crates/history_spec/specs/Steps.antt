@@ -1,5 +1,26 @@
 -- One step of the editing history of a cell: a view, a commit with a fault of form, or a commit. This project's own rules.
-use Rattle.std.specs.Prelude.{ℕ, ◌+◌, ◌==◌, nat_lt, List, [], ◌∷◌, ◌++◌, length, map, take, drop, filter, filter_map, fold, is_some, Option, None, Some, if◌then◌else◌}
+use Rattle.std.specs.Prelude.{
+  ℕ,
+  ◌+◌,
+  ◌==◌,
+  nat_lt,
+  List,
+  [],
+  ◌∷◌,
+  ◌++◌,
+  length,
+  map,
+  take,
+  drop,
+  filter,
+  filter_map,
+  fold,
+  is_some,
+  Option,
+  None,
+  Some,
+  if◌then◌else◌,
+}
 use Rattle.std.specs.List.{list_any, enumerate_from}
 use Rattle.std.specs.Option.{option_map, option_map_or, option_and_then}
 use Rattle.s57_types.specs.declared.name.RecName.{RecName}
@@ -57,7 +78,8 @@ contested_names edits guards others = filter (λ n. list_any (λ other. same_nam
 -- the answer where an accepted commit changes what the edits change or their guards name: the least such name in it, and its edit of that name
 abbrev pub clash_with : List Edit → List RecName → ℕ × AcceptedCommit → Option Reply
 clash_with edits guards (number, accepted) =
-    option_and_then (λ n. option_map (Newer number n accepted.desk) (edit_of n accepted.edits)) (first_of (ascending name_order (contested_names edits guards accepted.edits)))
+    option_and_then (λ n. option_map (Newer number n accepted.desk) (edit_of n accepted.edits))
+    (first_of (ascending name_order (contested_names edits guards accepted.edits)))
 
 -- the answer where a commit above the base does: the one with the least number
 abbrev pub newer_answer : List AcceptedCommit → ℕ → List Edit → List RecName → Option Reply

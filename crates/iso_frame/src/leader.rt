@@ -1,7 +1,8 @@
 //! The leader of a record and its directory.
 
 ghost use Rattle.std.specs.Prelude.{◌≡◌, ◌+◌, ◌*◌, ◌^◌, ◌<◌, ◌≤◌, length, MatchOption};
-ghost use Rattle.frame_spec.specs.RecordFrame.{AreDigits, decimal_value, IsLeader, IsDirectory, entry_size_at, count_at, length_text, position_text, field_length, field_position, entry_place, bytes_at};
+ghost use Rattle.frame_spec.specs.RecordFrame.{AreDigits, decimal_value, IsLeader, IsDirectory, entry_size_at, count_at, length_text, position_text};
+ghost use Rattle.frame_spec.specs.RecordFrame.{field_length, field_position, entry_place, bytes_at};
 ghost use Rattle.iso_frame.specs.Numbers.{AreNumbers, IsRead};
 
 /// The number that digits write, if they are digits.

@@ -17,18 +17,22 @@ module _ (test : Numbered × Numbered → Bool) (needs : NeedsMeeting test) wher
   by_boxes : (a b : Numbered) → are_disjoint (box_of_segment a) (box_of_segment b) ≡ true → test (a, b) ≡ false
   by_boxes a b h = needs a b (apart_by_boxes a.1.0 a.1.1 b.1.0 b.1.1 h)
 
-  none_by_start : (a : Numbered) (start : Box4) (line : List Numbered) → are_disjoint (box_of_segment a) (box_with start line) ≡ true → find test (map (λ b. (a, b)) line) ≡ None
+  none_by_start : (a : Numbered) (start : Box4) (line : List Numbered) → are_disjoint (box_of_segment a) (box_with start line) ≡ true
+      → find test (map (λ b. (a, b)) line) ≡ None
   none_by_start a start [] h = refl
-  none_by_start a start (b ∷ line) h = rw (by_boxes a b (disjoint_next (box_of_segment a) start b line h)) (none_by_start a (united start (box_of_segment b)) line h)
+  none_by_start a start (b ∷ line) h = rw (by_boxes a b (disjoint_next (box_of_segment a) start b line h))
+      (none_by_start a (united start (box_of_segment b)) line h)
 
   -- a segment whose box is disjoint from the box around a line and a segment of the line
-  pub none_by_box : (a : Numbered) (around : Box4) (line : List Numbered) → line_box line ≡ Some around → are_disjoint (box_of_segment a) around ≡ true → find test (map (λ b. (a, b)) line) ≡ None
+  pub none_by_box : (a : Numbered) (around : Box4) (line : List Numbered) → line_box line ≡ Some around
+      → are_disjoint (box_of_segment a) around ≡ true → find test (map (λ b. (a, b)) line) ≡ None
   none_by_box a around [] e h = refl
   none_by_box a around (s ∷ rest) e h =
       let same : box_with (box_of_segment s) (s ∷ rest) ≡ around = cc in
       none_by_start a (box_of_segment s) (s ∷ rest) (ap (are_disjoint (box_of_segment a)) same ∙ h)
 
-  none_by_starts : (start around : Box4) (first second : List Numbered) → line_box second ≡ Some around → are_disjoint around (box_with start first) ≡ true → find test (each_with_each first second) ≡ None
+  none_by_starts : (start around : Box4) (first second : List Numbered) → line_box second ≡ Some around
+      → are_disjoint around (box_with start first) ≡ true → find test (each_with_each first second) ≡ None
   none_by_starts start around [] second e h = refl
   none_by_starts start around (a ∷ rest) second e h =
       let apart = either_way (box_of_segment a) around ∙ disjoint_next around start a rest h in
@@ -36,7 +40,8 @@ module _ (test : Numbered × Numbered → Bool) (needs : NeedsMeeting test) wher
       ∙ none_by_starts (united start (box_of_segment a)) around rest second e h
 
   -- segments of two lines that lie in disjoint boxes
-  pub none_by_boxes : (first_box second_box : Box4) (first second : List Numbered) → line_box first ≡ Some first_box → line_box second ≡ Some second_box → are_disjoint first_box second_box ≡ true → find test (each_with_each first second) ≡ None
+  pub none_by_boxes : (first_box second_box : Box4) (first second : List Numbered) → line_box first ≡ Some first_box
+      → line_box second ≡ Some second_box → are_disjoint first_box second_box ≡ true → find test (each_with_each first second) ≡ None
   none_by_boxes first_box second_box [] second e f h = refl
   none_by_boxes first_box second_box (a ∷ rest) second e f h =
       let same : box_with (box_of_segment a) (a ∷ rest) ≡ first_box = cc in

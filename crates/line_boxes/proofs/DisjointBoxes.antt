@@ -50,5 +50,6 @@ disjoint_start x start [] h = h
 disjoint_start x start (s ∷ line) h = disjoint_first x start (box_of_segment s) (disjoint_start x (united start (box_of_segment s)) line h)
 
 -- and from the box of the first of them
-pub disjoint_next : (x start : Box4) (s : Numbered) (line : List Numbered) → are_disjoint x (box_with start (s ∷ line)) ≡ true → are_disjoint x (box_of_segment s) ≡ true
+pub disjoint_next : (x start : Box4) (s : Numbered) (line : List Numbered) → are_disjoint x (box_with start (s ∷ line)) ≡ true
+    → are_disjoint x (box_of_segment s) ≡ true
 disjoint_next x start s line h = disjoint_second x start (box_of_segment s) (disjoint_start x (united start (box_of_segment s)) line h)

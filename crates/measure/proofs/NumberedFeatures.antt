@@ -22,7 +22,8 @@ all_push : (P : RecName → Type 0) (ns : List RecName) (n : RecName) → AllByR
 all_push P [] n h p = (p, tt)
 all_push P (m ∷ ns) n h p = (h.0, all_push P ns n h.1 p)
 
-distinct_push : (ns : List RecName) (n : RecName) → IsDistinct same_name ns → AllByRecursion (λ m. same_name m n ≡ false) ns → IsDistinct same_name (ns ++ n ∷ [])
+distinct_push : (ns : List RecName) (n : RecName) → IsDistinct same_name ns → AllByRecursion (λ m. same_name m n ≡ false) ns
+    → IsDistinct same_name (ns ++ n ∷ [])
 unfolding IsDistinct
 distinct_push [] n h apart = (tt, tt)
 distinct_push (m ∷ ns) n h apart = (all_push (λ k. same_name m k ≡ false) ns n h.0 apart.0, distinct_push ns n h.1 apart.1)
@@ -37,31 +38,36 @@ not_both false b h = refl
 fresh : (rs : List Rec) (n : RecName) → All (λ r. (name_of r).id < n.id) rs → AllByRecursion (λ m. same_name m n ≡ false) (map name_of rs)
 fresh [] n h = tt
 fresh (r ∷ rs) n h = (
-  not_both (kind_rank (name_of r).kind == kind_rank n.kind) ((name_of r).id == n.id) (numbers_differ (name_of r).id n.id (All-head (λ r. (name_of r).id < n.id) r rs h)),
+  not_both (kind_rank (name_of r).kind == kind_rank n.kind) ((name_of r).id == n.id)
+      (numbers_differ (name_of r).id n.id (All-head (λ r. (name_of r).id < n.id) r rs h)),
   fresh rs n (All-tail (λ r. (name_of r).id < n.id) r rs h),
 )
 
 number_of : (r : Rec) (i : ℕ) → name_parts (name_of r) ≡ 3 ∷ i ∷ [] → (name_of r).id ≡ i
 number_of r i h = ap (λ parts. get_or parts 1 0) h
 
-pub distinct_more : (rs : List Rec) (r : Rec) (i : ℕ) → IsDistinct same_name (map name_of rs) → All (λ r. (name_of r).id < i) rs → name_parts (name_of r) ≡ 3 ∷ i ∷ []
+pub distinct_more : (rs : List Rec) (r : Rec) (i : ℕ) → IsDistinct same_name (map name_of rs) → All (λ r. (name_of r).id < i) rs
+    → name_parts (name_of r) ≡ 3 ∷ i ∷ []
     → IsDistinct same_name (map name_of (rs ++ r ∷ []))
 distinct_more rs r i distinct below named =
     let later : All (λ s. (name_of s).id < (name_of r).id) rs = subst (λ j. All (λ s. (name_of s).id < j) rs) (sym (number_of r i named)) below in
     subst (IsDistinct same_name) (sym (map-append name_of rs (r ∷ []))) (distinct_push (map name_of rs) (name_of r) distinct (fresh rs (name_of r) later))
 
-pub below_more : (rs : List Rec) (r : Rec) (i : ℕ) → All (λ r. (name_of r).id < i) rs → name_parts (name_of r) ≡ 3 ∷ i ∷ [] → All (λ r. (name_of r).id < i + 1) (rs ++ r ∷ [])
+pub below_more : (rs : List Rec) (r : Rec) (i : ℕ) → All (λ r. (name_of r).id < i) rs → name_parts (name_of r) ≡ 3 ∷ i ∷ []
+    → All (λ r. (name_of r).id < i + 1) (rs ++ r ∷ [])
 below_more rs r i below named =
     let last : (name_of r).id < i + 1 = omega (arith, number_of r i named) in
     All-push (λ s. (name_of s).id < i + 1) rs r (All-weaker (λ s. (name_of s).id < i) (λ s. (name_of s).id < i + 1) (λ s h. omega arith) rs below) last
 
 -- a cell of features alone
-pub features-readable : (head : Head) (vi vc ve fe features : List Rec) → vi ≡ [] → vc ≡ [] → ve ≡ [] → fe ≡ features → IsDistinct same_name (map name_of features) → length features ≤ 262144 → All FitsAnywhere features
+pub features-readable : (head : Head) (vi vc ve fe features : List Rec) → vi ≡ [] → vc ≡ [] → ve ≡ [] → fe ≡ features
+    → IsDistinct same_name (map name_of features) → length features ≤ 262144 → All FitsAnywhere features
     → IsReadable (record { head = head; vi = vi; vc = vc; ve = ve; fe = fe })
 features-readable head vi vc ve fe features no_vi no_vc no_ve same distinct few fit =
     let all : (vi ++ vc ++ ve ++ fe) ≡ features = (λ i. no_vi i ++ no_vc i ++ no_ve i ++ same i) in
     record {
       distinct = subst (λ rs. IsDistinct same_name (map name_of rs)) (sym all) distinct;
       count = omega (arith, ap length all);
-      fit = subst (All (λ r. unfitness head.nall r ≡ None)) (sym all) (All-weaker FitsAnywhere (λ r. unfitness head.nall r ≡ None) (λ r fits. fits head.nall) features fit);
+      fit = subst (All (λ r. unfitness head.nall r ≡ None)) (sym all)
+          (All-weaker FitsAnywhere (λ r. unfitness head.nall r ≡ None) (λ r fits. fits head.nall) features fit);
     }

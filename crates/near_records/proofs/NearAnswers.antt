@@ -1,5 +1,32 @@
 -- Answers to ascending keys are found again by their keys.
-use Rattle.std.proofs.Common.{◌≡◌, ℕ, zero, suc, ◌+◌, ◌<◌, ◌≤◌, ◌⊎◌, inl, inr, true, false, true≢false, List, [], ◌∷◌, length, map, fold, get_or, refl, sym, ap, ◌∙◌, subst, arith}
+use Rattle.std.proofs.Common.{
+  ◌≡◌,
+  ℕ,
+  zero,
+  suc,
+  ◌+◌,
+  ◌<◌,
+  ◌≤◌,
+  ◌⊎◌,
+  inl,
+  inr,
+  true,
+  false,
+  true≢false,
+  List,
+  [],
+  ◌∷◌,
+  length,
+  map,
+  fold,
+  get_or,
+  refl,
+  sym,
+  ap,
+  ◌∙◌,
+  subst,
+  arith,
+}
 use Rattle.std.specs.List.Sorted.{IsSortedByKey, IsStrictlySortedBy, IsPartitionPoint}
 use Rattle.std.specs.Ordering.{is_eq, is_lt, match_ordering, ordering_reverse}
 use Rattle.std.specs.declared.cmp.Ordering.{Ordering}
@@ -51,7 +78,10 @@ no_tie Greater e = refl
 
 side_of : (k i : ℕ) → (k < i) ⊎ (i ≤ k)
 side_of k zero = inr (omega arith)
-side_of k (suc i) = elim (side_of k i) [ inl h ↦ inl (omega (arith, h)) | inr h ↦ elim (eq-or-lt_of_le h) [ inl e ↦ inl (omega (arith, e)) | inr l ↦ inr (omega (arith, l)) ] ]
+side_of k (suc i) = elim (side_of k i) [
+  | inl h ↦ inl (omega (arith, h))
+  | inr h ↦ elim (eq-or-lt_of_le h) [ inl e ↦ inl (omega (arith, e)) | inr l ↦ inr (omega (arith, l)) ]
+]
 
 -- ---- the keys of answers
 abbrev pub key_in : Answer → Key
@@ -70,7 +100,8 @@ module _ (c : Cell) (keys : List Key) (answers : List Answer) (all : map answer_
   same_keys = sym (keys_held answers) ∙ ap (map (λ (a : KeyAnswer). a.key)) all ∙ keys_asked c (ascending key_order keys)
 
   -- the answer whose key ties with a key is the cell's to it
-  pub answer_there : (key : Key) (k : ℕ) (a : Answer) → k < length answers → a ≡ get_or answers k a → key_order (get_or answers k a).key key ≡ Equal → answer_held a ≡ answer_to c key
+  pub answer_there : (key : Key) (k : ℕ) (a : Answer) → k < length answers → a ≡ get_or answers k a
+      → key_order (get_or answers k a).key key ≡ Equal → answer_held a ≡ answer_to c key
   answer_there key k a within is ties =
       let asked = ascending key_order keys in
       let there : k < length asked = omega (arith, within, length-map answers answer_held, ap length all, length-map asked (answer_to c)) in
@@ -85,19 +116,22 @@ module _ (c : Cell) (keys : List Key) (answers : List Answer) (all : map answer_
   -- the answers ascend by their keys
   pub answers_rise : IsSortedByKey key_in key_order answers
   answers_rise = λ k d low within.
-      let rises : IsStrictlySortedBy key_order (map key_in answers) = subst (IsStrictlySortedBy key_order) (sym same_keys) (sorted-ascending key_order total_keys keys) in
+      let rises : IsStrictlySortedBy key_order (map key_in answers) =
+      subst (IsStrictlySortedBy key_order) (sym same_keys) (sorted-ascending key_order total_keys keys) in
       let less = Less-from_sorted key_order (map key_in answers) k (k + 1) d.key rises (omega arith) (omega (arith, within, length-map answers key_in)) in
       let first = get_or-map key_in answers k d d.key (omega (arith, within)) in
       let next = get_or-map key_in answers (k + 1) d d.key within in
       let below : key_order (get_or answers k d).key (get_or answers (k + 1) d).key ≡ Less = (λ i. key_order (sym first i) (sym next i)) ∙ less in
-      ap is_lt (total_keys.antisymm (get_or answers (k + 1) d).key (get_or answers k d).key) ∙ not_lt (key_order (get_or answers k d).key (get_or answers (k + 1) d).key) below
+      ap is_lt (total_keys.antisymm (get_or answers (k + 1) d).key (get_or answers k d).key)
+      ∙ not_lt (key_order (get_or answers k d).key (get_or answers (k + 1) d).key) below
 
   -- a key among the keys isn't missing from the answers
   pub never_missing : (key : Key) (i : ℕ) → has_key keys key ≡ true
       → IsPartitionPoint (λ (a : Answer). key_order a.key key ≡ Less) (λ (a : Answer). key_order a.key key ≡ Greater) answers i → ⊥
   never_missing key i asked parts =
       let none : has_key (map key_in answers) key ≡ false =
-      list_any_none (λ other. is_eq (key_order key other)) (map key_in answers) (All-map (λ other. is_eq (key_order key other) ≡ false) key_in answers (λ k d within.
+      list_any_none (λ other. is_eq (key_order key other)) (map key_in answers)
+      (All-map (λ other. is_eq (key_order key other) ≡ false) key_in answers (λ k d within.
       let found = (get_or answers k d).key in
       let either : (key_order found key ≡ Less) ⊎ (key_order found key ≡ Greater) =
       elim (side_of k i) [ inl h ↦ inl (parts.0 k d (omega arith) h) | inr h ↦ inr (parts.1 k d h within) ] in

@@ -57,7 +57,8 @@ has_mapped f xs k d within =
     any-map test f xs ∙ list_any_at (λ x. test (f x)) xs k d within (ties_itself (key_order key key) (total_keys.antisymm key key))
 
 -- a key of an item's keys is among the keys of all items
-has_gathered : {X : Type 0} (f : X → List Key) (xs : List X) (k : ℕ) (d : X) (key : Key) → k < length xs → has_key (f (get_or xs k d)) key ≡ true → has_key (flat_map f xs) key ≡ true
+has_gathered : {X : Type 0} (f : X → List Key) (xs : List X) (k : ℕ) (d : X) (key : Key) → k < length xs → has_key (f (get_or xs k d)) key ≡ true
+    → has_key (flat_map f xs) key ≡ true
 has_gathered f xs k d key within h =
     let test : Key → Bool = λ other. is_eq (key_order key other) in
     any-flat_map test f xs ∙ list_any_at (λ x. list_any test (f x)) xs k d within h
@@ -118,7 +119,8 @@ module _ (c : Cell) (n : RecName) (f : Feature) (keys : List Key) (is_set : keys
   unfolding partner_keys
   partners_are_read = λ k d within.
       let key = Foid (get_or f.partners k d).to in
-      by_pointers key (by_parts key ∙ later (has_key place_keys key || has_key boundary_keys key) (has_key partner_keys key) (has_mapped (λ (p : Partner). Foid p.to) f.partners k d within))
+      by_pointers key (by_parts key ∙ later (has_key place_keys key || has_key boundary_keys key) (has_key partner_keys key)
+      (has_mapped (λ (p : Partner). Foid p.to) f.partners k d within))
 
   -- the records that the ends of an area's edges name
   pub ends_are_read : (f.prim == 3) ≡ true → (k : ℕ) (d : Spot) (edge : Vector) → k < length f.places → edge_named c (get_or f.places k d).to ≡ Some edge
@@ -131,4 +133,5 @@ module _ (c : Cell) (n : RecName) (f : Feature) (keys : List Key) (is_set : keys
       ap (λ edge_found. has_key (option_map_or end_keys edge_found []) key) is_edge ∙ has_mapped (λ (e : End). Name e.to) edge.ends j end inside in
       let among : has_key boundary_keys key ≡ true =
       ap (λ b. has_key (cond b gathered []) key) area ∙ has_gathered (λ (s : Spot). end_keys_at c s.to) f.places k d key within here in
-      by_pointers key (by_parts key ∙ earlier (has_key place_keys key || has_key boundary_keys key) (has_key partner_keys key) (later (has_key place_keys key) (has_key boundary_keys key) among))
+      by_pointers key (by_parts key ∙ earlier (has_key place_keys key || has_key boundary_keys key) (has_key partner_keys key)
+      (later (has_key place_keys key) (has_key boundary_keys key) among))

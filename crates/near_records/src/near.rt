@@ -96,7 +96,8 @@ pub fn gather<'a, B: Look, L: Ledger>(
 }
 
 fn find_answer<'a, 'b>(answers: &'b [Answer<'a>], key: Key) -> Option<&'b Answer<'a>>
-    ensures { (c : SpecCell) (keys : List SpecKey) → map answer_held answers.now ≡ map (spec_answer c) (ascending key_order keys) → has_key keys key ≡ true → option_map answer_held (option_copied result) ≡ Some (spec_answer c key) }
+    ensures { (c : SpecCell) (keys : List SpecKey) → map answer_held answers.now ≡ map (spec_answer c) (ascending key_order keys)
+        → has_key keys key ≡ true → option_map answer_held (option_copied result) ≡ Some (spec_answer c key) }
 {
     orders_are_by_parts();
     match answers.binary_search_by_key(&key, |answer| answer.key) {
@@ -108,7 +109,8 @@ fn find_answer<'a, 'b>(answers: &'b [Answer<'a>], key: Key) -> Option<&'b Answer
 impl<'a> NearRecords<'a> {
     /// The record of a name among the keys, or none.
     pub fn record(&self, name: RecName) -> Option<&'a Rec>
-        ensures { (c : SpecCell) (keys : List SpecKey) → IsNear c keys self.now → has_key keys (KeyName name) ≡ true → option_copied result ≡ lookup_record c name }
+        ensures { (c : SpecCell) (keys : List SpecKey) → IsNear c keys self.now → has_key keys (KeyName name) ≡ true
+            → option_copied result ≡ lookup_record c name }
     {
         match find_answer(&self.answers, Key::Name(name)) {
             Some(answer) => answer.record,
@@ -118,7 +120,8 @@ impl<'a> NearRecords<'a> {
 
     /// Whether a feature bears an identifier among the keys.
     pub fn is_borne(&self, foid: Lnam) -> bool
-        ensures { (c : SpecCell) (keys : List SpecKey) → IsNear c keys self.now → has_key keys (KeyFoid foid) ≡ true → result ≡ nat_lt 0 (length (lookup_identity c foid)) }
+        ensures { (c : SpecCell) (keys : List SpecKey) → IsNear c keys self.now → has_key keys (KeyFoid foid) ≡ true
+            → result ≡ nat_lt 0 (length (lookup_identity c foid)) }
     {
         match find_answer(&self.answers, Key::Foid(foid)) {
             Some(answer) => answer.is_borne,

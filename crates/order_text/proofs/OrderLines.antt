@@ -1,5 +1,43 @@
 -- The line of an order is read as that order.
-use Rattle.std.proofs.Common.{◌≡◌, ◌≢◌, ◌<◌, ◌≤◌, ◌+◌, ◌^◌, ◌==◌, ◌&&◌, ℕ, zero, suc, Bool, true, false, List, [], ◌∷◌, ◌++◌, Some, Result, Ok, length, map, take, drop, get_or, filter_map, count_by, arith, refl, sym, ◌∙◌, ap, nat_le, cond, rules, if◌then◌else◌}
+use Rattle.std.proofs.Common.{
+  ◌≡◌,
+  ◌≢◌,
+  ◌<◌,
+  ◌≤◌,
+  ◌+◌,
+  ◌^◌,
+  ◌==◌,
+  ◌&&◌,
+  ℕ,
+  zero,
+  suc,
+  Bool,
+  true,
+  false,
+  List,
+  [],
+  ◌∷◌,
+  ◌++◌,
+  Some,
+  Result,
+  Ok,
+  length,
+  map,
+  take,
+  drop,
+  get_or,
+  filter_map,
+  count_by,
+  arith,
+  refl,
+  sym,
+  ◌∙◌,
+  ap,
+  nat_le,
+  cond,
+  rules,
+  if◌then◌else◌,
+}
 use mathlib.Core.List.{IsPrefix}
 use Rattle.std.specs.Prelude.{codes, nat_eq}
 use Rattle.std.specs.Cmp.Lexicographic.{pointwise}
@@ -14,7 +52,22 @@ use Rattle.std.proofs.Math.Seq.{take-append_seam, drop-append_seam}
 use Rattle.std.proofs.lemmas.List.Sums.{count_by_more_yes, sum_by-append}
 use Rattle.std.proofs.lemmas.Str.Parse.{IsNumeralModel, numerals_by_value, not_in_digits}
 use Rattle.text_spec.specs.Lines.{spaced_words}
-use Rattle.text_spec.specs.OrderLine.{IsOrder, order_line, order_of, order_items, items_among as items_of_pieces, pieces, before_feed, from_feed, session_of, is_bad_item, is_bad_session, are_all_used, ends_well, quota_of}
+use Rattle.text_spec.specs.OrderLine.{
+  IsOrder,
+  order_line,
+  order_of,
+  order_items,
+  items_among as items_of_pieces,
+  pieces,
+  before_feed,
+  from_feed,
+  session_of,
+  is_bad_item,
+  is_bad_session,
+  are_all_used,
+  ends_well,
+  quota_of,
+}
 use Rattle.order_text.proofs.Judged.{bad_at, has_used}
 use Rattle.order_text.proofs.Ranges.{find-none}
 use Rattle.order_text.proofs.SessionNames.{session_of-inside}
@@ -111,7 +164,8 @@ AreSessions quotas order = (k : ℕ) → k < length order → (1 ≤ get_or orde
 session_tail : (quotas : List ℕ) (i : ℕ) (order : List ℕ) → AreSessions quotas (i ∷ order) → AreSessions quotas order
 session_tail quotas i order are k below = are (suc k) (omega (arith, below))
 
-sessions_taken : (quotas : List ℕ) → length quotas < 2 ^ 32 → (order : List ℕ) (k : ℕ) → AreSessions quotas order → filter_map (session_of quotas) (take k (words_of order)) ≡ take k order
+sessions_taken : (quotas : List ℕ) → length quotas < 2 ^ 32 → (order : List ℕ) (k : ℕ) → AreSessions quotas order
+    → filter_map (session_of quotas) (take k (words_of order)) ≡ take k order
 sessions_taken quotas few [] zero are = refl
 sessions_taken quotas few [] (suc k) are = refl
 sessions_taken quotas few (i ∷ order) zero are = refl
@@ -119,7 +173,8 @@ sessions_taken quotas few (i ∷ order) (suc k) are =
     let first = are 0 (omega arith) in
     rw (session_of-inside quotas (decimal i) i few refl first.0 first.1) (rw (sessions_taken quotas few order k (session_tail quotas i order are)) refl)
 
-sessions_named : (quotas : List ℕ) → length quotas < 2 ^ 32 → (order : List ℕ) → AreSessions quotas order → filter_map (session_of quotas) (words_of order) ≡ order
+sessions_named : (quotas : List ℕ) → length quotas < 2 ^ 32 → (order : List ℕ) → AreSessions quotas order
+    → filter_map (session_of quotas) (words_of order) ≡ order
 sessions_named quotas few [] are = refl
 sessions_named quotas few (i ∷ order) are =
     let first = are 0 (omega arith) in
@@ -128,26 +183,30 @@ sessions_named quotas few (i ∷ order) are =
 count_take : (p : ℕ → Bool) (xs : List ℕ) (n : ℕ) → count_by p (take n xs) ≤ count_by p xs
 count_take p xs n =
     let whole : count_by p (take n xs ++ drop n xs) ≡ count_by p xs = ap (count_by p) (take-append-drop n xs) in
-    let parts : count_by p (take n xs ++ drop n xs) ≡ count_by p (take n xs) + count_by p (drop n xs) = sum_by-append (λ x. cond (p x) 1 0) (take n xs) (drop n xs) in
+    let parts : count_by p (take n xs ++ drop n xs) ≡ count_by p (take n xs) + count_by p (drop n xs) =
+    sum_by-append (λ x. cond (p x) 1 0) (take n xs) (drop n xs) in
     omega (arith, whole, parts)
 
 same_self : (n : ℕ) → (n == n) ≡ true
 same_self n = grind (arith, nat_tests)
 
 -- a place of an order is not yet beyond its session's share
-count_before : (order : List ℕ) (k : ℕ) → k < length order → count_by (λ other. other == get_or order k 0) (take k order) < count_by (λ other. other == get_or order k 0) order
+count_before : (order : List ℕ) (k : ℕ) → k < length order → count_by (λ other. other == get_or order k 0) (take k order) < count_by
+    (λ other. other == get_or order k 0) order
 count_before order k below =
     let s = get_or order k 0 in
     let one = count_by_more_yes (λ other. other == s) order k 0 below (same_self s) in
     let most = count_take (λ other. other == s) order (k + 1) in
     omega (arith, one, most)
 
-good_place : (quotas order : List ℕ) → length quotas < 2 ^ 32 → IsOrder quotas order → AreSessions quotas order → (k : ℕ) → k < length (words_of order) → is_bad_item quotas (words_of order) (1 + k) ≡ false
+good_place : (quotas order : List ℕ) → length quotas < 2 ^ 32 → IsOrder quotas order → AreSessions quotas order → (k : ℕ)
+    → k < length (words_of order) → is_bad_item quotas (words_of order) (1 + k) ≡ false
 good_place quotas order few is are k within =
     let below : k < length order = omega (arith, within, length-map order decimal) in
     let s = get_or order k 0 in
     let word : get_or (words_of order) k [] ≡ decimal s = get_or-map decimal order k 0 [] below in
-    let named : session_of quotas (get_or (words_of order) k []) ≡ Some s = ap (session_of quotas) word ∙ session_of-inside quotas (decimal s) s few refl (are k below).0 (are k below).1 in
+    let named : session_of quotas (get_or (words_of order) k []) ≡ Some s =
+    ap (session_of quotas) word ∙ session_of-inside quotas (decimal s) s few refl (are k below).0 (are k below).1 in
     let start : 1 + k ≡ k + 1 = omega arith in
     let share = is.each s (are k below).0 (are k below).1 in
     let left = count_before order k below in
@@ -171,7 +230,8 @@ all_range f a (suc n) all =
 
 all_used : (quotas order : List ℕ) → IsOrder quotas order → are_all_used quotas order ≡ true
 all_used quotas order is =
-    all_range (has_used quotas order) 1 (length quotas) (λ i below. above (quota_of quotas (1 + i)) (count_by (λ other. other == 1 + i) order) (is.each (1 + i) (omega arith) (omega (arith, below))))
+    all_range (has_used quotas order) 1 (length quotas) (λ i below. above (quota_of quotas (1 + i)) (count_by (λ other. other == 1 + i) order)
+    (is.each (1 + i) (omega arith) (omega (arith, below))))
 
 line_ends : (order : List ℕ) → AreSmall order → ends_well (behind_of order) (length (words_of order)) ≡ true
 line_ends [] small = refl
@@ -198,8 +258,10 @@ ok_is : (x y : List ℕ) → ◌≡◌ {A = Result (List ℕ) ℕ} (Ok x) (Ok y)
 ok_is x y e = cc
 
 -- no other order has the line
-pub order_line-one : (quotas order other : List ℕ) → length quotas < 2 ^ 32 → IsOrder quotas order → IsOrder quotas other → order_line order ≡ order_line other → order ≡ other
-order_line-one quotas order other few is so same = ok_is order other (sym (order_of-line quotas order few is) ∙ ap (order_of quotas) same ∙ order_of-line quotas other few so)
+pub order_line-one : (quotas order other : List ℕ) → length quotas < 2 ^ 32 → IsOrder quotas order → IsOrder quotas other
+    → order_line order ≡ order_line other → order ≡ other
+order_line-one quotas order other few is so same = ok_is order other (sym (order_of-line quotas order few is) ∙ ap (order_of quotas) same
+    ∙ order_of-line quotas other few so)
 
 -- ---- a text that begins with the line
 line_length : (order rest : List ℕ) → AreSmall order → feed (order_line order ++ rest) + 1 ≡ length (order_line order)
@@ -220,7 +282,8 @@ first_line order text small begins =
     ∙ ap (λ t. take (feed t + 1) t) begins.1
 
 -- no other order's line begins it
-pub order_line-first : (quotas order other text : List ℕ) → length quotas < 2 ^ 32 → IsOrder quotas order → IsOrder quotas other → IsPrefix (order_line order) text → IsPrefix (order_line other) text → order ≡ other
+pub order_line-first : (quotas order other text : List ℕ) → length quotas < 2 ^ 32 → IsOrder quotas order → IsOrder quotas other
+    → IsPrefix (order_line order) text → IsPrefix (order_line other) text → order ≡ other
 order_line-first quotas order other text few is so first second =
     let small : (o : List ℕ) → IsOrder quotas o → AreSmall o = λ o are k below. let within = (are.sessions k 0 below).1 in omega (arith, within, few) in
     order_line-one quotas order other few is so (first_line order text (small order is) first ∙ sym (first_line other text (small other so) second))

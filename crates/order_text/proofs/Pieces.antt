@@ -1,5 +1,32 @@
 -- A text cut at its first space.
-use Rattle.std.proofs.Common.{◌≡◌, ◌<◌, ◌≤◌, ◌+◌, ◌==◌, ℕ, suc, Bool, true, false, List, [], ◌∷◌, length, take, drop, arith, refl, Some, None, cond, nat_lt, ◌++◌, map, ap, Bor}
+use Rattle.std.proofs.Common.{
+  ◌≡◌,
+  ◌<◌,
+  ◌≤◌,
+  ◌+◌,
+  ◌==◌,
+  ℕ,
+  suc,
+  Bool,
+  true,
+  false,
+  List,
+  [],
+  ◌∷◌,
+  length,
+  take,
+  drop,
+  arith,
+  refl,
+  Some,
+  None,
+  cond,
+  nat_lt,
+  ◌++◌,
+  map,
+  ap,
+  Bor,
+}
 use Rattle.std.proofs.lemmas.List.{length-map, length-append}
 use Rattle.std.proofs.lemmas.Bool.{ltb-false}
 use Rattle.std.specs.List.{position, position_or_len}
@@ -90,10 +117,12 @@ pieces-few [] = omega arith
 pieces-few (c ∷ text) = few_step c text (c == 32) refl (pieces-few text)
 
 -- pieces that were found, with those behind them
-pub few_found : (found : List (Bor (List ℕ))) (more : List (List ℕ)) (text : List ℕ) → map (λ piece. piece.now) found ++ more ≡ pieces text → length found ≤ length text + 1
+pub few_found : (found : List (Bor (List ℕ))) (more : List (List ℕ)) (text : List ℕ) → map (λ piece. piece.now) found ++ more ≡ pieces text
+    → length found ≤ length text + 1
 few_found found more text are =
     let all = ap length are in
-    let parts : length (map (λ (piece : Bor (List ℕ)). piece.now) found ++ more) ≡ length (map (λ (piece : Bor (List ℕ)). piece.now) found) + length more = length-append (map (λ (piece : Bor (List ℕ)). piece.now) found) more in
+    let parts : length (map (λ (piece : Bor (List ℕ)). piece.now) found ++ more) ≡ length
+    (map (λ (piece : Bor (List ℕ)). piece.now) found) + length more = length-append (map (λ (piece : Bor (List ℕ)). piece.now) found) more in
     let same : length (map (λ (piece : Bor (List ℕ)). piece.now) found) ≡ length found = length-map found (λ piece. piece.now) in
     let few = pieces-few text in
     omega (arith, all, parts, same, few)

@@ -26,7 +26,8 @@ find-first f a (suc n) (suc i) below here before =
     let start : a + 0 ≡ a = omega arith in
     let first : f a ≡ false = ap f (sym start) ∙ before 0 (omega arith) in
     let e : a + 1 + i ≡ a + suc i = omega arith in
-    rw first (find-first f (a + 1) n i (omega (arith, below)) (ap f e ∙ here) (λ j under. let d : a + 1 + j ≡ a + (j + 1) = omega arith in rw d (before (j + 1) (omega (arith, under))))
+    rw first (find-first f (a + 1) n i (omega (arith, below)) (ap f e ∙ here) (λ j under. let d : a + 1 + j ≡ a + (j + 1) =
+    omega arith in rw d (before (j + 1) (omega (arith, under))))
     ∙ ap Some e)
 
 rest_none : (b : Bool) (a : ℕ) (o : Option ℕ) → cond b (Some a) o ≡ None → (b ≡ false) × (o ≡ None)

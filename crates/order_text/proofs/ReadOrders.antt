@@ -1,5 +1,47 @@
 -- What a text is read as is an order, and the text is its line.
-use Rattle.std.proofs.Common.{◌≡◌, ◌<◌, ◌≤◌, ◌+◌, ◌-◌, ◌==◌, ◌&&◌, ℕ, zero, suc, Bool, true, false, List, [], ◌∷◌, ◌++◌, Option, Some, None, Result, Ok, Err, length, map, take, drop, get_or, filter_map, count_by, arith, refl, sym, ◌∙◌, ap, subst, zero-add, nat_le, cond, codes, if◌then◌else◌}
+use Rattle.std.proofs.Common.{
+  ◌≡◌,
+  ◌<◌,
+  ◌≤◌,
+  ◌+◌,
+  ◌-◌,
+  ◌==◌,
+  ◌&&◌,
+  ℕ,
+  zero,
+  suc,
+  Bool,
+  true,
+  false,
+  List,
+  [],
+  ◌∷◌,
+  ◌++◌,
+  Option,
+  Some,
+  None,
+  Result,
+  Ok,
+  Err,
+  length,
+  map,
+  take,
+  drop,
+  get_or,
+  filter_map,
+  count_by,
+  arith,
+  refl,
+  sym,
+  ◌∙◌,
+  ap,
+  subst,
+  zero-add,
+  nat_le,
+  cond,
+  codes,
+  if◌then◌else◌,
+}
 use Rattle.std.specs.Prelude.{nat_eq, All}
 use Rattle.std.specs.Cmp.Lexicographic.{pointwise, bytes_decides}
 use Rattle.std.specs.Fmt.{decimal}
@@ -11,7 +53,26 @@ use Rattle.std.proofs.lemmas.List.{map-append, take_more, take-append-drop}
 use Rattle.std.proofs.lemmas.List.Elements.{All-append, All-cons, filter_map-append}
 use Rattle.std.proofs.lemmas.List.Sums.{sum_by-append}
 use Rattle.text_spec.specs.Lines.{spaced_words}
-use Rattle.text_spec.specs.OrderLine.{IsOrder, are_all_used, before_feed, ended_order, ends_well, first_bad_item, from_feed, is_bad_item, is_bad_session, items_among, order_among, order_items, order_line, order_of, pieces, quota_of, session_of, with_byte}
+use Rattle.text_spec.specs.OrderLine.{
+  IsOrder,
+  are_all_used,
+  before_feed,
+  ended_order,
+  ends_well,
+  first_bad_item,
+  from_feed,
+  is_bad_item,
+  is_bad_session,
+  items_among,
+  order_among,
+  order_items,
+  order_line,
+  order_of,
+  pieces,
+  quota_of,
+  session_of,
+  with_byte,
+}
 use Rattle.order_text.proofs.Judged.{bad_at, has_used}
 use Rattle.order_text.proofs.Ranges.{all-each, find-some, none-each}
 use Rattle.order_text.proofs.SessionNames.{spells}
@@ -47,13 +108,17 @@ items_from before ((c ∷ w) ∷ others) words e is some =
     absurd (cc)
 
 -- what follows `order`, from its items
-behind_is : (behind : List ℕ) (words : List (List ℕ)) → order_items behind ≡ words → ends_well behind (length words) ≡ true → behind ≡ spaced_words words ++ 10 ∷ []
+behind_is : (behind : List ℕ) (words : List (List ℕ)) → order_items behind ≡ words → ends_well behind (length words) ≡ true
+    → behind ≡ spaced_words words ++ 10 ∷ []
 behind_is behind [] are ended = sym ((bytes_decides (10 ∷ []) behind).0 ended)
 behind_is behind (w ∷ ws) are ended =
     let n = position_or_len (λ c. c == 10) behind in
-    let end : pointwise nat_eq (10 ∷ []) (from_feed behind) ≡ true = ap (λ b. pointwise nat_eq (10 ∷ []) (if b then behind else from_feed behind)) (sym (some_words w ws)) ∙ ended in
-    let before : before_feed behind ≡ spaced_words (w ∷ ws) = items_from (before_feed behind) (pieces (before_feed behind)) (w ∷ ws) (spaced_pieces (before_feed behind)) are (some_words w ws) in
-    sym (take-append-drop n behind) ∙ ap (λ t. t ++ from_feed behind) before ∙ ap (λ t. spaced_words (w ∷ ws) ++ t) (sym ((bytes_decides (10 ∷ []) (from_feed behind)).0 end))
+    let end : pointwise nat_eq (10 ∷ []) (from_feed behind) ≡ true =
+    ap (λ b. pointwise nat_eq (10 ∷ []) (if b then behind else from_feed behind)) (sym (some_words w ws)) ∙ ended in
+    let before : before_feed behind ≡ spaced_words (w ∷ ws) =
+    items_from (before_feed behind) (pieces (before_feed behind)) (w ∷ ws) (spaced_pieces (before_feed behind)) are (some_words w ws) in
+    sym (take-append-drop n behind) ∙ ap (λ t. t ++ from_feed behind) before ∙ ap (λ t. spaced_words (w ∷ ws) ++ t)
+    (sym ((bytes_decides (10 ∷ []) (from_feed behind)).0 end))
 
 abbrev named : List ℕ → List (List ℕ) → List ℕ
 named quotas words = filter_map (session_of quotas) words
@@ -77,7 +142,8 @@ share_more order i j b is =
     let one : share j (i ∷ []) ≡ cond b 1 0 = rw is (zero-add (cond b 1 0)) in
     omega (arith, parts, one)
 
-most_more : (quotas order : List ℕ) (i j : ℕ) (b : Bool) → (i == j) ≡ b → share j order ≤ quota_of quotas j → share i order < quota_of quotas i → share j (order ++ i ∷ []) ≤ quota_of quotas j
+most_more : (quotas order : List ℕ) (i j : ℕ) (b : Bool) → (i == j) ≡ b → share j order ≤ quota_of quotas j → share i order < quota_of quotas i
+    → share j (order ++ i ∷ []) ≤ quota_of quotas j
 most_more quotas order i j true is most left =
     let same : i ≡ j = grind (arith, nat_tests) in
     let more = share_more order i j true is in
@@ -85,7 +151,8 @@ most_more quotas order i j true is most left =
     omega (arith, more, less)
 most_more quotas order i j false is most left = let more = share_more order i j false is in omega (arith, more, most)
 
-good_item : (quotas : List ℕ) (words : List (List ℕ)) (word : List ℕ) (i : ℕ) → AreGood quotas words → session_of quotas word ≡ Some i → share i (named quotas words) < quota_of quotas i
+good_item : (quotas : List ℕ) (words : List (List ℕ)) (word : List ℕ) (i : ℕ) → AreGood quotas words → session_of quotas word ≡ Some i
+    → share i (named quotas words) < quota_of quotas i
     → AreGood quotas (words ++ word ∷ [])
 good_item quotas words word i good is left =
     let found = find-some (spells word) 1 (length quotas) i is in
@@ -93,8 +160,10 @@ good_item quotas words word i good is left =
     let order = named quotas words in
     let more : named quotas (words ++ word ∷ []) ≡ order ++ i ∷ [] = filter_map-append (session_of quotas) words (word ∷ []) ∙ rw is refl in
     record {
-      spelled = ap (λ ws. ws ++ word ∷ []) good.spelled ∙ ap (λ w. map decimal order ++ w ∷ []) (sym spelled) ∙ sym (map-append decimal order (i ∷ [])) ∙ ap (map decimal) (sym more);
-      sessions = subst (All (IsSession quotas)) (sym more) (All-append (IsSession quotas) order (i ∷ []) good.sessions (All-cons (IsSession quotas) i [] (found.above, omega (arith, found.below)) (λ k d below. absurd (omega (arith, below)))));
+      spelled = ap (λ ws. ws ++ word ∷ []) good.spelled ∙ ap (λ w. map decimal order ++ w ∷ []) (sym spelled)
+          ∙ sym (map-append decimal order (i ∷ [])) ∙ ap (map decimal) (sym more);
+      sessions = subst (All (IsSession quotas)) (sym more) (All-append (IsSession quotas) order (i ∷ []) good.sessions
+          (All-cons (IsSession quotas) i [] (found.above, omega (arith, found.below)) (λ k d below. absurd (omega (arith, below)))));
       most = λ j. subst (λ os. share j os ≤ quota_of quotas j) (sym more) (most_more quotas order i j (i == j) refl (good.most j) left);
     }
 
@@ -113,7 +182,9 @@ good_to quotas words none zero within = record { spelled = refl; sessions = λ k
 good_to quotas words none (suc k) within =
     let earlier = named quotas (take k words) in
     let place : 1 + k ≡ k + 1 = omega arith in
-    let good : is_bad_session quotas earlier (session_of quotas (get_or words k [])) ≡ false = sym (bad_at quotas words earlier k refl) ∙ ap (is_bad_item quotas words) (sym place) ∙ none-each (is_bad_item quotas words) 1 (length words) none k (omega (arith, within)) in
+    let good : is_bad_session quotas earlier (session_of quotas (get_or words k [])) ≡ false =
+    sym (bad_at quotas words earlier k refl) ∙ ap (is_bad_item quotas words) (sym place) ∙ none-each (is_bad_item quotas words) 1
+    (length words) none k (omega (arith, within)) in
     let item = left_of quotas earlier (session_of quotas (get_or words k [])) good in
     let e : suc k ≡ k + 1 = omega arith in
     subst (AreGood quotas) (sym (ap (λ n. take n words) e ∙ take_more words k [] (omega (arith, within))))
@@ -130,7 +201,8 @@ record AreRead (quotas behind : List ℕ) (words : List (List ℕ)) (order : Lis
   used : are_all_used quotas order ≡ true
   ends : ends_well behind (length words) ≡ true
 
-ended_parts : (a : Bool) (sessions order : List ℕ) (n : ℕ) → ◌≡◌ {A = Result (List ℕ) ℕ} (if a then Ok sessions else Err n) (Ok order) → (a ≡ true) × (sessions ≡ order)
+ended_parts : (a : Bool) (sessions order : List ℕ) (n : ℕ) → ◌≡◌ {A = Result (List ℕ) ℕ} (if a then Ok sessions else Err n) (Ok order)
+    → (a ≡ true) × (sessions ≡ order)
 ended_parts true sessions order n e = let same : sessions ≡ order = cc in (refl, same)
 ended_parts false sessions order n e = absurd (cc)
 
@@ -146,16 +218,19 @@ begun : (b : Bool) (x : Result (List ℕ) ℕ) (order : List ℕ) → (if b then
 begun true x order e = (refl, e)
 begun false x order e = absurd (cc)
 
-read_order-parts : (quotas text order : List ℕ) → order_of quotas text ≡ Ok order → (begins text ≡ true) × AreRead quotas (drop 5 text) (order_items (drop 5 text)) order
+read_order-parts : (quotas text order : List ℕ) → order_of quotas text ≡ Ok order → (begins text ≡ true)
+    × AreRead quotas (drop 5 text) (order_items (drop 5 text)) order
 unfolding order_of
 read_order-parts quotas text order e =
     let parts = begun (begins text) (order_among quotas (drop 5 text) (order_items (drop 5 text))) order e in
     (parts.0, read_parts quotas (drop 5 text) (order_items (drop 5 text)) order (first_bad_item quotas (order_items (drop 5 text))) refl parts.1)
 
-all_shares : (quotas order : List ℕ) → are_all_used quotas order ≡ true → ((i : ℕ) → share i order ≤ quota_of quotas i) → (i : ℕ) → 1 ≤ i → i ≤ length quotas → share i order ≡ quota_of quotas i
+all_shares : (quotas order : List ℕ) → are_all_used quotas order ≡ true → ((i : ℕ) → share i order ≤ quota_of quotas i) → (i : ℕ)
+    → 1 ≤ i → i ≤ length quotas → share i order ≡ quota_of quotas i
 all_shares quotas order used most i above within =
     let e : 1 + (i - 1) ≡ i = omega (arith, above) in
-    let least : nat_le (quota_of quotas i) (share i order) ≡ true = ap (has_used quotas order) (sym e) ∙ all-each (has_used quotas order) 1 (length quotas) used (i - 1) (omega (arith, above, within)) in
+    let least : nat_le (quota_of quotas i) (share i order) ≡ true =
+    ap (has_used quotas order) (sym e) ∙ all-each (has_used quotas order) 1 (length quotas) used (i - 1) (omega (arith, above, within)) in
     let top = most i in
     grind (arith, nat_tests)
 
@@ -172,5 +247,6 @@ order_of-order quotas text order e =
         sessions = subst (All (IsSession quotas)) parts.1.order_is good.sessions;
         each = all_shares quotas order parts.1.used (subst (λ os. (i : ℕ) → share i os ≤ quota_of quotas i) parts.1.order_is good.most);
       },
-      sym (take-append-drop 5 text) ∙ ap (λ t. t ++ behind) (sym front) ∙ ap (λ t. codes "order" ++ t) (behind_is behind words refl parts.1.ends) ∙ ap (λ ws. codes "order" ++ (spaced_words ws ++ 10 ∷ [])) words_are,
+      sym (take-append-drop 5 text) ∙ ap (λ t. t ++ behind) (sym front) ∙ ap (λ t. codes "order" ++ t) (behind_is behind words refl parts.1.ends)
+          ∙ ap (λ ws. codes "order" ++ (spaced_words ws ++ 10 ∷ [])) words_are,
     )

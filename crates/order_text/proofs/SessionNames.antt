@@ -25,18 +25,22 @@ none_is_not : {X : Type 0} (x : X) → None ≡ Some x → ⊥
 none_is_not x e = cc
 
 -- a word that spells no number of 32 bits names no session
-pub session_of-none : (quotas word : List ℕ) → length quotas < 2 ^ 32 → ((n : ℕ) → n < 2 ^ 32 → decimal n ≡ word → None ≡ Some n) → session_of quotas word ≡ None
+pub session_of-none : (quotas word : List ℕ) → length quotas < 2 ^ 32 → ((n : ℕ) → n < 2 ^ 32 → decimal n ≡ word → None ≡ Some n)
+    → session_of quotas word ≡ None
 session_of-none quotas word few found =
-    find-none (spells word) 1 (length quotas) (λ i below. not_spelled word (1 + i) (λ same. none_is_not (1 + i) (found (1 + i) (omega (arith, few, below)) same)))
+    find-none (spells word) 1 (length quotas) (λ i below. not_spelled word (1 + i)
+    (λ same. none_is_not (1 + i) (found (1 + i) (omega (arith, few, below)) same)))
 
 -- a word that spells a number that is no session's names none
 pub session_of-outside : (quotas word : List ℕ) (number : ℕ) → length quotas < 2 ^ 32 → ((n : ℕ) → n < 2 ^ 32 → decimal n ≡ word → Some number ≡ Some n)
     → ((i : ℕ) → i < length quotas → number ≡ 1 + i → ⊥) → session_of quotas word ≡ None
 session_of-outside quotas word number few found outside =
-    find-none (spells word) 1 (length quotas) (λ i below. not_spelled word (1 + i) (λ same. outside i below (some_is number (1 + i) (found (1 + i) (omega (arith, few, below)) same))))
+    find-none (spells word) 1 (length quotas) (λ i below. not_spelled word (1 + i)
+    (λ same. outside i below (some_is number (1 + i) (found (1 + i) (omega (arith, few, below)) same))))
 
 -- a word that spells a session's number names it
-pub session_of-inside : (quotas word : List ℕ) (number : ℕ) → length quotas < 2 ^ 32 → decimal number ≡ word → 1 ≤ number → number ≤ length quotas → session_of quotas word ≡ Some number
+pub session_of-inside : (quotas word : List ℕ) (number : ℕ) → length quotas < 2 ^ 32 → decimal number ≡ word → 1 ≤ number
+    → number ≤ length quotas → session_of quotas word ≡ Some number
 session_of-inside quotas word number few spelled above within =
     let e : 1 + (number - 1) ≡ number = omega (arith, above) in
     find-first (spells word) 1 (length quotas) (number - 1) (omega (arith, above, within))

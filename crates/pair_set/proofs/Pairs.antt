@@ -1,5 +1,27 @@
 -- Pairs: their order, and what a put and a removal change.
-use Rattle.std.proofs.Common.{◌≡◌, ◌&&◌, ◌||◌, Bool, true, false, not, List, Option, None, Some, cond, is_some, refl, ap, ◌∙◌, Ordering, Less, Equal, Greater, is_eq}
+use Rattle.std.proofs.Common.{
+  ◌≡◌,
+  ◌&&◌,
+  ◌||◌,
+  Bool,
+  true,
+  false,
+  not,
+  List,
+  Option,
+  None,
+  Some,
+  cond,
+  is_some,
+  refl,
+  ap,
+  ◌∙◌,
+  Ordering,
+  Less,
+  Equal,
+  Greater,
+  is_eq,
+}
 use Rattle.std.specs.Ordering.{ordering_then}
 use Rattle.std.specs.Cmp.{IsTotalOrder}
 use Rattle.std.proofs.lemmas.Cmp.{on_total, then_total}
@@ -20,7 +42,8 @@ took_some : {V : Type 0} (b : Bool) (o : Option V) → is_some (cond b None o) �
 took_some true o = refl
 took_some false o = refl
 
-module _ {A B : Type 0} (firsts : A → A → Ordering) (seconds : B → B → Ordering) (total_firsts : IsTotalOrder firsts) (total_seconds : IsTotalOrder seconds) where
+module _ {A B : Type 0} (firsts : A → A → Ordering) (seconds : B → B → Ordering) (total_firsts : IsTotalOrder firsts)
+    (total_seconds : IsTotalOrder seconds) where
   pub total_pairs : IsTotalOrder (pair_order firsts seconds)
   total_pairs = then_total (on_total (λ (p : A × B). p.0) total_firsts) (on_total (λ (p : A × B). p.1) total_seconds)
 

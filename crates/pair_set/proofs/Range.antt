@@ -1,5 +1,35 @@
 -- The pairs of one first stand together, from the first pair that isn't below it on.
-use Rattle.std.proofs.Common.{◌≡◌, ◌||◌, suc, ◌+◌, Bool, true, false, true≢false, List, [], ◌∷◌, Option, Some, cond, is_some, map, drop, refl, sym, ap, subst, ◌∙◌, arith, Ordering, Less, Equal, Greater, is_eq, is_lt}
+use Rattle.std.proofs.Common.{
+  ◌≡◌,
+  ◌||◌,
+  suc,
+  ◌+◌,
+  Bool,
+  true,
+  false,
+  true≢false,
+  List,
+  [],
+  ◌∷◌,
+  Option,
+  Some,
+  cond,
+  is_some,
+  map,
+  drop,
+  refl,
+  sym,
+  ap,
+  subst,
+  ◌∙◌,
+  arith,
+  Ordering,
+  Less,
+  Equal,
+  Greater,
+  is_eq,
+  is_lt,
+}
 use Rattle.std.specs.Cmp.{IsTotalOrder, eq_by_cmp_equiv}
 use Rattle.std.specs.List.{AllByRecursion, take_while}
 use Rattle.std.specs.List.Sorted.{IsStrictlySortedBy}
@@ -44,7 +74,8 @@ under-cons {A} {B} {V} firsts a row rows =
     let second = λ (pair : (A × B) × V). pair.0.1 in
     ap (map second) (take_while-cons here row rows) ∙ map_if second row (take_while here rows) (here row)
 
-module _ {A B V : Type 0} (firsts : A → A → Ordering) (seconds : B → B → Ordering) (total_firsts : IsTotalOrder firsts) (total_seconds : IsTotalOrder seconds) (a : A) where
+module _ {A B V : Type 0} (firsts : A → A → Ordering) (seconds : B → B → Ordering) (total_firsts : IsTotalOrder firsts)
+    (total_seconds : IsTotalOrder seconds) (a : A) where
   abbrev under : List ((A × B) × V) → List B
   under rows = seconds_under firsts a rows
 
@@ -138,7 +169,8 @@ module _ {A B V : Type 0} (firsts : A → A → Ordering) (seconds : B → B →
         → is_among seconds (under (from rows)) q ≡ has_pair firsts seconds rows a q
     among-from q [] ascending = refl
     among-from q (row ∷ rows) ascending =
-        from_by (λ those. is_among seconds (under those) q ≡ has_pair firsts seconds (row ∷ rows) a q) row rows (is_lt (pair_order firsts seconds row.0 (a, least))) refl
+        from_by (λ those. is_among seconds (under those) q ≡ has_pair firsts seconds (row ∷ rows) a q) row rows
+        (is_lt (pair_order firsts seconds row.0 (a, least))) refl
         (λ less. among-from q rows (sorted_tail (pair_order firsts seconds) row.0 (keys_of rows) ascending)
         ∙ ap (λ o. is_some (cond (is_eq (ordering_then o (seconds row.0.1 q))) (Some row.1) (value_of (pair_order firsts seconds) rows (a, q)))) (sym less))
         (λ reached. among-under q (row ∷ rows) ascending reached)

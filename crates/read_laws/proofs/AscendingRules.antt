@@ -21,7 +21,10 @@ sorted_joined : {X : Type 0} (order : X → X → Ordering) (xs ys : List X) →
     → AllByRecursion (λ x. AllByRecursion (λ y. order x y ≡ Less) ys) xs → IsStrictlySortedBy order (xs ++ ys)
 unfolding IsStrictlySortedBy
 sorted_joined order [] ys first second below = second
-sorted_joined order (x ∷ xs) ys first second below = (each_joined (λ y. order x y ≡ Less) xs ys first.0 below.0, sorted_joined order xs ys first.1 second below.1)
+sorted_joined order (x ∷ xs) ys first second below = (
+  each_joined (λ y. order x y ≡ Less) xs ys first.0 below.0,
+  sorted_joined order xs ys first.1 second below.1,
+)
 
 -- the kinds of rules ascend above a number
 abbrev pub kinds_ascend : {R : Type 0} → ℕ → List (RuleRow R) → Bool
@@ -39,8 +42,10 @@ all_above least kind (nums ∷ found) below = (below, all_above least kind found
 all_below : (kind : ℕ) (found : Found) (others : List Finding) → AllByRecursion (λ f. kind < f.kind) others
     → AllByRecursion (λ f. AllByRecursion (λ g. finding_order f g ≡ Less) others) (map (finding kind) found)
 all_below kind [] others above = tt
-all_below kind (nums ∷ found) others above =
-    (each_weaker (λ g. kind < g.kind) (λ g. finding_order (finding kind nums) g ≡ Less) (by_kind (finding kind nums)) others above, all_below kind found others above)
+all_below kind (nums ∷ found) others above = (
+  each_weaker (λ g. kind < g.kind) (λ g. finding_order (finding kind nums) g ≡ Less) (by_kind (finding kind nums)) others above,
+  all_below kind found others above,
+)
 
 module _ {R : Type 0} (judge : R → Found) where
   kinds_above : (least : ℕ) (rules : List (RuleRow R)) → kinds_ascend least rules ≡ true → AllByRecursion (λ f. least < f.kind) (findings_of_rules judge rules)
@@ -50,7 +55,8 @@ module _ {R : Type 0} (judge : R → Found) where
       let parts = and_parts (nat_lt least kind) (kinds_ascend kind rules) ascent in
       let below : least < kind = ltb-true _ _ parts.0 in
       each_joined (λ f. least < f.kind) (map (finding kind) (judge r.rule)) (findings_of_rules judge rules) (all_above least kind (judge r.rule) below)
-      (each_weaker (λ f. kind < f.kind) (λ f. least < f.kind) (λ f above. omega (arith, below, above)) (findings_of_rules judge rules) (kinds_above kind rules parts.1))
+      (each_weaker (λ f. kind < f.kind) (λ f. least < f.kind) (λ f above. omega (arith, below, above)) (findings_of_rules judge rules)
+      (kinds_above kind rules parts.1))
 
   -- a rule more is one more row of each list
   pub rules_ascend : (least : ℕ) (rules : List (RuleRow R)) → kinds_ascend least rules ≡ true → AllByRecursion (λ (r : RuleRow R). Ascends (judge r.rule)) rules

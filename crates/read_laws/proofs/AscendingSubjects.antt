@@ -30,7 +30,18 @@ use Rattle.rule_spec.specs.Vectors.{Numbered, first_wrong_meeting, found_pair, i
 use Rattle.rule_spec.specs.declared.line.EdgeLine.{EdgeLine}
 use Rattle.rule_spec.specs.declared.side.EdgeUse.{EdgeUse}
 use Rattle.read_laws.specs.FindingsAscend.{FindingsAscend}
-use Rattle.read_laws.proofs.Ascents.{Ascends, none_ascends, one_ascends, when_ascends, unless_ascends, if_ascends, when_if_ascends, at_ascends, first_ascends, places_ascend}
+use Rattle.read_laws.proofs.Ascents.{
+  Ascends,
+  none_ascends,
+  one_ascends,
+  when_ascends,
+  unless_ascends,
+  if_ascends,
+  when_if_ascends,
+  at_ascends,
+  first_ascends,
+  places_ascend,
+}
 use Rattle.read_laws.proofs.AscendingLoops.{loops_ascend}
 use Rattle.read_laws.proofs.AscendingRules.{rules_ascend}
 
@@ -127,8 +138,20 @@ use_ascends (Some u) = one_ascends (u.pointer.from.id ∷ u.pointer.place ∷ []
 sides_ascend : (c : Cell) (n : RecName) → AllAscend (λ rule. rule c n) side_rules
 sides_ascend c n =
     let counts = side_counts (uses_of c n) in
-    let cut = find is_truncated (uses_of c n) in
-    (if_ascends _ _, (if_ascends _ _, (if_ascends _ _, (when_ascends (counts.coverage_forward == counts.coverage_reverse) (found_use cut) (use_ascends cut), tt))))
+    let cut = find is_truncated (uses_of c n) in (
+      if_ascends _ _,
+      (
+        if_ascends _ _,
+        (
+          if_ascends _ _,
+          (
+            when_ascends (counts.coverage_forward == counts.coverage_reverse)
+                (found_use cut) (use_ascends cut),
+            tt,
+          ),
+        ),
+      ),
+    )
 
 identities_ascend : (c : Cell) (l : Lnam) → AllAscend (λ rule. rule c l) identity_rules
 identities_ascend c l = (if_ascends _ _, tt)
@@ -150,7 +173,8 @@ about_ascends c (Side n) = rules_ascend (λ rule. rule c n) 0 side_rules refl (s
 about_ascends c (Pair a b) = rules_ascend (λ rule. rule c a b) 0 pair_rules refl (pairs_ascend c a b)
 about_ascends c (Ident l) = rules_ascend (λ rule. rule c l) 0 identity_rules refl (identities_ascend c l)
 
-judged_ascends : (there : Bool) (findings : List Finding) → IsStrictlySortedBy finding_order findings → IsStrictlySortedBy finding_order (cond there findings [])
+judged_ascends : (there : Bool) (findings : List Finding) → IsStrictlySortedBy finding_order findings
+    → IsStrictlySortedBy finding_order (cond there findings [])
 unfolding IsStrictlySortedBy
 judged_ascends true findings ascent = ascent
 judged_ascends false findings ascent = tt

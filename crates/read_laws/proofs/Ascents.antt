@@ -1,5 +1,32 @@
 -- Lists whose items ascend by a number, and findings of one kind that ascend by their first numbers.
-use Rattle.std.proofs.Common.{◌≡◌, ◌≤◌, ◌<◌, ℕ, zero, suc, ◌+◌, Bool, true, false, List, [], ◌∷◌, Option, None, Some, cond, map, filter, take, drop, refl, sym, ap, ◌∙◌, arith}
+use Rattle.std.proofs.Common.{
+  ◌≡◌,
+  ◌≤◌,
+  ◌<◌,
+  ℕ,
+  zero,
+  suc,
+  ◌+◌,
+  Bool,
+  true,
+  false,
+  List,
+  [],
+  ◌∷◌,
+  Option,
+  None,
+  Some,
+  cond,
+  map,
+  filter,
+  take,
+  drop,
+  refl,
+  sym,
+  ap,
+  ◌∙◌,
+  arith,
+}
 use Rattle.std.specs.Cmp.{nat_cmp_is}
 use Rattle.std.specs.Cmp.Lexicographic.{slice_cmp}
 use Rattle.std.specs.List.{AllByRecursion, enumerate_from}
@@ -31,7 +58,8 @@ module _ {X : Type 0} (number : X → ℕ) where
   ascend_dropped (suc n) least [] ascent = tt
   ascend_dropped (suc n) least (x ∷ xs) ascent = ascend_dropped n least xs (ascend_behind least x xs ascent)
 
-  kept_by : (test : Bool) (least : ℕ) (x : X) (xs : List X) → least ≤ number x → AscendFrom number (suc (number x)) xs → AscendFrom number least (cond test (x ∷ xs) xs)
+  kept_by : (test : Bool) (least : ℕ) (x : X) (xs : List X) → least ≤ number x → AscendFrom number (suc (number x)) xs
+      → AscendFrom number least (cond test (x ∷ xs) xs)
   kept_by true least x xs here behind = (here, behind)
   kept_by false least x xs here behind = ascend_behind least x xs (here, behind)
 
@@ -39,7 +67,8 @@ module _ {X : Type 0} (number : X → ℕ) where
   ascend_filtered test least [] ascent = tt
   ascend_filtered test least (x ∷ xs) ascent = kept_by (test x) least x (filter test xs) ascent.0 (ascend_filtered test (suc (number x)) xs ascent.1)
 
-pub ascend_mapped : {X Y : Type 0} (number : Y → ℕ) (f : X → Y) (least : ℕ) (xs : List X) → AscendFrom (λ x. number (f x)) least xs → AscendFrom number least (map f xs)
+pub ascend_mapped : {X Y : Type 0} (number : Y → ℕ) (f : X → Y) (least : ℕ) (xs : List X) → AscendFrom (λ x. number (f x)) least xs
+    → AscendFrom number least (map f xs)
 ascend_mapped number f least [] ascent = tt
 ascend_mapped number f least (x ∷ xs) ascent = (ascent.0, ascend_mapped number f (suc (number (f x))) xs ascent.1)
 
@@ -58,21 +87,28 @@ first_number nums = slice_index nums 0
 -- findings of one kind go by their first numbers
 by_first_number : (kind : ℕ) (a b : List ℕ) → first_number a < first_number b → finding_order (finding kind a) (finding kind b) ≡ Less
 by_first_number kind a b below =
-    let others = λ (o : Ordering). ordering_then o (slice_cmp nat_cmp (slice_index a 1 ∷ slice_index a 2 ∷ slice_index a 3 ∷ []) (slice_index b 1 ∷ slice_index b 2 ∷ slice_index b 3 ∷ [])) in
+    let others = λ (o : Ordering). ordering_then o (slice_cmp nat_cmp (slice_index a 1 ∷ slice_index a 2 ∷ slice_index a 3 ∷ [])
+    (slice_index b 1 ∷ slice_index b 2 ∷ slice_index b 3 ∷ [])) in
     ap (λ o. ordering_then o (others (nat_cmp (first_number a) (first_number b)))) (sym (nat_cmp_is kind kind Equal refl))
     ∙ ap others (sym (nat_cmp_is (first_number a) (first_number b) Less below))
 
 all_behind : (kind : ℕ) (nums : List ℕ) (least : ℕ) (found : Found) → first_number nums < least → AscendFrom first_number least found
     → AllByRecursion (λ other. finding_order (finding kind nums) other ≡ Less) (map (finding kind) found)
 all_behind kind nums least [] below ascent = tt
-all_behind kind nums least (more ∷ found) below ascent =
-    (by_first_number kind nums more (omega (arith, below, ascent.0)), all_behind kind nums (suc (first_number more)) found (omega (arith, below, ascent.0)) ascent.1)
+all_behind kind nums least (more ∷ found) below ascent = (
+  by_first_number kind nums more (omega (arith, below, ascent.0)),
+  all_behind kind nums (suc (first_number more)) found
+      (omega (arith, below, ascent.0)) ascent.1,
+)
 
 -- findings whose first numbers ascend do
 pub ascends : (least : ℕ) (found : Found) → AscendFrom first_number least found → Ascends found
 unfolding IsStrictlySortedBy
 ascends least [] ascent kind = tt
-ascends least (nums ∷ found) ascent kind = (all_behind kind nums (suc (first_number nums)) found (omega arith) ascent.1, ascends (suc (first_number nums)) found ascent.1 kind)
+ascends least (nums ∷ found) ascent kind = (
+  all_behind kind nums (suc (first_number nums)) found (omega arith) ascent.1,
+  ascends (suc (first_number nums)) found ascent.1 kind,
+)
 
 -- none, and one
 pub none_ascends : Ascends []
@@ -112,4 +148,5 @@ pub places_ascend : {X : Type 0} (test : X → Bool) (xs : List X) → Ascends (
 places_ascend {X} test xs =
     let place = λ (item : ℕ × X). item.0 ∷ [] in
     let found = filter (λ (item : ℕ × X). test item.1) (enumerate_from 1 xs) in
-    ascends 1 (map place found) (ascend_mapped first_number place 1 found (ascend_filtered (λ item. item.0) (λ item. test item.1) 1 (enumerate_from 1 xs) (ascend_numbered 1 xs)))
+    ascends 1 (map place found) (ascend_mapped first_number place 1 found
+    (ascend_filtered (λ item. item.0) (λ item. test item.1) 1 (enumerate_from 1 xs) (ascend_numbered 1 xs)))

@@ -58,7 +58,8 @@ module _ (c d : Cell) where
       if_mapped Alike (λ (end : End). end.to) (the_only (filter such e.ends))
       (of_the_only (λ (end : End). Alike end.to) (filter such e.ends) (each_filtered (λ (end : End). Alike end.to) such e.ends ends))
 
-  line_between_same : (e : Vector) (first last : Option RecName) → IfSome first Alike → IfSome last Alike → line_between c e first last ≡ line_between d e first last
+  line_between_same : (e : Vector) (first last : Option RecName) → IfSome first Alike → IfSome last Alike
+      → line_between c e first last ≡ line_between d e first last
   line_between_same e None last f l = refl
   line_between_same e (Some first) None f l = refl
   line_between_same e (Some first) (Some last) f l = λ i. line_from e first last (same_position first f i) (same_position last l i)
@@ -66,7 +67,8 @@ module _ (c d : Cell) where
   pub same_line_of : (e : Vector) → HasAlikeEnds e → line_of c e ≡ line_of d e
   same_line_of e ends = line_between_same e (node_at 1 e) (node_at 2 e) (alike_at 1 e ends) (alike_at 2 e ends)
 
-  same_line_by : (edge : Option Vector) → AllByRecursion (AnswerAlike c d) (option_map_or end_keys edge []) → option_and_then (line_of c) edge ≡ option_and_then (line_of d) edge
+  same_line_by : (edge : Option Vector) → AllByRecursion (AnswerAlike c d) (option_map_or end_keys edge [])
+      → option_and_then (line_of c) edge ≡ option_and_then (line_of d) edge
   same_line_by None ends = refl
   same_line_by (Some e) ends = same_line_of e (alike_ends e ends)
 
@@ -88,7 +90,8 @@ module _ (c d : Cell) where
   nodes_between e (Some first) None f l = tt
   nodes_between e (Some first) (Some last) f l = nodes_from e first last (node_position c first) (node_position c last) f l
 
-  nodes_by : (edge : Option Vector) → AllByRecursion (AnswerAlike c d) (option_map_or end_keys edge []) → IfSome (option_and_then (line_of c) edge) HasAlikeNodes
+  nodes_by : (edge : Option Vector) → AllByRecursion (AnswerAlike c d) (option_map_or end_keys edge [])
+      → IfSome (option_and_then (line_of c) edge) HasAlikeNodes
   nodes_by None ends = tt
   nodes_by (Some e) ends = let alike = alike_ends e ends in nodes_between e (node_at 1 e) (node_at 2 e) (alike_at 1 e alike) (alike_at 2 e alike)
 

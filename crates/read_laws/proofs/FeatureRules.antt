@@ -1,5 +1,32 @@
 -- The rules on features give the same in two cells that answer alike to what they look up.
-use Rattle.std.proofs.Common.{◌≡◌, ℕ, ◌==◌, ◌&&◌, Bool, true, false, List, [], ◌∷◌, ◌++◌, Option, None, Some, cond, map, take, not, length, flat_map, is_some, option_map, refl, sym, ap, ◌∙◌}
+use Rattle.std.proofs.Common.{
+  ◌≡◌,
+  ℕ,
+  ◌==◌,
+  ◌&&◌,
+  Bool,
+  true,
+  false,
+  List,
+  [],
+  ◌∷◌,
+  ◌++◌,
+  Option,
+  None,
+  Some,
+  cond,
+  map,
+  take,
+  not,
+  length,
+  flat_map,
+  is_some,
+  option_map,
+  refl,
+  sym,
+  ap,
+  ◌∙◌,
+}
 use Rattle.std.specs.List.{AllByRecursion, enumerate_from, list_all}
 use Rattle.s57_types.specs.declared.record.Feature.{Feature}
 use Rattle.s57_types.specs.declared.record.Partner.{Partner}
@@ -13,7 +40,19 @@ use Rattle.cell_spec.specs.declared.key.Key.TheVariants.{Name, Foid}
 use Rattle.cell_spec.specs.Lookup.{lookup_record, lookup_identity}
 use Rattle.rule_spec.specs.declared.line.BoundaryRow.{BoundaryRow}
 use Rattle.rule_spec.specs.declared.line.EdgeLine.{EdgeLine}
-use Rattle.rule_spec.specs.Boundary.{line_along, boundary_row, boundary_of, is_clean, has_points, has_usable_boundary, open_ring_of, mixed_ring_of, outer_count_of, wrong_turn_of, has_whole_loops}
+use Rattle.rule_spec.specs.Boundary.{
+  line_along,
+  boundary_row,
+  boundary_of,
+  is_clean,
+  has_points,
+  has_usable_boundary,
+  open_ring_of,
+  mixed_ring_of,
+  outer_count_of,
+  wrong_turn_of,
+  has_whole_loops,
+}
 use Rattle.rule_spec.specs.EdgePoints.{edge_line_of}
 use Rattle.rule_spec.specs.Features.{prim_refs, dangling_ref, bad_codes, bad_level, dangling_feature, is_beyond_ascii, target}
 use Rattle.rule_spec.specs.Findings.{findings_of_record}
@@ -21,7 +60,19 @@ use Rattle.rule_spec.specs.Reads.{end_keys_at, feature_keys}
 use Rattle.rule_spec.specs.Rule.{Found, places_where}
 use Rattle.rule_spec.specs.Rules.{feature_rules}
 use Rattle.cell_spec.specs.AnswersAlike.{AnswerAlike}
-use Rattle.read_laws.proofs.Lists.{each_weaker, each_from_both, each_front, each_back, each_mapped, each_flat, each_numbered, same_filter_map, same_flat_map, same_list_all, same_places}
+use Rattle.read_laws.proofs.Lists.{
+  each_weaker,
+  each_from_both,
+  each_front,
+  each_back,
+  each_mapped,
+  each_flat,
+  each_numbered,
+  same_filter_map,
+  same_flat_map,
+  same_list_all,
+  same_places,
+}
 use Rattle.read_laws.proofs.EdgeLines.{Alike, same_end_keys, same_line}
 use Rattle.read_laws.proofs.RuleFindings.{same_findings}
 
@@ -58,10 +109,12 @@ module _ (c d : Cell) (f : Feature) where
   alike_places : AllByRecursion (AnswerAlike c d) (feature_keys c f) → HasAlikePlaces
   alike_places all =
       each_mapped (AnswerAlike c d) (λ (s : Spot). Name s.to) f.places
-      (each_front (AnswerAlike c d) (place_keys f) (edge_keys_of_area c f) (each_front (AnswerAlike c d) (place_keys f ++ edge_keys_of_area c f) (partner_keys f) all.1))
+      (each_front (AnswerAlike c d) (place_keys f) (edge_keys_of_area c f)
+      (each_front (AnswerAlike c d) (place_keys f ++ edge_keys_of_area c f) (partner_keys f) all.1))
 
   alike_edges : AllByRecursion (AnswerAlike c d) (feature_keys c f) → AllByRecursion (AnswerAlike c d) (edge_keys_of_area c f)
-  alike_edges all = each_back (AnswerAlike c d) (place_keys f) (edge_keys_of_area c f) (each_front (AnswerAlike c d) (place_keys f ++ edge_keys_of_area c f) (partner_keys f) all.1)
+  alike_edges all = each_back (AnswerAlike c d) (place_keys f) (edge_keys_of_area c f)
+      (each_front (AnswerAlike c d) (place_keys f ++ edge_keys_of_area c f) (partner_keys f) all.1)
 
   alike_partners : AllByRecursion (AnswerAlike c d) (feature_keys c f) → AllByRecursion (λ (p : Partner). AnswerAlike c d (Foid p.to)) f.partners
   alike_partners all =
@@ -73,7 +126,8 @@ module _ (c d : Cell) (f : Feature) where
   keys_by_places places =
       let ends : edge_keys c f ≡ edge_keys d f =
       same_flat_map (λ (s : Spot). end_keys_at c s.to) (λ (s : Spot). end_keys_at d s.to) f.places
-      (each_weaker (λ (s : Spot). Alike c d s.to) (λ (s : Spot). end_keys_at c s.to ≡ end_keys_at d s.to) (λ s same. same_end_keys c d s.to same) f.places places) in
+      (each_weaker (λ (s : Spot). Alike c d s.to) (λ (s : Spot). end_keys_at c s.to ≡ end_keys_at d s.to)
+      (λ s same. same_end_keys c d s.to same) f.places places) in
       λ i. Name head_name ∷ (place_keys f ++ cond (f.prim == 3) (ends i) [] ++ partner_keys f)
 
   pub same_feature_keys : AllByRecursion (AnswerAlike c d) (feature_keys c f) → feature_keys c f ≡ feature_keys d f
@@ -89,7 +143,8 @@ module _ (c d : Cell) (f : Feature) where
   same_dangling_feature partners =
       let missing : Cell → Partner → Bool = λ cell p. length (lookup_identity cell p.to) == 0 in
       same_places (missing c) (missing d) 1 f.partners
-      (each_weaker (λ (p : Partner). AnswerAlike c d (Foid p.to)) (λ p. missing c p ≡ missing d p) (λ p same. ap (λ bearers. length bearers == 0) same) f.partners partners)
+      (each_weaker (λ (p : Partner). AnswerAlike c d (Foid p.to)) (λ p. missing c p ≡ missing d p)
+      (λ p same. ap (λ bearers. length bearers == 0) same) f.partners partners)
 
   same_bad_level : AnswerAlike c d (Name head_name) → bad_level c f ≡ bad_level d f
   same_bad_level same = ap (λ found. cond (level_of found == 0) (take 1 (places_where is_beyond_ascii f.attf)) []) same
@@ -100,23 +155,27 @@ module _ (c d : Cell) (f : Feature) where
 
   same_lines : HasAlikePlaces → AllByRecursion (AnswerAlike c d) (edge_keys c f) → HasSameLines
   same_lines places edges =
-      each_from_both (λ (s : Spot). Alike c d s.to) (λ (s : Spot). AllByRecursion (AnswerAlike c d) (end_keys_at c s.to)) (λ (s : Spot). edge_line_of c s.to ≡ edge_line_of d s.to)
+      each_from_both (λ (s : Spot). Alike c d s.to) (λ (s : Spot). AllByRecursion (AnswerAlike c d) (end_keys_at c s.to))
+      (λ (s : Spot). edge_line_of c s.to ≡ edge_line_of d s.to)
       (λ s same ends. same_line c d s.to same ends) f.places places (each_flat (AnswerAlike c d) (λ (s : Spot). end_keys_at c s.to) f.places edges)
 
   same_points : HasSameLines → list_all (has_points c) f.places ≡ list_all (has_points d) f.places
   same_points lines =
       same_list_all (has_points c) (has_points d) f.places
-      (each_weaker (λ (s : Spot). edge_line_of c s.to ≡ edge_line_of d s.to) (λ s. has_points c s ≡ has_points d s) (λ s same. ap (λ line. is_some line) same) f.places lines)
+      (each_weaker (λ (s : Spot). edge_line_of c s.to ≡ edge_line_of d s.to) (λ s. has_points c s ≡ has_points d s)
+      (λ s same. ap (λ line. is_some line) same) f.places lines)
 
   same_boundary : HasSameLines → boundary_of c f ≡ boundary_of d f
   unfolding boundary_of
   same_boundary lines =
       same_filter_map (boundary_row c) (boundary_row d) (enumerate_from 1 f.places)
-      (each_weaker (λ (item : ℕ × Spot). edge_line_of c item.1.to ≡ edge_line_of d item.1.to) (λ item. boundary_row c item ≡ boundary_row d item) (λ item same. ap (row_by item) same) (enumerate_from 1 f.places)
+      (each_weaker (λ (item : ℕ × Spot). edge_line_of c item.1.to ≡ edge_line_of d item.1.to) (λ item. boundary_row c item ≡ boundary_row d item)
+      (λ item same. ap (row_by item) same) (enumerate_from 1 f.places)
       (each_numbered (λ (s : Spot). edge_line_of c s.to ≡ edge_line_of d s.to) 1 f.places lines))
 
   -- a rule on usable boundaries alone
-  boundary_by : (rule : Bool → List BoundaryRow → Found) → ((rows : List BoundaryRow) → rule false rows ≡ []) → (is_area : Bool) → HasAlikePlaces → AllByRecursion (AnswerAlike c d) (cond is_area (edge_keys c f) [])
+  boundary_by : (rule : Bool → List BoundaryRow → Found) → ((rows : List BoundaryRow) → rule false rows ≡ []) → (is_area : Bool)
+      → HasAlikePlaces → AllByRecursion (AnswerAlike c d) (cond is_area (edge_keys c f) [])
       → rule (usable_when is_area (prim_refs c f) (dangling_ref c f) (bad_codes c f) (list_all (has_points c) f.places)) (boundary_of c f)
       ≡ rule (usable_when is_area (prim_refs d f) (dangling_ref d f) (bad_codes d f) (list_all (has_points d) f.places)) (boundary_of d f)
   boundary_by rule none true places edges =
@@ -124,7 +183,8 @@ module _ (c d : Cell) (f : Feature) where
       λ i. rule (usable_when true (prim_refs c f) (same_dangling_ref places i) (bad_codes c f) (same_points lines i)) (same_boundary lines i)
   boundary_by rule none false places edges = none (boundary_of c f) ∙ sym (none (boundary_of d f))
 
-  same_by_boundary : (rule : Bool → List BoundaryRow → Found) → ((rows : List BoundaryRow) → rule false rows ≡ []) → AllByRecursion (AnswerAlike c d) (feature_keys c f)
+  same_by_boundary : (rule : Bool → List BoundaryRow → Found) → ((rows : List BoundaryRow) → rule false rows ≡ [])
+      → AllByRecursion (AnswerAlike c d) (feature_keys c f)
       → rule (has_usable_boundary c f) (boundary_of c f) ≡ rule (has_usable_boundary d f) (boundary_of d f)
   unfolding has_usable_boundary
   same_by_boundary rule none all = boundary_by rule none (f.prim == 3) (alike_places all) (alike_edges all)

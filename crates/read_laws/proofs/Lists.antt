@@ -8,7 +8,8 @@ pub each_weaker : {X : Type 0} (P Q : X → Type 0) → ((x : X) → P x → Q x
 each_weaker P Q weaker [] all = tt
 each_weaker P Q weaker (x ∷ xs) all = (weaker x all.0, each_weaker P Q weaker xs all.1)
 
-pub each_from_both : {X : Type 0} (P Q R : X → Type 0) → ((x : X) → P x → Q x → R x) → (xs : List X) → AllByRecursion P xs → AllByRecursion Q xs → AllByRecursion R xs
+pub each_from_both : {X : Type 0} (P Q R : X → Type 0) → ((x : X) → P x → Q x → R x) → (xs : List X) → AllByRecursion P xs
+    → AllByRecursion Q xs → AllByRecursion R xs
 each_from_both P Q R both [] first second = tt
 each_from_both P Q R both (x ∷ xs) first second = (both x first.0 second.0, each_from_both P Q R both xs first.1 second.1)
 
@@ -28,11 +29,13 @@ pub each_mapped : {X Y : Type 0} (P : Y → Type 0) (f : X → Y) (xs : List X) 
 each_mapped P f [] all = tt
 each_mapped P f (x ∷ xs) all = (all.0, each_mapped P f xs all.1)
 
-pub each_flat : {X Y : Type 0} (P : Y → Type 0) (f : X → List Y) (xs : List X) → AllByRecursion P (flat_map f xs) → AllByRecursion (λ x. AllByRecursion P (f x)) xs
+pub each_flat : {X Y : Type 0} (P : Y → Type 0) (f : X → List Y) (xs : List X) → AllByRecursion P (flat_map f xs)
+    → AllByRecursion (λ x. AllByRecursion P (f x)) xs
 each_flat P f [] all = tt
 each_flat P f (x ∷ xs) all = (each_front P (f x) (flat_map f xs) all, each_flat P f xs (each_back P (f x) (flat_map f xs) all))
 
-pub each_numbered : {X : Type 0} (P : X → Type 0) (first : ℕ) (xs : List X) → AllByRecursion P xs → AllByRecursion (λ (item : ℕ × X). P item.1) (enumerate_from first xs)
+pub each_numbered : {X : Type 0} (P : X → Type 0) (first : ℕ) (xs : List X) → AllByRecursion P xs
+    → AllByRecursion (λ (item : ℕ × X). P item.1) (enumerate_from first xs)
 each_numbered P first [] all = tt
 each_numbered P first (x ∷ xs) all = (all.0, each_numbered P (first + 1) xs all.1)
 

@@ -9,7 +9,18 @@ use Rattle.cell_spec.specs.declared.key.Subject.TheVariants.{Pair}
 use Rattle.cell_spec.specs.Ascending.{ascending}
 use Rattle.cell_spec.specs.Names.{key_order, same_name}
 use Rattle.rule_spec.specs.declared.line.EdgeLine.{EdgeLine}
-use Rattle.rule_spec.specs.Contacts.{shared_nodes, have_illegal_contact, first_illegal_contact, found_contact, contact_of_lines, are_same_place, same_place, names_node, segment_under, node_on_edge}
+use Rattle.rule_spec.specs.Contacts.{
+  shared_nodes,
+  have_illegal_contact,
+  first_illegal_contact,
+  found_contact,
+  contact_of_lines,
+  are_same_place,
+  same_place,
+  names_node,
+  segment_under,
+  node_on_edge,
+}
 use Rattle.rule_spec.specs.EdgePoints.{segments_of, node_position, edge_line_of}
 use Rattle.rule_spec.specs.Findings.{is_below, findings_of_rules, findings_of_subject}
 use Rattle.rule_spec.specs.Reads.{record_keys, read_set}
@@ -54,9 +65,11 @@ module _ (c d : Cell) where
     same_same_place = λ i. found_if (are_same_place (same_position c d a first.own i) (same_position c d b second.own i)) []
 
     same_node_on_edge : node_on_edge c a b ≡ node_on_edge d a b
-    same_node_on_edge = λ i. cond (option_map_or (λ (e : Vector). names_node e a) (same_edge c d b second.own i) true) [] (segment_under (same_position c d a first.own i) (second_line i))
+    same_node_on_edge = λ i. cond (option_map_or (λ (e : Vector). names_node e a) (same_edge c d b second.own i) true) []
+        (segment_under (same_position c d a first.own i) (second_line i))
 
-    same_pair_findings : findings_of_rules (λ (rule : Cell → RecName → RecName → Found). rule c a b) pair_rules ≡ findings_of_rules (λ (rule : Cell → RecName → RecName → Found). rule d a b) pair_rules
+    same_pair_findings : findings_of_rules (λ (rule : Cell → RecName → RecName → Found). rule c a b) pair_rules ≡ findings_of_rules
+        (λ (rule : Cell → RecName → RecName → Found). rule d a b) pair_rules
     same_pair_findings =
         same_findings (λ (rule : Cell → RecName → RecName → Found). rule c a b) (λ (rule : Cell → RecName → RecName → Found). rule d a b) pair_rules
         (same_lines_meet 7, (same_lines_meet 8, (same_lines_meet 9, (same_same_place, (same_node_on_edge, tt)))))

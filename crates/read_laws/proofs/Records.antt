@@ -42,7 +42,8 @@ module _ (c d : Cell) where
     others = each_back (AnswerAlike c d) (end_keys_at c n) (feature_keys_at c n) all.1;
   }
 
-  feature_keys_by : (found : Option Feature) → AllByRecursion (AnswerAlike c d) (option_map_or (feature_keys c) found []) → option_map_or (feature_keys c) found [] ≡ option_map_or (feature_keys d) found []
+  feature_keys_by : (found : Option Feature) → AllByRecursion (AnswerAlike c d) (option_map_or (feature_keys c) found [])
+      → option_map_or (feature_keys c) found [] ≡ option_map_or (feature_keys d) found []
   feature_keys_by None others = refl
   feature_keys_by (Some f) others = same_feature_keys c d f others
 
@@ -57,7 +58,8 @@ module _ (c d : Cell) where
   found_about cell listed found = cond listed (option_map_or (findings_of_record cell) found []) []
 
   found_by : (found : Option Record) → AllByRecursion (AnswerAlike c d) (option_map_or end_keys (option_and_then (vector_of is_edge_name) found) [])
-      → AllByRecursion (AnswerAlike c d) (option_map_or (feature_keys c) (option_and_then feature_of found) []) → found_about c (is_some found) found ≡ found_about d (is_some found) found
+      → AllByRecursion (AnswerAlike c d) (option_map_or (feature_keys c) (option_and_then feature_of found) [])
+      → found_about c (is_some found) found ≡ found_about d (is_some found) found
   found_by None ends others = refl
   found_by (Some (V v)) ends others = same_vector_findings c d v ends
   found_by (Some (F f)) ends others = same_feature_findings c d f others

@@ -1,5 +1,26 @@
 -- The rules on the sides of an edge and on identifiers give the same in two cells that answer alike to what they look up.
-use Rattle.std.proofs.Common.{◌≡◌, ◌==◌, ◌-◌, List, [], ◌∷◌, cond, map, find, not, length, filter_map, nat_lt, is_some, slice_get, option_map, option_and_then, refl, ap, ◌∙◌}
+use Rattle.std.proofs.Common.{
+  ◌≡◌,
+  ◌==◌,
+  ◌-◌,
+  List,
+  [],
+  ◌∷◌,
+  cond,
+  map,
+  find,
+  not,
+  length,
+  filter_map,
+  nat_lt,
+  is_some,
+  slice_get,
+  option_map,
+  option_and_then,
+  refl,
+  ap,
+  ◌∙◌,
+}
 use Rattle.std.specs.List.{AllByRecursion}
 use Rattle.s57_types.specs.declared.name.Lnam.{Lnam}
 use Rattle.s57_types.specs.declared.name.RecName.{RecName}
@@ -64,7 +85,8 @@ module _ (c d : Cell) where
       }
 
   same_identity_findings : (l : Lnam) → AnswerAlike c d (Foid l)
-      → findings_of_rules (λ (rule : Cell → Lnam → Found). rule c l) identity_rules ≡ findings_of_rules (λ (rule : Cell → Lnam → Found). rule d l) identity_rules
+      → findings_of_rules (λ (rule : Cell → Lnam → Found). rule c l) identity_rules ≡ findings_of_rules
+      (λ (rule : Cell → Lnam → Found). rule d l) identity_rules
   same_identity_findings l same =
       same_findings (λ (rule : Cell → Lnam → Found). rule c l) (λ (rule : Cell → Lnam → Found). rule d l) identity_rules
       (ap (λ bearers. found_if (nat_lt 1 (length bearers)) (length bearers ∷ [])) same, tt)

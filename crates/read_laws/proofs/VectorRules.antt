@@ -24,7 +24,8 @@ module _ (c d : Cell) where
   same_dangling_end e ends =
       let missing : Cell → End → Bool = λ cell end. not (is_some (node_named cell end.to)) in
       same_places (missing c) (missing d) 1 e.ends
-      (each_weaker (λ (end : End). Alike c d end.to) (λ end. missing c end ≡ missing d end) (λ end same. ap (λ node. not (is_some node)) (same_node c d end.to same)) e.ends ends)
+      (each_weaker (λ (end : End). Alike c d end.to) (λ end. missing c end ≡ missing d end)
+      (λ end same. ap (λ node. not (is_some node)) (same_node c d end.to same)) e.ends ends)
 
   same_stacked : (e : Vector) → HasAlikeEnds c d e → stacked c e ≡ stacked d e
   same_stacked e ends = ap (λ found. option_map_or (λ (line : EdgeLine). found_at (stacked_segment line.points)) found []) (same_line_of c d e ends)
@@ -33,7 +34,8 @@ module _ (c d : Cell) where
   same_self_meet e ends = ap (λ found. option_map_or (λ (line : EdgeLine). self_meet_of line.points) found []) (same_line_of c d e ends)
 
   -- a rule on edges alone
-  on_edges_by : (rule : Cell → Vector → Found) (v : Vector) (is_edge : Bool) → AllByRecursion (AnswerAlike c d) (option_map_or end_keys (cond is_edge (Some v) None) [])
+  on_edges_by : (rule : Cell → Vector → Found) (v : Vector) (is_edge : Bool)
+      → AllByRecursion (AnswerAlike c d) (option_map_or end_keys (cond is_edge (Some v) None) [])
       → (HasAlikeEnds c d v → rule c v ≡ rule d v) → cond is_edge (rule c v) [] ≡ cond is_edge (rule d v) []
   on_edges_by rule v true ends same = same (alike_ends c d v ends)
   on_edges_by rule v false ends same = refl
@@ -47,7 +49,10 @@ module _ (c d : Cell) where
           refl,
           (
             on_edges_by dangling_end v (is_edge_name v.name) ends (same_dangling_end v),
-            (on_edges_by stacked v (is_edge_name v.name) ends (same_stacked v), (on_edges_by self_meet v (is_edge_name v.name) ends (same_self_meet v), (refl, tt))),
+            (
+              on_edges_by stacked v (is_edge_name v.name) ends (same_stacked v),
+              (on_edges_by self_meet v (is_edge_name v.name) ends (same_self_meet v), (refl, tt)),
+            ),
           ),
         ),
       )

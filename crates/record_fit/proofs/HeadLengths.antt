@@ -30,7 +30,8 @@ dssi_length s eight =
     length-append (row_bytes (dssi_row s)) (field_terminator ∷ []) ∙ omega (arith, more, eight)
 
 pub identification_is_counted : (d : Dsid) (s : Dssi) (field : ℕ) → length s.counts ≡ 8 → field ≡ saturated (length (row_bytes (dsid_row d)) + 1)
-    → saturated (record_length (present (3 ∷ field ∷ 36 ∷ []))) ≡ saturated (record_length (field_lengths (number_field 0 ∷ field_of (codes "DSID") (dsid_row d) ∷ field_of (codes "DSSI") (dssi_row s) ∷ [])))
+    → saturated (record_length (present (3 ∷ field ∷ 36 ∷ []))) ≡ saturated
+    (record_length (field_lengths (number_field 0 ∷ field_of (codes "DSID") (dsid_row d) ∷ field_of (codes "DSSI") (dssi_row s) ∷ [])))
 identification_is_counted d s field eight counted =
     let row = row_bytes (dsid_row d) in
     ap (λ n. saturated (record_length (present (3 ∷ n ∷ 36 ∷ [])))) counted
@@ -40,7 +41,8 @@ identification_is_counted d s field eight counted =
     ∙ sym (ap (λ n. saturated (record_length (3 ∷ length (row ++ (field_terminator ∷ [])) ∷ n ∷ []))) (dssi_length s eight))
 
 pub identification_is_short : (d : Dsid) (s : Dssi) (field : ℕ) → length s.counts ≡ 8 → field ≡ saturated (length (row_bytes (dsid_row d)) + 1)
-    → is_within_limit (3 ∷ field ∷ 36 ∷ []) ≡ leb (record_length (field_lengths (number_field 0 ∷ field_of (codes "DSID") (dsid_row d) ∷ field_of (codes "DSSI") (dssi_row s) ∷ []))) length_limit
+    → is_within_limit (3 ∷ field ∷ 36 ∷ []) ≡ leb (record_length
+    (field_lengths (number_field 0 ∷ field_of (codes "DSID") (dsid_row d) ∷ field_of (codes "DSSI") (dssi_row s) ∷ []))) length_limit
 identification_is_short d s field eight counted =
     sym (limit-saturated (record_length (present (3 ∷ field ∷ 36 ∷ [])))) ∙ ap (λ n. leb n length_limit) (identification_is_counted d s field eight counted)
     ∙ limit-saturated (record_length (field_lengths (number_field 0 ∷ field_of (codes "DSID") (dsid_row d) ∷ field_of (codes "DSSI") (dssi_row s) ∷ [])))

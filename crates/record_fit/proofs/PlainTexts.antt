@@ -1,5 +1,30 @@
 -- Which texts of rows are plain.
-use Rattle.std.proofs.Common.{◌≡◌, ℕ, suc, ◌<◌, ◌≤◌, ◌%◌, ◌==◌, Bool, true, false, not, ◌&&◌, ◌||◌, List, [], ◌∷◌, length, get_or, drop, refl, sym, ◌∙◌, ap, arith}
+use Rattle.std.proofs.Common.{
+  ◌≡◌,
+  ℕ,
+  suc,
+  ◌<◌,
+  ◌≤◌,
+  ◌%◌,
+  ◌==◌,
+  Bool,
+  true,
+  false,
+  not,
+  ◌&&◌,
+  ◌||◌,
+  List,
+  [],
+  ◌∷◌,
+  length,
+  get_or,
+  drop,
+  refl,
+  sym,
+  ◌∙◌,
+  ap,
+  arith,
+}
 use Rattle.std.specs.List.{list_all, flat_map}
 use Rattle.s57_types.specs.Subfield.{is_plain, text_of, wide_text_of, has_unit}
 use Rattle.s57_types.specs.FieldRows.{level_text, partner_row}
@@ -7,7 +32,8 @@ use Rattle.s57_types.specs.Fitness.{attribute_texts}
 use Rattle.s57_types.specs.declared.record.Attr.{Attr}
 use Rattle.s57_types.specs.declared.record.Partner.{Partner}
 
-pub attribute_texts_plain : (level : ℕ) (attrs : List Attr) → list_all is_plain (attribute_texts level attrs) ≡ list_all (λ a. is_plain (level_text level a.value)) attrs
+pub attribute_texts_plain : (level : ℕ) (attrs : List Attr) → list_all is_plain (attribute_texts level attrs) ≡ list_all
+    (λ a. is_plain (level_text level a.value)) attrs
 attribute_texts_plain level [] = refl
 attribute_texts_plain level (a ∷ attrs) = ap (λ b. is_plain (level_text level a.value) && b) (attribute_texts_plain level attrs)
 
@@ -28,7 +54,8 @@ regrouped false true false u v = refl
 regrouped false false even u v = refl
 
 -- the first unit, and the others
-pub wide_text_by_unit : (t : List ℕ) → 1 < length t → is_plain (wide_text_of t) ≡ (not (is_control_unit (get_or t 0 0) (get_or t 1 0)) && is_plain (wide_text_of (drop 2 t)))
+pub wide_text_by_unit : (t : List ℕ) → 1 < length t → is_plain (wide_text_of t) ≡
+    (not (is_control_unit (get_or t 0 0) (get_or t 1 0)) && is_plain (wide_text_of (drop 2 t)))
 wide_text_by_unit [] long = absurd (omega arith)
 wide_text_by_unit (a ∷ []) long = absurd (omega arith)
 wide_text_by_unit (a ∷ b ∷ t) long =
@@ -44,5 +71,6 @@ wide_text_of_no_unit (a ∷ b ∷ t) short = absurd (omega arith)
 pub wide_text_at_control : (t : List ℕ) → 1 < length t → is_control_unit (get_or t 0 0) (get_or t 1 0) ≡ true → is_plain (wide_text_of t) ≡ false
 wide_text_at_control t long control = wide_text_by_unit t long ∙ ap (λ b. not b && is_plain (wide_text_of (drop 2 t))) control
 
-pub wide_text_behind : (t : List ℕ) → 1 < length t → is_control_unit (get_or t 0 0) (get_or t 1 0) ≡ false → is_plain (wide_text_of (drop 2 t)) ≡ is_plain (wide_text_of t)
+pub wide_text_behind : (t : List ℕ) → 1 < length t → is_control_unit (get_or t 0 0) (get_or t 1 0) ≡ false
+    → is_plain (wide_text_of (drop 2 t)) ≡ is_plain (wide_text_of t)
 wide_text_behind t long other = sym (wide_text_by_unit t long ∙ ap (λ b. not b && is_plain (wide_text_of (drop 2 t))) other)

@@ -1,5 +1,38 @@
 -- Whether a record is within the limit, from what the program counts.
-use Rattle.std.proofs.Common.{◌≡◌, ℕ, zero, suc, ◌+◌, ◌-◌, ◌*◌, ◌^◌, ◌<◌, ◌≤◌, ◌==◌, ◌⊎◌, Bool, false, not, List, [], ◌∷◌, length, take, map, fold, sum, max, refl, sym, ◌∙◌, ap, inl, inr, arith, leb}
+use Rattle.std.proofs.Common.{
+  ◌≡◌,
+  ℕ,
+  zero,
+  suc,
+  ◌+◌,
+  ◌-◌,
+  ◌*◌,
+  ◌^◌,
+  ◌<◌,
+  ◌≤◌,
+  ◌==◌,
+  ◌⊎◌,
+  Bool,
+  false,
+  not,
+  List,
+  [],
+  ◌∷◌,
+  length,
+  take,
+  map,
+  fold,
+  sum,
+  max,
+  refl,
+  sym,
+  ◌∙◌,
+  ap,
+  inl,
+  inr,
+  arith,
+  leb,
+}
 use Rattle.std.proofs.lemmas.List.{length-take}
 use Rattle.std.proofs.lemmas.List.Sums.{sum_by-cons, sum_by-take-le, length-filter, count_by-le-length}
 use Rattle.std.proofs.lemmas.Bool.Decides.{nat_tests}
@@ -40,7 +73,10 @@ same_or_long (n ∷ ns) = elim (cases_lt (2 ^ 64 - 1) n) [
 
 -- counting in machine words gives the same
 pub length-saturated : (ns : List ℕ) → saturated (record_length (present (map saturated ns))) ≡ saturated (record_length (present ns))
-length-saturated ns = elim (same_or_long ns) [ inl same ↦ ap (λ ms. saturated (record_length (present ms))) same | inr both ↦ too_long (map saturated ns) both.counted_long ∙ sym (too_long ns both.long) ]
+length-saturated ns = elim (same_or_long ns) [
+  | inl same ↦ ap (λ ms. saturated (record_length (present ms))) same
+  | inr both ↦ too_long (map saturated ns) both.counted_long ∙ sym (too_long ns both.long)
+]
 
 pub limit-saturated : (n : ℕ) → leb (saturated n) length_limit ≡ leb n length_limit
 limit-saturated n = grind (arith, nat_tests)
@@ -48,7 +84,8 @@ limit-saturated n = grind (arith, nat_tests)
 -- and decides the same
 pub within_limit-saturated : (ns : List ℕ) → is_within_limit (map saturated ns) ≡ is_within_limit ns
 within_limit-saturated ns =
-    sym (limit-saturated (record_length (present (map saturated ns)))) ∙ ap (λ n. leb n length_limit) (length-saturated ns) ∙ limit-saturated (record_length (present ns))
+    sym (limit-saturated (record_length (present (map saturated ns)))) ∙ ap (λ n. leb n length_limit) (length-saturated ns)
+    ∙ limit-saturated (record_length (present ns))
 
 pub present_count_le : (ns : List ℕ) → length (present ns) ≤ length ns
 present_count_le ns = omega (arith, length-filter (λ n. not (n == 0)) ns, count_by-le-length (λ n. not (n == 0)) ns)
@@ -66,7 +103,8 @@ unfolding length_by
 sizes_tell lengths sizes is =
     let fields = present lengths in
     elim (cases_lt (sum fields) (2 ^ 64 - 1)) [
-      | inl small ↦ length_same sizes.count (length fields) sizes.longest (fold max 0 fields) sizes.last_begins (sum (take (length fields - 1) fields)) sizes.total (sum fields)
+      | inl small ↦ length_same sizes.count (length fields) sizes.longest (fold max 0 fields) sizes.last_begins
+          (sum (take (length fields - 1) fields)) sizes.total (sum fields)
           is.count is.longest (omega (arith, is.last_begins, sum_by-take-le (λ n. n) fields (length fields - 1), small)) (omega (arith, is.total, small))
       | inr large ↦ let full : sizes.total ≡ 2 ^ 64 - 1 = omega (arith, is.total, large) in omega (arith, full, large)
     ]

@@ -1,5 +1,31 @@
 -- How many bytes a row and a field of rows have.
-use Rattle.std.proofs.Common.{◌≡◌, ℕ, zero, suc, get_or, take, ◌+◌, ◌*◌, ◌<◌, ◌==◌, true, false, List, [], ◌∷◌, ◌++◌, length, sum_by, refl, sym, ◌∙◌, ap, arith, length-append, if◌then◌else◌}
+use Rattle.std.proofs.Common.{
+  ◌≡◌,
+  ℕ,
+  zero,
+  suc,
+  get_or,
+  take,
+  ◌+◌,
+  ◌*◌,
+  ◌<◌,
+  ◌==◌,
+  true,
+  false,
+  List,
+  [],
+  ◌∷◌,
+  ◌++◌,
+  length,
+  sum_by,
+  refl,
+  sym,
+  ◌∙◌,
+  ap,
+  arith,
+  length-append,
+  if◌then◌else◌,
+}
 use Rattle.std.proofs.lemmas.Bool.{ne_eqb}
 use Rattle.std.proofs.lemmas.List.Concat.{length-flat_map}
 use Rattle.std.proofs.lemmas.List.Sums.{sum_by-cons, sum_by_more}
@@ -13,7 +39,8 @@ use Rattle.record_fit.specs.Lengths.{saturated, field_length, rows_length}
 -- a code of two bytes, and a text with its terminator
 pub attribute_row_length : (level : ℕ) (a : Attr) → length (row_bytes (attribute_row level a)) ≡ length a.value + length (terminator_of level) + 2
 attribute_row_length level a =
-    elim (level == 2) as (λ wide. length (row_bytes (unsigned_of 2 a.code ∷ (if wide then wide_text_of a.value else text_of a.value) ∷ [])) ≡ length a.value + length (if wide then field_terminator ∷ 0 ∷ [] else field_terminator ∷ []) + 2) [
+    elim (level == 2) as (λ wide. length (row_bytes (unsigned_of 2 a.code ∷ (if wide then wide_text_of a.value else text_of a.value) ∷ [])) ≡
+    length a.value + length (if wide then field_terminator ∷ 0 ∷ [] else field_terminator ∷ []) + 2) [
       | true ↦ omega (arith, length-append (a.value ++ (unit_terminator ∷ 0 ∷ [])) [], length-append a.value (unit_terminator ∷ 0 ∷ []))
       | false ↦ omega (arith, length-append (a.value ++ (unit_terminator ∷ [])) [], length-append a.value (unit_terminator ∷ []))
     ]
@@ -49,11 +76,14 @@ rows_length_of_width row width some same xs =
 pub saturated_field_length : (bytes terminator : ℕ) → saturated (field_length (saturated bytes) terminator) ≡ saturated (field_length bytes terminator)
 saturated_field_length zero terminator = refl
 saturated_field_length (suc n) terminator =
-    ap saturated (field_length-some (saturated (suc n)) terminator (omega arith)) ∙ (let e : saturated (saturated (suc n) + terminator) ≡ saturated (suc n + terminator) = omega arith in e) ∙ sym (ap saturated (field_length-some (suc n) terminator (omega arith)))
+    ap saturated (field_length-some (saturated (suc n)) terminator (omega arith))
+    ∙ (let e : saturated (saturated (suc n) + terminator) ≡ saturated (suc n + terminator) = omega arith in e)
+    ∙ sym (ap saturated (field_length-some (suc n) terminator (omega arith)))
 
 -- what a loop over the rows counts, at its end
 pub counted_rows : {X : Type 0} (level : ℕ) (row : X → List Subfield) → ((x : X) → 0 < length (row_bytes (row x))) → (xs : List X) (bytes : ℕ)
-    → bytes ≡ saturated (sum_by (λ x. length (row_bytes (row x))) xs) → saturated (field_length bytes (length (terminator_of level))) ≡ saturated (rows_length level row xs)
+    → bytes ≡ saturated (sum_by (λ x. length (row_bytes (row x))) xs) → saturated (field_length bytes (length (terminator_of level))) ≡
+    saturated (rows_length level row xs)
 counted_rows {X} level row some xs bytes counted =
     let f : X → ℕ = λ x. length (row_bytes (row x)) in
     ap (λ n. saturated (field_length n (length (terminator_of level)))) counted

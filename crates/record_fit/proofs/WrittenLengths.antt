@@ -20,12 +20,14 @@ pub vector_is_short : (nall : ℕ) (v : Vector) (attrs ends plane deep : ℕ)
     → is_within_limit (3 ∷ 9 ∷ attrs ∷ ends ∷ plane ∷ deep ∷ []) ≡ leb (written_length nall (V v)) length_limit
 vector_is_short nall v attrs ends plane deep p q r s =
     ap (λ ns. is_within_limit (3 ∷ 9 ∷ ns))
-    (same_four attrs ends plane deep (saturated (rows_length 0 (attribute_row 0) v.attrs)) (saturated (rows_length 0 end_row v.ends)) (saturated (rows_length 0 plane_row v.plane)) (saturated (rows_length 0 deep_row v.deep))
+    (same_four attrs ends plane deep (saturated (rows_length 0 (attribute_row 0) v.attrs)) (saturated (rows_length 0 end_row v.ends))
+    (saturated (rows_length 0 plane_row v.plane)) (saturated (rows_length 0 deep_row v.deep))
     p
     (q ∙ sym (ap saturated (rows_length_of_width end_row 9 (omega arith) (λ e. refl) v.ends)))
     (r ∙ sym (ap saturated (rows_length_of_width plane_row 8 (omega arith) (λ e. refl) v.plane)))
     (s ∙ sym (ap saturated (rows_length_of_width deep_row 12 (omega arith) (λ e. refl) v.deep))))
-    ∙ within_limit-saturated (3 ∷ 9 ∷ rows_length 0 (attribute_row 0) v.attrs ∷ rows_length 0 end_row v.ends ∷ rows_length 0 plane_row v.plane ∷ rows_length 0 deep_row v.deep ∷ [])
+    ∙ within_limit-saturated (3 ∷ 9 ∷ rows_length 0 (attribute_row 0) v.attrs ∷ rows_length 0 end_row v.ends ∷ rows_length
+    0 plane_row v.plane ∷ rows_length 0 deep_row v.deep ∷ [])
     ∙ ap (λ ns. leb (record_length ns) length_limit) (sym (vector_lengths v))
 
 pub feature_is_short : (nall : ℕ) (f : Feature) (attf natf partners places : ℕ)
@@ -34,8 +36,11 @@ pub feature_is_short : (nall : ℕ) (f : Feature) (attf natf partners places : �
     → is_within_limit (3 ∷ 13 ∷ 9 ∷ attf ∷ natf ∷ partners ∷ places ∷ []) ≡ leb (written_length nall (F f)) length_limit
 feature_is_short nall f attf natf partners places p q r s =
     ap (λ ns. is_within_limit (3 ∷ 13 ∷ 9 ∷ ns))
-    (same_four attf natf partners places (saturated (rows_length 0 (attribute_row 0) f.attf)) (saturated (rows_length nall (attribute_row nall) f.natf)) (saturated (rows_length 0 partner_row f.partners)) (saturated (rows_length 0 place_row f.places))
+    (same_four attf natf partners places (saturated (rows_length 0 (attribute_row 0) f.attf))
+    (saturated (rows_length nall (attribute_row nall) f.natf)) (saturated (rows_length 0 partner_row f.partners))
+    (saturated (rows_length 0 place_row f.places))
     p q r
     (s ∙ sym (ap saturated (rows_length_of_width place_row 8 (omega arith) (λ e. refl) f.places))))
-    ∙ within_limit-saturated (3 ∷ 13 ∷ 9 ∷ rows_length 0 (attribute_row 0) f.attf ∷ rows_length nall (attribute_row nall) f.natf ∷ rows_length 0 partner_row f.partners ∷ rows_length 0 place_row f.places ∷ [])
+    ∙ within_limit-saturated (3 ∷ 13 ∷ 9 ∷ rows_length 0 (attribute_row 0) f.attf ∷ rows_length nall
+    (attribute_row nall) f.natf ∷ rows_length 0 partner_row f.partners ∷ rows_length 0 place_row f.places ∷ [])
     ∙ ap (λ ns. leb (record_length ns) length_limit) (sym (feature_lengths nall f))

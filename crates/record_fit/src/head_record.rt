@@ -15,7 +15,8 @@ pub const STRUCTURE_FIELD: usize = 36;
 
 /// Whether the data set general information record of these fields has at most 99,999 bytes when it is written.
 pub fn is_general_information_short(dsid: &Dsid, dssi: Dssi) -> bool
-    ensures { result ≡ nat_le (record_length (field_lengths (number_field 0 ∷ field_of (codes "DSID") (dsid_row dsid.now) ∷ field_of (codes "DSSI") (dssi_row dssi) ∷ []))) length_limit }
+    ensures { result ≡ nat_le (record_length (field_lengths (number_field 0 ∷ field_of (codes "DSID") (dsid_row dsid.now) ∷ field_of
+        (codes "DSSI") (dssi_row dssi) ∷ []))) length_limit }
 {
     let _counts = dssi.counts;
     is_within_limit(&[NUMBER_FIELD, dsid_length(dsid), STRUCTURE_FIELD])

@@ -13,7 +13,8 @@ pub below_last : {V : Type 0} (rows : List (ℕ × V)) (k : ℕ) (row : ℕ × V
     → EachKeyIs nat_cmp Less (row.0 + 1) rows
 unfolding IsStrictlySortedBy
 below_last {V} [] k row count is ascending = absurd (omega arith)
-below_last {V} (r ∷ []) zero row count is ascending = let same : r ≡ row = cc in (subst (λ (s : ℕ × V). nat_cmp s.0 (row.0 + 1) ≡ Less) (sym same) (sym (nat_cmp_is row.0 (row.0 + 1) Less (omega arith))), tt)
+below_last {V} (r ∷ []) zero row count is ascending = let same : r ≡ row = cc in
+    (subst (λ (s : ℕ × V). nat_cmp s.0 (row.0 + 1) ≡ Less) (sym same) (sym (nat_cmp_is row.0 (row.0 + 1) Less (omega arith))), tt)
 below_last {V} (r ∷ []) (suc k) row count is ascending = absurd (omega arith)
 below_last {V} (r ∷ s ∷ rest) zero row count is ascending = absurd (omega arith)
 below_last {V} (r ∷ s ∷ rest) (suc k) row count is ascending =

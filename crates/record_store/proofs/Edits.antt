@@ -16,9 +16,17 @@ nothing_edited (x ∷ xs) = ap (λ rest. x ∷ rest) (nothing_edited xs)
 -- no edits leave a cell as it is
 pub no_edits : (c : Cell) → c ≡ apply_edits [] c
 unfolding apply_edits
-no_edits c = λ i. record { head = c.head; vi = sym (nothing_edited c.vi) i; vc = sym (nothing_edited c.vc) i; ve = sym (nothing_edited c.ve) i; fe = sym (nothing_edited c.fe) i }
+no_edits c = λ i. record {
+  head = c.head;
+  vi = sym (nothing_edited c.vi) i;
+  vc = sym (nothing_edited c.vc) i;
+  ve =
+      sym (nothing_edited c.ve) i;
+  fe = sym (nothing_edited c.fe) i;
+}
 
-module _ (add_up : EditsAddUp) (edits : List Edit) (k : ℕ) (e : Edit) (c : Cell) (lt : k < length edits) (at : e ≡ get_or edits k e) (fit : FindTheirRecords edits c) where
+module _ (add_up : EditsAddUp) (edits : List Edit) (k : ℕ) (e : Edit) (c : Cell) (lt : k < length edits) (at : e ≡ get_or edits k e)
+    (fit : FindTheirRecords edits c) where
   abbrev rest : List Edit
   rest = drop (suc k) edits
 
@@ -27,7 +35,8 @@ module _ (add_up : EditsAddUp) (edits : List Edit) (k : ℕ) (e : Edit) (c : Cel
 
   -- the edit at a place finds what it needs after those before it
   pub step_fits : FindTheirRecords (e ∷ []) (apply_edits (take k edits) c)
-  step_fits = (add_up (e ∷ []) rest (apply_edits (take k edits) c) (add_up (take k edits) (e ∷ rest) c (subst (λ es. FindTheirRecords es c) parts fit)).later).earlier
+  step_fits = (add_up (e ∷ []) rest (apply_edits (take k edits) c)
+      (add_up (take k edits) (e ∷ rest) c (subst (λ es. FindTheirRecords es c) parts fit)).later).earlier
 
   -- and makes what the edits up to it make
   pub step_cell : apply_edits (e ∷ []) (apply_edits (take k edits) c) ≡ apply_edits (take (k + 1) edits) c

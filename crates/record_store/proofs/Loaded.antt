@@ -40,17 +40,21 @@ head_by_added h r false o is = is
 
 head_added : (h : CellHead) (rs : List Rec) → head_by h (find (λ edit. same_name (name_of_edit edit) head_name) (map Add rs)) ≡ h
 head_added h [] = refl
-head_added h (r ∷ rs) = head_by_added h r (same_name (name_of r) head_name) (find (λ edit. same_name (name_of_edit edit) head_name) (map Add rs)) (head_added h rs)
+head_added h (r ∷ rs) = head_by_added h r (same_name (name_of r) head_name) (find (λ edit. same_name (name_of_edit edit) head_name) (map Add rs))
+    (head_added h rs)
 
 -- the records of one kind among those of one kind
-picked_by : (k j : Kind) (b : Bool) → (kind_rank j == kind_rank k) ≡ b → (xs : List Rec) → AllByRecursion (IsOfKind j) xs → filter (λ r. is_of_kind k (name_of r)) xs ≡ cond b xs []
+picked_by : (k j : Kind) (b : Bool) → (kind_rank j == kind_rank k) ≡ b → (xs : List Rec) → AllByRecursion (IsOfKind j) xs
+    → filter (λ r. is_of_kind k (name_of r)) xs ≡ cond b xs []
 picked_by k j true is [] all = refl
 picked_by k j true is (x ∷ xs) all =
-    ap (λ b. cond b (x ∷ filter (λ r. is_of_kind k (name_of r)) xs) (filter (λ r. is_of_kind k (name_of r)) xs)) (ap (λ m. kind_rank m == kind_rank k) all.0 ∙ is)
+    ap (λ b. cond b (x ∷ filter (λ r. is_of_kind k (name_of r)) xs) (filter (λ r. is_of_kind k (name_of r)) xs))
+    (ap (λ m. kind_rank m == kind_rank k) all.0 ∙ is)
     ∙ ap (λ rest. x ∷ rest) (picked_by k j true is xs all.1)
 picked_by k j false is [] all = refl
 picked_by k j false is (x ∷ xs) all =
-    ap (λ b. cond b (x ∷ filter (λ r. is_of_kind k (name_of r)) xs) (filter (λ r. is_of_kind k (name_of r)) xs)) (ap (λ m. kind_rank m == kind_rank k) all.0 ∙ is)
+    ap (λ b. cond b (x ∷ filter (λ r. is_of_kind k (name_of r)) xs) (filter (λ r. is_of_kind k (name_of r)) xs))
+    (ap (λ m. kind_rank m == kind_rank k) all.0 ∙ is)
     ∙ picked_by k j false is xs all.1
 
 module _ (c : Cell) (kinds : HaveOwnKinds c) where
@@ -59,7 +63,8 @@ module _ (c : Cell) (kinds : HaveOwnKinds c) where
 
   -- the records of a kind among all
   all_picked : (k : Kind) → filter (λ r. is_of_kind k (name_of r)) (all_records c)
-      ≡ ((cond (kind_rank Vi == kind_rank k) c.vi [] ++ cond (kind_rank Vc == kind_rank k) c.vc []) ++ cond (kind_rank Ve == kind_rank k) c.ve []) ++ cond (kind_rank Fe == kind_rank k) c.fe []
+      ≡ ((cond (kind_rank Vi == kind_rank k) c.vi [] ++ cond (kind_rank Vc == kind_rank k) c.vc [])
+      ++ cond (kind_rank Ve == kind_rank k) c.ve []) ++ cond (kind_rank Fe == kind_rank k) c.fe []
   all_picked k =
       filter-append (λ r. is_of_kind k (name_of r)) (c.vi ++ c.vc ++ c.ve) c.fe
       ∙ (λ i. (filter-append (λ r. is_of_kind k (name_of r)) (c.vi ++ c.vc) c.ve
@@ -90,9 +95,11 @@ placed_all : (rs : List Rec) → AllByRecursion (λ r. has_a_list r ≡ true) rs
 placed_all [] all = refl
 placed_all (r ∷ rs) all = ap (λ b. b && list_all has_a_list rs) all.0 ∙ placed_all rs all.1
 
-placed_list : (c : Cell) → HaveOwnKinds c → (k : Kind) → (kind_rank k == kind_rank HeadKind) ≡ false → AllByRecursion (λ r. has_a_list r ≡ true) (list_of_kind k c)
+placed_list : (c : Cell) → HaveOwnKinds c → (k : Kind) → (kind_rank k == kind_rank HeadKind) ≡ false
+    → AllByRecursion (λ r. has_a_list r ≡ true) (list_of_kind k c)
 placed_list c kinds k other =
-    each_weaker (IsOfKind k) (λ r. has_a_list r ≡ true) (λ r own. ap (λ m. not (kind_rank m == kind_rank HeadKind)) own ∙ ap not other) (list_of_kind k c) (kind_list c kinds k)
+    each_weaker (IsOfKind k) (λ r. has_a_list r ≡ true) (λ r own. ap (λ m. not (kind_rank m == kind_rank HeadKind)) own ∙ ap not other)
+    (list_of_kind k c) (kind_list c kinds k)
 
 pub loaded_fits : (c : Cell) → IsWritable c → FindTheirRecords (map Add (all_records c)) (empty_of c.head)
 unfolding IsDistinct
@@ -102,7 +109,8 @@ loaded_fits c writable =
     let Placed : Rec → Type 0 = λ r. has_a_list r ≡ true in
     let placed : AllByRecursion (λ r. has_a_list r ≡ true) rs =
     each_append (λ r. has_a_list r ≡ true) (c.vi ++ c.vc ++ c.ve) c.fe (each_append (λ r. has_a_list r ≡ true) (c.vi ++ c.vc) c.ve
-    (each_append (λ r. has_a_list r ≡ true) c.vi c.vc (placed_list c kinds Vi refl) (placed_list c kinds Vc refl)) (placed_list c kinds Ve refl)) (placed_list c kinds Fe refl) in
+    (each_append (λ r. has_a_list r ≡ true) c.vi c.vc (placed_list c kinds Vi refl) (placed_list c kinds Vc refl)) (placed_list c kinds Ve refl))
+    (placed_list c kinds Fe refl) in
     record {
       names = (tt, tt);
       different = subst (IsDistinct same_name) (sym (names_added rs)) writable.names_distinct;
@@ -130,7 +138,13 @@ all_added whole c left = no_edits c ∙ left.leaves
 -- no records are those of an empty cell
 pub no_records : (h : CellHead) → AreRecords [] no_lists (cell_of h no_lists)
 no_records h = record {
-  kinds = record { vi = λ k d lt. absurd (omega arith); vc = λ k d lt. absurd (omega arith); ve = λ k d lt. absurd (omega arith); fe = λ k d lt. absurd (omega arith) };
+  kinds = record {
+    vi = λ k d lt. absurd (omega arith);
+    vc = λ k d lt. absurd (omega arith);
+    ve = λ k d lt. absurd (omega arith);
+    fe =
+        λ k d lt. absurd (omega arith);
+  };
   held = λ n. refl;
   placed = λ n held is. cc;
 }

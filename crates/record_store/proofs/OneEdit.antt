@@ -1,5 +1,29 @@
 -- The records of a cell after one edit.
-use Rattle.std.proofs.Common.{◌≡◌, ℕ, Bool, true, false, List, [], ◌∷◌, ◌++◌, inl, Option, None, Some, cond, filter, is_some, map, refl, sym, ap, subst, ◌∙◌, append-nil}
+use Rattle.std.proofs.Common.{
+  ◌≡◌,
+  ℕ,
+  Bool,
+  true,
+  false,
+  List,
+  [],
+  ◌∷◌,
+  ◌++◌,
+  inl,
+  Option,
+  None,
+  Some,
+  cond,
+  filter,
+  is_some,
+  map,
+  refl,
+  sym,
+  ap,
+  subst,
+  ◌∙◌,
+  append-nil,
+}
 use Rattle.std.specs.Prelude.{◌==◌, filter_map, not, option_map}
 use Rattle.std.specs.List.{AllByRecursion, IsDistinct, cons_option, list_all}
 use Rattle.std.specs.Ordering.{is_eq, nat_cmp}
@@ -22,7 +46,21 @@ use Rattle.s57_types.specs.declared.cell.Cell.{Cell}
 use Rattle.s57_types.specs.Heads.{edited_head, head_name}
 use Rattle.cell_spec.specs.declared.edit.Edit.{Edit}
 use Rattle.cell_spec.specs.declared.edit.Edit.TheVariants.{Add, Set, Del, Head}
-use Rattle.cell_spec.specs.Edits.{added_by, apply_edits, edit_of, edited_list, edited_record, changed_by, has_its_record, head_after, head_by, is_head_edit, left_by, list_of_kind, name_of_edit}
+use Rattle.cell_spec.specs.Edits.{
+  added_by,
+  apply_edits,
+  edit_of,
+  edited_list,
+  edited_record,
+  changed_by,
+  has_its_record,
+  head_after,
+  head_by,
+  is_head_edit,
+  left_by,
+  list_of_kind,
+  name_of_edit,
+}
 use Rattle.cell_spec.specs.Lookup.{all_records, is_named, listed_record, name_of}
 use Rattle.cell_spec.specs.Names.{is_of_kind, kind_rank, name_order, same_name}
 use Rattle.cell_spec.specs.Writable.{HaveDistinctNames}
@@ -77,7 +115,8 @@ own_rows Ve rows lists unlike = refl
 own_rows Fe rows lists unlike = refl
 own_rows HeadKind rows lists unlike = absurd (unlike refl)
 
-other_rows : (j k : Kind) (rows : List (ℕ × Rec)) (lists : FileLists) → (kind_rank j == kind_rank k) ≡ false → rows_of j (with_rows k rows lists) ≡ rows_of j lists
+other_rows : (j k : Kind) (rows : List (ℕ × Rec)) (lists : FileLists) → (kind_rank j == kind_rank k) ≡ false
+    → rows_of j (with_rows k rows lists) ≡ rows_of j lists
 other_rows Vi Vi rows lists other = cc
 other_rows Vi Vc rows lists other = refl
 other_rows Vi Ve rows lists other = refl
@@ -111,11 +150,13 @@ head_by_one e h unlike false = refl
 pub head_stays : (e : Edit) (h : CellHead) → is_head_edit e ≡ false → head_after (e ∷ []) h ≡ h
 head_stays e h unlike = head_by_one e h unlike (same_name (name_of_edit e) head_name)
 
-others_stay : (e : Edit) (k : Kind) (c : Cell) → (name_of_edit e).kind ≡ k → HaveOwnKinds c → (j : Kind) → (kind_rank k == kind_rank j) ≡ false → list_of_kind j c ≡ edited_list (e ∷ []) j c
+others_stay : (e : Edit) (k : Kind) (c : Cell) → (name_of_edit e).kind ≡ k → HaveOwnKinds c → (j : Kind) → (kind_rank k == kind_rank j) ≡ false
+    → list_of_kind j c ≡ edited_list (e ∷ []) j c
 others_stay e k c kind kinds j other = sym (other_list e j c (kind_list c kinds j) (ap (λ m. kind_rank m == kind_rank j) kind ∙ other))
 
 -- a cell with other rows of the kind of an edit's name is the edited one where they are those of the edited list
-pub cell_after : (e : Edit) (h : CellHead) (lists : FileLists) (k : Kind) (rows : List (ℕ × Rec)) → (name_of_edit e).kind ≡ k → (k ≡ HeadKind → ⊥) → is_head_edit e ≡ false
+pub cell_after : (e : Edit) (h : CellHead) (lists : FileLists) (k : Kind) (rows : List (ℕ × Rec)) → (name_of_edit e).kind ≡ k
+    → (k ≡ HeadKind → ⊥) → is_head_edit e ≡ false
     → HaveOwnKinds (cell_of h lists) → edited_list (e ∷ []) k (cell_of h lists) ≡ records_in rows
     → cell_of h (with_rows k rows lists) ≡ apply_edits (e ∷ []) (cell_of h lists)
 unfolding apply_edits
@@ -150,7 +191,8 @@ headed v x false = refl
 headed_list : (v : HeadEdit) (xs : List Rec) → filter_map (edited_record (Head v ∷ [])) xs ++ [] ≡ xs
 headed_list v [] = refl
 headed_list v (x ∷ xs) =
-    ap (λ o. cons_option o (filter_map (edited_record (Head v ∷ [])) xs) ++ []) (headed v x (same_name head_name (name_of x))) ∙ ap (λ rest. x ∷ rest) (headed_list v xs)
+    ap (λ o. cons_option o (filter_map (edited_record (Head v ∷ [])) xs) ++ []) (headed v x (same_name head_name (name_of x)))
+    ∙ ap (λ rest. x ∷ rest) (headed_list v xs)
 
 pub cell_headed : (v : HeadEdit) (h : CellHead) (lists : FileLists) → cell_of (edited_head v h) lists ≡ apply_edits (Head v ∷ []) (cell_of h lists)
 unfolding apply_edits
@@ -163,7 +205,8 @@ cell_headed v h lists = λ i. record {
 }
 
 -- the records under another head
-pub records_headed : (h other : CellHead) (names : List (RecName × Held)) (lists : FileLists) → AreRecords names lists (cell_of h lists) → AreRecords names lists (cell_of other lists)
+pub records_headed : (h other : CellHead) (names : List (RecName × Held)) (lists : FileLists) → AreRecords names lists (cell_of h lists)
+    → AreRecords names lists (cell_of other lists)
 records_headed h other names lists records = record {
   kinds = record { vi = records.kinds.vi; vc = records.kinds.vc; ve = records.kinds.ve; fe = records.kinds.fe };
   held = records.held;
@@ -213,7 +256,8 @@ module _ (e : Edit) (h : CellHead) (names : List (RecName × Held)) (lists : Fil
   no_head : AllByRecursion (λ s. is_of_kind HeadKind (name_of s) ≡ false) (all_records c)
   no_head =
       let other = λ (k : Kind) (is : (kind_rank k == kind_rank HeadKind) ≡ false).
-      each_weaker (IsOfKind k) (λ s. is_of_kind HeadKind (name_of s) ≡ false) (λ s own. ap (λ j. kind_rank j == kind_rank HeadKind) own ∙ is) (list_of_kind k c) (kind_list c records.kinds k) in
+      each_weaker (IsOfKind k) (λ s. is_of_kind HeadKind (name_of s) ≡ false) (λ s own. ap (λ j. kind_rank j == kind_rank HeadKind) own ∙ is)
+      (list_of_kind k c) (kind_list c records.kinds k) in
       each_append (λ s. is_of_kind HeadKind (name_of s) ≡ false) (c.vi ++ c.vc ++ c.ve) c.fe
       (each_append (λ s. is_of_kind HeadKind (name_of s) ≡ false) (c.vi ++ c.vc) c.ve
       (each_append (λ s. is_of_kind HeadKind (name_of s) ≡ false) c.vi c.vc (other Vi refl) (other Vc refl)) (other Ve refl)) (other Fe refl)
@@ -223,7 +267,8 @@ module _ (e : Edit) (h : CellHead) (names : List (RecName × Held)) (lists : Fil
   listed_by_kind n None is some = cc
   listed_by_kind n (Some s) is some =
       let hit = found (is_named n) (all_records c) s is in
-      ap (is_of_kind HeadKind) (one_when_same n (name_of s) hit.passes) ∙ known_of (λ s. is_of_kind HeadKind (name_of s) ≡ false) s (all_records c) no_head hit.among
+      ap (is_of_kind HeadKind) (one_when_same n (name_of s) hit.passes) ∙ known_of (λ s. is_of_kind HeadKind (name_of s) ≡ false) s
+      (all_records c) no_head hit.among
 
   -- ---- rows of the name's kind that change at its number
   module _ (m : RecName) (place : ℕ) (at : IsPlaceFor (value_of name_order names m) (rows_of m.kind lists) place) where
@@ -241,19 +286,22 @@ module _ (e : Edit) (h : CellHead) (names : List (RecName × Held)) (lists : Fil
     taken : (s : Rec) → value_of nat_cmp rows place ≡ Some s → name_of s ≡ m
     taken = taken_by (value_of name_order names m) refl at
 
-    module _ (after : List (ℕ × Rec)) (put : Option Rec) (changed : (q : ℕ) → value_of nat_cmp after q ≡ cond (is_eq (nat_cmp place q)) put (value_of nat_cmp rows q)) (unlike : m.kind ≡ HeadKind → ⊥) where
+    module _ (after : List (ℕ × Rec)) (put : Option Rec) (changed : (q : ℕ) → value_of nat_cmp after q ≡ cond (is_eq (nat_cmp place q)) put
+        (value_of nat_cmp rows q)) (unlike : m.kind ≡ HeadKind → ⊥) where
       -- the records of other names stand where they stood
       same_list_by : (n : RecName) (held : Held) → is_eq (name_order m n) ≡ false → value_of name_order names n ≡ Some held → n.kind ≡ m.kind
           → (hit : Bool) → is_eq (nat_cmp place held.place) ≡ hit → cond hit put (value_of nat_cmp rows held.place) ≡ Some held.rec
       same_list_by n held apart is kind false miss = ap (λ k. value_of nat_cmp (rows_of k lists) held.place) (sym kind) ∙ placed_at n held is
       same_list_by n held apart is kind true hit =
           let there : value_of nat_cmp rows place ≡ Some held.rec =
-          ap (value_of nat_cmp rows) (numbers_exact place held.place hit) ∙ ap (λ k. value_of nat_cmp (rows_of k lists) held.place) (sym kind) ∙ placed_at n held is in
+          ap (value_of nat_cmp rows) (numbers_exact place held.place hit) ∙ ap (λ k. value_of nat_cmp (rows_of k lists) held.place) (sym kind)
+          ∙ placed_at n held is in
           let one : n ≡ m = sym (named_at n held is) ∙ taken held.rec there in
           absurd (contradiction (is_eq (name_order m n)) apart (ap (λ k. is_eq (name_order m k)) one ∙ ap is_eq (tied_itself total_names m)))
 
       kind_by : (n : RecName) (held : Held) → is_eq (name_order m n) ≡ false → value_of name_order names n ≡ Some held
-          → (same : Bool) → (kind_rank n.kind == kind_rank m.kind) ≡ same → value_of nat_cmp (rows_of n.kind (with_rows m.kind after lists)) held.place ≡ Some held.rec
+          → (same : Bool) → (kind_rank n.kind == kind_rank m.kind) ≡ same
+          → value_of nat_cmp (rows_of n.kind (with_rows m.kind after lists)) held.place ≡ Some held.rec
       kind_by n held apart is false other = ap (λ all. value_of nat_cmp all held.place) (other_rows n.kind m.kind after lists other) ∙ placed_at n held is
       kind_by n held apart is true same =
           let kind : n.kind ≡ m.kind = one_kind n.kind m.kind same in
@@ -267,7 +315,8 @@ module _ (e : Edit) (h : CellHead) (names : List (RecName × Held)) (lists : Fil
       stays_placed n held apart is = kind_by n held apart is (kind_rank n.kind == kind_rank m.kind) refl
 
   -- ---- a record that is left
-  module _ (leave : EditsLeaveTheirRecords) (r : Rec) (left : left_by e ≡ Some r) (place : ℕ) (at : IsPlaceFor (value_of name_order names (name_of r)) (rows_of (name_of r).kind lists) place) where
+  module _ (leave : EditsLeaveTheirRecords) (r : Rec) (left : left_by e ≡ Some r) (place : ℕ)
+      (at : IsPlaceFor (value_of name_order names (name_of r)) (rows_of (name_of r).kind lists) place) where
     abbrev own_list : List (ℕ × Rec)
     own_list = rows_of (name_of r).kind lists
 
@@ -280,18 +329,24 @@ module _ (e : Edit) (h : CellHead) (names : List (RecName × Held)) (lists : Fil
     listed_is : (o : Option Held) → value_of name_order names (name_of r) ≡ o → listed_record c (name_of r) ≡ option_map record_of o
     listed_is o is = sym (records.held (name_of r)) ∙ ap (option_map record_of) is
 
-    own_by : (edit : Edit) (o : Option Held) → value_of name_order names (name_of r) ≡ o → left_by edit ≡ Some r → has_its_record c edit ≡ true → IsPlaceFor o own_list place
-        → filter_map (edited_record (edit ∷ [])) (records_in own_list) ++ filter (λ s. is_of_kind (name_of r).kind (name_of s)) (filter_map added_by (edit ∷ [])) ≡ records_in put_list
+    own_by : (edit : Edit) (o : Option Held) → value_of name_order names (name_of r) ≡ o → left_by edit ≡ Some r → has_its_record c edit ≡ true
+        → IsPlaceFor o own_list place
+        → filter_map (edited_record (edit ∷ [])) (records_in own_list) ++ filter (λ s. is_of_kind (name_of r).kind (name_of s))
+        (filter_map added_by (edit ∷ [])) ≡ records_in put_list
     own_by (Add s) None is gives new below =
         let same : r ≡ s = cc in
-        subst (λ s. filter_map (edited_record (Add s ∷ [])) (records_in own_list) ++ filter (λ s. is_of_kind (name_of r).kind (name_of s)) (filter_map added_by (Add s ∷ [])) ≡ records_in put_list) same
-        (ap (λ b. filter_map (edited_record (Add r ∷ [])) (records_in own_list) ++ cond b (r ∷ []) []) (ranks_same (name_of r).kind) ∙ add_list r own_list place below)
+        subst (λ s. filter_map (edited_record (Add s ∷ [])) (records_in own_list) ++ filter (λ s. is_of_kind (name_of r).kind (name_of s))
+        (filter_map added_by (Add s ∷ [])) ≡ records_in put_list) same
+        (ap (λ b. filter_map (edited_record (Add r ∷ [])) (records_in own_list) ++ cond b (r ∷ []) []) (ranks_same (name_of r).kind)
+        ∙ add_list r own_list place below)
     own_by (Add s) (Some held) is gives new below =
         let same : s ≡ r = cc in
-        absurd (contradiction (not (is_some (listed_record c (name_of r)))) (ap (λ o. not (is_some o)) (listed_is (Some held) is)) (ap (λ s. not (is_some (listed_record c (name_of s)))) (sym same) ∙ new))
+        absurd (contradiction (not (is_some (listed_record c (name_of r)))) (ap (λ o. not (is_some o)) (listed_is (Some held) is))
+        (ap (λ s. not (is_some (listed_record c (name_of s)))) (sym same) ∙ new))
     own_by (Set s) None is gives new below =
         let same : s ≡ r = cc in
-        absurd (contradiction (is_some (listed_record c (name_of r))) (ap is_some (listed_is None is)) (ap (λ s. is_some (listed_record c (name_of s))) (sym same) ∙ new))
+        absurd (contradiction (is_some (listed_record c (name_of r))) (ap is_some (listed_is None is))
+        (ap (λ s. is_some (listed_record c (name_of s))) (sym same) ∙ new))
     own_by (Set s) (Some held) is gives new below =
         let same : r ≡ s = cc in
         subst (λ s. filter_map (edited_record (Set s ∷ [])) (records_in own_list) ++ [] ≡ records_in put_list) same
@@ -317,10 +372,12 @@ module _ (e : Edit) (h : CellHead) (names : List (RecName × Held)) (lists : Fil
     kind_left (Add s) same gives =
         let one : s ≡ r = cc in
         not_true (is_of_kind HeadKind (name_of r)) (ap has_a_list (sym one)
-        ∙ each_passes has_a_list s (filter_map added_by (Add s ∷ [])) (ap (λ edit. list_all has_a_list (filter_map added_by (edit ∷ []))) (sym same) ∙ fit.placed) (inl refl))
+        ∙ each_passes has_a_list s (filter_map added_by (Add s ∷ []))
+        (ap (λ edit. list_all has_a_list (filter_map added_by (edit ∷ []))) (sym same) ∙ fit.placed) (inl refl))
     kind_left (Set s) same gives =
         let one : s ≡ r = cc in
-        listed_by_kind (name_of r) (listed_record c (name_of r)) refl (ap (λ s. is_some (listed_record c (name_of s))) (sym one) ∙ ap (has_its_record c) (sym same) ∙ has)
+        listed_by_kind (name_of r) (listed_record c (name_of r)) refl (ap (λ s. is_some (listed_record c (name_of s))) (sym one)
+        ∙ ap (has_its_record c) (sym same) ∙ has)
     kind_left (Del n) same gives = cc
     kind_left (Head v) same gives = cc
 
@@ -330,7 +387,8 @@ module _ (e : Edit) (h : CellHead) (names : List (RecName × Held)) (lists : Fil
     pub cell_put : cell_of h (with_rows (name_of r).kind put_list lists) ≡ apply_edits (e ∷ []) c
     cell_put =
         cell_after e h lists (name_of r).kind put_list (ap (λ n. n.kind) (name_left e left)) not_head (not_of_head e left) records.kinds
-        (ap (λ xs. filter_map (edited_record (e ∷ [])) xs ++ filter (λ s. is_of_kind (name_of r).kind (name_of s)) (filter_map added_by (e ∷ []))) (rows_list h lists (name_of r).kind)
+        (ap (λ xs. filter_map (edited_record (e ∷ [])) xs ++ filter (λ s. is_of_kind (name_of r).kind (name_of s))
+        (filter_map added_by (e ∷ []))) (rows_list h lists (name_of r).kind)
         ∙ own_by e (value_of name_order names (name_of r)) refl left has at)
 
     left_listed : (edit : Edit) (old : Option Rec) → left_by edit ≡ Some r → Some r ≡ listed_by old (Some edit)
@@ -339,11 +397,13 @@ module _ (e : Edit) (h : CellHead) (names : List (RecName × Held)) (lists : Fil
     left_listed (Del n) old gives = cc
     left_listed (Head v) old gives = cc
 
-    held_put_by : (hit : Bool) (o : Option Held) → option_map record_of (cond hit (Some put_held) o) ≡ listed_by (option_map record_of o) (cond hit (Some e) None)
+    held_put_by : (hit : Bool) (o : Option Held) → option_map record_of (cond hit (Some put_held) o) ≡ listed_by (option_map record_of o)
+        (cond hit (Some e) None)
     held_put_by true o = left_listed e (option_map record_of o) left
     held_put_by false o = refl
 
-    placed_put_by : (n : RecName) (held : Held) (hit : Bool) → is_eq (name_order (name_of r) n) ≡ hit → cond hit (Some put_held) (value_of name_order names n) ≡ Some held
+    placed_put_by : (n : RecName) (held : Held) (hit : Bool) → is_eq (name_order (name_of r) n) ≡ hit
+        → cond hit (Some put_held) (value_of name_order names n) ≡ Some held
         → value_of nat_cmp (rows_of n.kind (with_rows (name_of r).kind put_list lists)) held.place ≡ Some held.rec
     placed_put_by n held false apart is =
         stays_placed (name_of r) place at put_list (Some r) (λ q. value_of-with_row nat_cmp nat_cmp_total own_list place q r) not_head n held apart is
@@ -362,7 +422,8 @@ module _ (e : Edit) (h : CellHead) (names : List (RecName × Held)) (lists : Fil
       held = λ n.
           ap (option_map record_of) (value_of-with_row name_order total_names names (name_of r) n put_held)
           ∙ held_put_by (is_eq (name_order (name_of r) n)) (value_of name_order names n)
-          ∙ (λ i. listed_by (records.held n i) (cond ((names_tie (name_of r) n ∙ same_from_either n (name_of r) ∙ ap (λ m. same_name m n) (sym (name_left e left))) i) (Some e) None))
+          ∙ (λ i. listed_by (records.held n i) (cond ((names_tie (name_of r) n ∙ same_from_either n (name_of r)
+          ∙ ap (λ m. same_name m n) (sym (name_left e left))) i) (Some e) None))
           ∙ sym ((leave (e ∷ []) c fit).listed n);
       placed = λ n held is.
           placed_put_by n held (is_eq (name_order (name_of r) n)) refl (sym (value_of-with_row name_order total_names names (name_of r) n put_held) ∙ is);
@@ -378,7 +439,8 @@ module _ (e : Edit) (h : CellHead) (names : List (RecName × Held)) (lists : Fil
     listed_some = ap (has_its_record c) (sym deletes) ∙ has
 
     not_head_gone : n.kind ≡ HeadKind → ⊥
-    not_head_gone is = contradiction (is_of_kind HeadKind n) (listed_by_kind n (listed_record c n) refl listed_some) (ap (λ k. kind_rank k == kind_rank HeadKind) is)
+    not_head_gone is = contradiction (is_of_kind HeadKind n) (listed_by_kind n (listed_record c n) refl listed_some)
+        (ap (λ k. kind_rank k == kind_rank HeadKind) is)
 
     gone_by_place : (o : Option Held) → value_of name_order names n ≡ o → IsPlaceFor o (rows_of n.kind lists) place
         → filter_map (edited_record (Del n ∷ [])) (records_in (rows_of n.kind lists)) ++ [] ≡ records_in gone_from
@@ -404,7 +466,8 @@ module _ (e : Edit) (h : CellHead) (names : List (RecName × Held)) (lists : Fil
         → value_of nat_cmp (rows_of m.kind (with_rows n.kind gone_from lists)) held.place ≡ Some held.rec
     placed_gone_by m held true tie is = cc
     placed_gone_by m held false apart is =
-        stays_placed n place at gone_from None (λ q. value_of-without_key nat_cmp nat_cmp_total (rows_of n.kind lists) place q (ascending n.kind)) not_head_gone m held apart is
+        stays_placed n place at gone_from None (λ q. value_of-without_key nat_cmp nat_cmp_total (rows_of n.kind lists) place q
+        (ascending n.kind)) not_head_gone m held apart is
 
     pub records_gone : AreRecords (without_key name_order names n) (with_rows n.kind gone_from lists) (apply_edits (e ∷ []) c)
     records_gone = record {

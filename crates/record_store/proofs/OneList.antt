@@ -1,5 +1,28 @@
 -- One list of a cell after one edit.
-use Rattle.std.proofs.Common.{◌≡◌, ℕ, Bool, true, false, ◌&&◌, List, [], ◌∷◌, ◌++◌, Option, None, Some, cond, filter, map, refl, sym, ap, subst, ◌∙◌, append-nil}
+use Rattle.std.proofs.Common.{
+  ◌≡◌,
+  ℕ,
+  Bool,
+  true,
+  false,
+  ◌&&◌,
+  List,
+  [],
+  ◌∷◌,
+  ◌++◌,
+  Option,
+  None,
+  Some,
+  cond,
+  filter,
+  map,
+  refl,
+  sym,
+  ap,
+  subst,
+  ◌∙◌,
+  append-nil,
+}
 use Rattle.std.specs.Prelude.{◌==◌, filter_map}
 use Rattle.std.specs.Cmp.{tied_itself}
 use Rattle.std.specs.List.{AllByRecursion, IsDistinct, cons_option}
@@ -34,12 +57,14 @@ abbrev one_made : Edit → Rec → Bool → Option Rec
 one_made e x b = changed_by x (cond b (Some e) None)
 
 -- records of other names stay
-pub kept_apart : (e : Edit) (xs : List Rec) → AllByRecursion (λ n. same_name (name_of_edit e) n ≡ false) (map name_of xs) → filter_map (edited_record (e ∷ [])) xs ≡ xs
+pub kept_apart : (e : Edit) (xs : List Rec) → AllByRecursion (λ n. same_name (name_of_edit e) n ≡ false) (map name_of xs)
+    → filter_map (edited_record (e ∷ [])) xs ≡ xs
 kept_apart e [] apart = refl
 kept_apart e (x ∷ xs) apart =
     ap (λ b. cons_option (one_made e x b) (filter_map (edited_record (e ∷ [])) xs)) apart.0 ∙ ap (λ rest. x ∷ rest) (kept_apart e xs apart.1)
 
-name_at_by : (P : RecName → Type 0) (x old : Rec) (b : Bool) (later : Option Rec) → cond b (Some x) later ≡ Some old → P (name_of x) → (later ≡ Some old → P (name_of old)) → P (name_of old)
+name_at_by : (P : RecName → Type 0) (x old : Rec) (b : Bool) (later : Option Rec) → cond b (Some x) later ≡ Some old → P (name_of x)
+    → (later ≡ Some old → P (name_of old)) → P (name_of old)
 name_at_by P x old true later is here rest = let same : x ≡ old = cc in subst (λ r. P (name_of r)) same here
 name_at_by P x old false later is here rest = rest is
 
@@ -51,7 +76,8 @@ name_at P (row ∷ rows) place old is all =
     name_at_by P row.1 old (is_eq (nat_cmp row.0 place)) (value_of nat_cmp rows place) is all.0 (λ later. name_at P rows place old later all.1)
 
 module _ (e : Edit) (row : ℕ × Rec) (rows : List (ℕ × Rec)) (place : ℕ) (old : Rec)
-    (ascending : AllByRecursion (λ k. nat_cmp row.0 k ≡ Less) (keys_of rows)) (apart : AllByRecursion (λ m. same_name (name_of row.1) m ≡ false) (map name_of (records_in rows)))
+    (ascending : AllByRecursion (λ k. nat_cmp row.0 k ≡ Less) (keys_of rows))
+    (apart : AllByRecursion (λ m. same_name (name_of row.1) m ≡ false) (map name_of (records_in rows)))
     (named : name_of old ≡ name_of_edit e) where
   -- a record before that at the number has another name
   other_name : value_of nat_cmp rows place ≡ Some old → same_name (name_of_edit e) (name_of row.1) ≡ false
@@ -71,7 +97,8 @@ module _ (e : Edit) (row : ℕ × Rec) (rows : List (ℕ × Rec)) (place : ℕ) 
 
   made_at : (answer : Ordering) → nat_cmp row.0 place ≡ answer → cond (is_eq answer) (Some row.1) (value_of nat_cmp rows place) ≡ Some old
       → (after : List Rec) → (value_of nat_cmp rows place ≡ Some old → filter_map (edited_record (e ∷ [])) (records_in rows) ≡ after)
-      → filter_map (edited_record (e ∷ [])) (row.1 ∷ records_in rows) ≡ match_ordering answer (row.1 ∷ after) (cons_option (changed_by row.1 (Some e)) (records_in rows)) []
+      → filter_map (edited_record (e ∷ [])) (row.1 ∷ records_in rows) ≡ match_ordering answer (row.1 ∷ after)
+      (cons_option (changed_by row.1 (Some e)) (records_in rows)) []
   made_at Less order is after rest =
       ap (λ b. cons_option (one_made e row.1 b) (filter_map (edited_record (e ∷ [])) (records_in rows))) (other_name is) ∙ ap (λ xs. row.1 ∷ xs) (rest is)
   made_at Equal order is after rest =
@@ -89,7 +116,8 @@ set_by r row rows place old Equal is none = refl
 set_by r row rows place old Greater is none = absurd (none refl)
 
 not_greater : (row : ℕ × Rec) (rows : List (ℕ × Rec)) (place : ℕ) (old : Rec) (answer : Ordering) → nat_cmp row.0 place ≡ answer
-    → AllByRecursion (λ k. nat_cmp row.0 k ≡ Less) (keys_of rows) → cond (is_eq answer) (Some row.1) (value_of nat_cmp rows place) ≡ Some old → answer ≡ Greater → ⊥
+    → AllByRecursion (λ k. nat_cmp row.0 k ≡ Less) (keys_of rows) → cond (is_eq answer) (Some row.1) (value_of nat_cmp rows place) ≡ Some old
+    → answer ≡ Greater → ⊥
 not_greater row rows place old Less order ascending is greater = cc
 not_greater row rows place old Equal order ascending is greater = cc
 not_greater row rows place old Greater order ascending is greater =
@@ -97,7 +125,8 @@ not_greater row rows place old Greater order ascending is greater =
 
 -- a record in place of the one at a number
 pub set_list : (r : Rec) (rows : List (ℕ × Rec)) (place : ℕ) (old : Rec) → IsAscending nat_cmp rows → HaveDistinctNames (records_in rows)
-    → value_of nat_cmp rows place ≡ Some old → name_of old ≡ name_of r → filter_map (edited_record (Set r ∷ [])) (records_in rows) ≡ records_in (with_row nat_cmp rows place r)
+    → value_of nat_cmp rows place ≡ Some old → name_of old ≡ name_of r → filter_map (edited_record (Set r ∷ [])) (records_in rows) ≡
+    records_in (with_row nat_cmp rows place r)
 unfolding IsDistinct IsStrictlySortedBy
 set_list r [] place old ascending apart is named = cc
 set_list r (row ∷ rows) place old ascending apart is named =
@@ -114,7 +143,8 @@ gone_by row rows place Greater none = absurd (none refl)
 
 -- no record in place of the one at a number
 pub gone_list : (n : RecName) (rows : List (ℕ × Rec)) (place : ℕ) (old : Rec) → IsAscending nat_cmp rows → HaveDistinctNames (records_in rows)
-    → value_of nat_cmp rows place ≡ Some old → name_of old ≡ n → filter_map (edited_record (Del n ∷ [])) (records_in rows) ≡ records_in (without_key nat_cmp rows place)
+    → value_of nat_cmp rows place ≡ Some old → name_of old ≡ n → filter_map (edited_record (Del n ∷ [])) (records_in rows) ≡
+    records_in (without_key nat_cmp rows place)
 unfolding IsDistinct IsStrictlySortedBy
 gone_list n [] place old ascending apart is named = cc
 gone_list n (row ∷ rows) place old ascending apart is named =

@@ -39,37 +39,44 @@ put_by true false v w x same = same refl
 put_by false true v w x same = refl
 put_by false false v w x same = refl
 
-module _ (keys : List Key) (refs : RecName → List Ref) (names : Lnam → List RecName) (pointers now : List (RecName × List Ref)) (bearers held : List (Lnam × List RecName))
+module _ (keys : List Key) (refs : RecName → List Ref) (names : Lnam → List RecName) (pointers now : List (RecName × List Ref))
+    (bearers held : List (Lnam × List RecName))
     (put : ArePut keys refs names pointers now bearers held) where
   pointers_stay : (key : Key) → ((m : RecName) → same_key (Refs m) key ≡ false) → (m : RecName)
       → list_in (value_of name_order now m) ≡ cond (list_any (same_key (Refs m)) (keys ++ key ∷ [])) (refs m) (list_in (value_of name_order pointers m))
   pointers_stay key other m =
       put.pointers_are m ∙ ap (λ hit. cond hit (refs m) (list_in (value_of name_order pointers m)))
-      (or_none (list_any (same_key (Refs m)) keys) ∙ ap (λ b. list_any (same_key (Refs m)) keys || (b || false)) (sym (other m)) ∙ sym (list_any-append (same_key (Refs m)) keys (key ∷ [])))
+      (or_none (list_any (same_key (Refs m)) keys) ∙ ap (λ b. list_any (same_key (Refs m)) keys || (b || false)) (sym (other m))
+      ∙ sym (list_any-append (same_key (Refs m)) keys (key ∷ [])))
 
   bearers_stay : (key : Key) → ((l : Lnam) → same_key (Foid l) key ≡ false) → (l : Lnam)
-      → list_in (value_of identity_order held l) ≡ cond (list_any (same_key (Foid l)) (keys ++ key ∷ [])) (names l) (list_in (value_of identity_order bearers l))
+      → list_in (value_of identity_order held l) ≡ cond (list_any (same_key (Foid l)) (keys ++ key ∷ [])) (names l)
+      (list_in (value_of identity_order bearers l))
   bearers_stay key other l =
       put.bearers_are l ∙ ap (λ hit. cond hit (names l) (list_in (value_of identity_order bearers l)))
-      (or_none (list_any (same_key (Foid l)) keys) ∙ ap (λ b. list_any (same_key (Foid l)) keys || (b || false)) (sym (other l)) ∙ sym (list_any-append (same_key (Foid l)) keys (key ∷ [])))
+      (or_none (list_any (same_key (Foid l)) keys) ∙ ap (λ b. list_any (same_key (Foid l)) keys || (b || false)) (sym (other l))
+      ∙ sym (list_any-append (same_key (Foid l)) keys (key ∷ [])))
 
   -- the key of a record needs no list
   pub name_put : (n : RecName) → ArePut (keys ++ Name n ∷ []) refs names pointers now bearers held
   name_put n = record { pointers_are = pointers_stay (Name n) (λ m. refl); bearers_are = bearers_stay (Name n) (λ l. refl) }
 
-  pub pointers_put : (n : RecName) (next : List (RecName × List Ref)) → ListIsPut name_order n (refs n) now next → ArePut (keys ++ Refs n ∷ []) refs names pointers next bearers held
+  pub pointers_put : (n : RecName) (next : List (RecName × List Ref)) → ListIsPut name_order n (refs n) now next
+      → ArePut (keys ++ Refs n ∷ []) refs names pointers next bearers held
   pointers_put n next is = record {
     pointers_are = λ m.
         let hit : Bool = is_eq (name_order m n) in
         is m
         ∙ ap (λ b. cond b (refs n) (list_in (value_of name_order now m))) (names_flip n m)
         ∙ ap (cond hit (refs n)) (put.pointers_are m)
-        ∙ put_by hit (list_any (same_key (Refs m)) keys) (refs n) (refs m) (list_in (value_of name_order pointers m)) (λ same. ap refs (sym (exact_names m n ((Equal-is (name_order m n)).0 same))))
+        ∙ put_by hit (list_any (same_key (Refs m)) keys) (refs n) (refs m) (list_in (value_of name_order pointers m))
+        (λ same. ap refs (sym (exact_names m n ((Equal-is (name_order m n)).0 same))))
         ∙ ap (λ b. cond b (refs m) (list_in (value_of name_order pointers m))) (sym (list_any-append (same_key (Refs m)) keys (Refs n ∷ [])));
     bearers_are = bearers_stay (Refs n) (λ l. refl);
   }
 
-  pub bearers_put : (l : Lnam) (next : List (Lnam × List RecName)) → ListIsPut identity_order l (names l) held next → ArePut (keys ++ Foid l ∷ []) refs names pointers now bearers next
+  pub bearers_put : (l : Lnam) (next : List (Lnam × List RecName)) → ListIsPut identity_order l (names l) held next
+      → ArePut (keys ++ Foid l ∷ []) refs names pointers now bearers next
   bearers_put l next is = record {
     pointers_are = pointers_stay (Foid l) (λ m. refl);
     bearers_are = λ k.
@@ -77,6 +84,7 @@ module _ (keys : List Key) (refs : RecName → List Ref) (names : Lnam → List 
         is k
         ∙ ap (λ b. cond b (names l) (list_in (value_of identity_order held k))) (identities_flip l k)
         ∙ ap (cond hit (names l)) (put.bearers_are k)
-        ∙ put_by hit (list_any (same_key (Foid k)) keys) (names l) (names k) (list_in (value_of identity_order bearers k)) (λ same. ap names (sym (exact_identities k l ((Equal-is (identity_order k l)).0 same))))
+        ∙ put_by hit (list_any (same_key (Foid k)) keys) (names l) (names k) (list_in (value_of identity_order bearers k))
+        (λ same. ap names (sym (exact_identities k l ((Equal-is (identity_order k l)).0 same))))
         ∙ ap (λ b. cond b (names k) (list_in (value_of identity_order bearers k))) (sym (list_any-append (same_key (Foid k)) keys (Foid l ∷ [])));
   }

@@ -15,7 +15,8 @@ use Rattle.row_table.specs.Rows.{value_of}
 use Rattle.answer_laws.specs.EditedAnswers.{EditedAnswers, FindTheirRecords, UntouchedKeysKeepAnswers, bearers_after, pointers_after}
 use Rattle.record_store.specs.Stores.{ArePut, IsStore, list_in, names_after, refs_after}
 
-module _ (edits : List Edit) (c : Cell) (pointers now : List (RecName × List Ref)) (bearers held : List (Lnam × List RecName)) (store : IsStore c pointers bearers)
+module _ (edits : List Edit) (c : Cell) (pointers now : List (RecName × List Ref)) (bearers held : List (Lnam × List RecName))
+    (store : IsStore c pointers bearers)
     (fit : FindTheirRecords edits c) (answers : EditedAnswers) (untouched : UntouchedKeysKeepAnswers)
     (put : ArePut (touched_keys edits c) (refs_after edits pointers) (names_after edits bearers) pointers now bearers held) where
   pointers_by : (n : RecName) (hit : Bool) → list_any (same_key (Refs n)) (touched_keys edits c) ≡ hit

@@ -31,7 +31,9 @@ none_at n r first [] none = refl
 none_at n r first (t ∷ ts) none =
     let both = neither (same_key (Refs n) (Refs t)) (list_any (same_key (Refs n)) (map Refs ts)) none in
     let other : same_name n t ≡ false = same_from_either n t ∙ sym (names_tie n t) ∙ both.0 in
-    ap (λ b. map (λ (p : ℕ × RecName). record { from = name_of r; place = p.0 }) (cond b ((first, t) ∷ filter (λ (p : ℕ × RecName). same_name n p.1) (enumerate_from (first + 1) ts)) (filter (λ (p : ℕ × RecName). same_name n p.1) (enumerate_from (first + 1) ts)))) other
+    ap (λ b. map (λ (p : ℕ × RecName). record { from = name_of r; place = p.0 })
+    (cond b ((first, t) ∷ filter (λ (p : ℕ × RecName). same_name n p.1) (enumerate_from (first + 1) ts))
+    (filter (λ (p : ℕ × RecName). same_name n p.1) (enumerate_from (first + 1) ts)))) other
     ∙ none_at n r (first + 1) ts both.1
 
 none_in : (n : RecName) (r : Rec) → list_any (same_key (Refs n)) (keys_answered_by r) ≡ false → pointers_in n r ≡ []
@@ -61,8 +63,10 @@ none_borne l (r ∷ rs) none =
     (sym (list_any-append (same_key (Foid l)) (keys_answered_by r) (flat_map keys_answered_by rs)) ∙ none) in
     ap (λ b. map name_of (cond b (r ∷ filter (bears l) rs) (filter (bears l) rs))) (bearer_by l r both.0) ∙ none_borne l rs both.1
 
-module _ (c : Cell) (keys : List Key) (pairs : List (RecName × Ref)) (others : List (Lnam × RecName)) (now : List (RecName × List Ref)) (held : List (Lnam × List RecName))
-    (listed : keys ≡ ascending key_order (flat_map keys_answered_by (all_records c))) (pointers : ArePointersOf (all_records c) pairs) (bearers : AreBearersOf (all_records c) others)
+module _ (c : Cell) (keys : List Key) (pairs : List (RecName × Ref)) (others : List (Lnam × RecName)) (now : List (RecName × List Ref))
+    (held : List (Lnam × List RecName))
+    (listed : keys ≡ ascending key_order (flat_map keys_answered_by (all_records c))) (pointers : ArePointersOf (all_records c) pairs)
+    (bearers : AreBearersOf (all_records c) others)
     (put : ArePut keys (values_at name_order pairs) (values_at identity_order others) [] now [] held) where
   answered : (k : Key) → list_any (same_key k) keys ≡ list_any (same_key k) (flat_map keys_answered_by (all_records c))
   answered k = ap (list_any (same_key k)) listed ∙ holds-ascending key_order exact_keys k (flat_map keys_answered_by (all_records c))

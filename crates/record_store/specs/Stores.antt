@@ -30,9 +30,12 @@ abbrev pub ListIsPut : {K X : Type 0} → (K → K → Ordering) → K → List 
 ListIsPut {K} cmp key items before after = (k : K) → list_in (value_of cmp after k) ≡ (if is_eq (cmp key k) then items else list_in (value_of cmp before k))
 
 -- the lists of these keys are the given ones from now on, and those of other keys stay
-pub record ArePut (keys : List Key) (refs : RecName → List Ref) (names : Lnam → List RecName) (pointers now : List (RecName × List Ref)) (bearers held : List (Lnam × List RecName)) : Type 0 where
-  pub pointers_are : (n : RecName) → list_in (value_of name_order now n) ≡ (if list_any (same_key (Refs n)) keys then refs n else list_in (value_of name_order pointers n))
-  pub bearers_are : (l : Lnam) → list_in (value_of identity_order held l) ≡ (if list_any (same_key (Foid l)) keys then names l else list_in (value_of identity_order bearers l))
+pub record ArePut (keys : List Key) (refs : RecName → List Ref) (names : Lnam → List RecName) (pointers now : List (RecName × List Ref))
+    (bearers held : List (Lnam × List RecName)) : Type 0 where
+  pub pointers_are : (n : RecName) → list_in (value_of name_order now n) ≡
+      (if list_any (same_key (Refs n)) keys then refs n else list_in (value_of name_order pointers n))
+  pub bearers_are : (l : Lnam) → list_in (value_of identity_order held l) ≡
+      (if list_any (same_key (Foid l)) keys then names l else list_in (value_of identity_order bearers l))
 
 -- what edits make of the pointers and the bearers that are kept
 abbrev pub refs_after : List Edit → List (RecName × List Ref) → RecName → List Ref

@@ -26,13 +26,15 @@ mapped f [] ys = refl
 mapped f (x ∷ xs) ys = ap (λ rest. f x ∷ rest) (mapped f xs ys)
 
 -- the lines of rows are those of their findings
-lines_of_rows : (rows : List (Subject × List Finding)) → flat_map (λ (row : Subject × List Finding). map (finding_line row.0) row.1) rows ≡ map line_of (findings_of_rows rows)
+lines_of_rows : (rows : List (Subject × List Finding)) → flat_map (λ (row : Subject × List Finding). map (finding_line row.0) row.1) rows ≡
+    map line_of (findings_of_rows rows)
 lines_of_rows [] = refl
 lines_of_rows (row ∷ rows) =
     (λ i. row_lines_of row.0 row.1 i ++ lines_of_rows rows i) ∙ sym (mapped line_of (findings_of_row row) (findings_of_rows rows))
 
 shown_text : (shown : ℕ) (rows : List (Subject × List Finding))
-    → flat_map line_of (take shown (findings_of_rows rows)) ≡ flat_map (λ l. l) (take shown (flat_map (λ (row : Subject × List Finding). map (finding_line row.0) row.1) rows))
+    → flat_map line_of (take shown (findings_of_rows rows)) ≡ flat_map (λ l. l)
+    (take shown (flat_map (λ (row : Subject × List Finding). map (finding_line row.0) row.1) rows))
 shown_text shown rows =
     sym (flat_map-map (λ l. l) line_of (take shown (findings_of_rows rows)))
     ∙ ap (flat_map (λ l. l)) (sym (take-map line_of shown (findings_of_rows rows)) ∙ ap (take shown) (sym (lines_of_rows rows)))
@@ -41,8 +43,10 @@ abbrev headed : ℕ → ℕ → List ℕ
 headed base total = line (codes "list") (codes "seen" ∷ decimal base ∷ codes "findings" ∷ decimal total ∷ [])
 
 -- the lines of the first findings of all
-pub list_shown : (base shown total : ℕ) (c : Cell) (rows : List (Subject × List Finding)) (found : List SubjectFinding) (start first whole : List ℕ) → total ≡ finding_total c → rows ≡ all_findings c
-    → found ≡ take shown (findings_of_rows rows) → start ≡ [] → first ≡ start ++ headed base total → whole ≡ first ++ flat_map line_of found → whole ≡ list_lines base shown c
+pub list_shown : (base shown total : ℕ) (c : Cell) (rows : List (Subject × List Finding)) (found : List SubjectFinding)
+    (start first whole : List ℕ) → total ≡ finding_total c → rows ≡ all_findings c
+    → found ≡ take shown (findings_of_rows rows) → start ≡ [] → first ≡ start ++ headed base total → whole ≡ first ++ flat_map line_of found
+    → whole ≡ list_lines base shown c
 list_shown base shown total c rows found start first whole is_total is_rows is_found none is_first is_whole =
     is_whole
     ∙ (λ i. (is_first ∙ ap (λ text. text ++ headed base total) none) i ++ flat_map line_of (is_found i))
@@ -51,7 +55,8 @@ list_shown base shown total c rows found start first whole is_total is_rows is_f
     (shown_text shown (all_findings c))
 
 -- all findings are as many as there are
-pub all_shown : (c : Cell) (total : ℕ) (rows : List (Subject × List Finding)) (found : List SubjectFinding) → total ≡ finding_total c → rows ≡ all_findings c → found ≡ take total (findings_of_rows rows)
+pub all_shown : (c : Cell) (total : ℕ) (rows : List (Subject × List Finding)) (found : List SubjectFinding) → total ≡ finding_total c
+    → rows ≡ all_findings c → found ≡ take total (findings_of_rows rows)
     → found ≡ findings_of_rows (all_findings c)
 all_shown c total rows found is_total is_rows is_found =
     is_found

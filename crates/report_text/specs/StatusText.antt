@@ -3,7 +3,20 @@ use Rattle.std.specs.Prelude.{ℕ, List, [], ◌∷◌, codes}
 use Rattle.std.specs.Fmt.{decimal}
 use Rattle.text_spec.specs.Lines.{line}
 use Rattle.report_text.specs.declared.status.Status.{Status}
-use Rattle.report_text.specs.declared.status.Status.TheVariants.{Done, Usage, Absent, BadCell, BadScript, ReadFault, WriteFault, TooLarge, NoMemory, BadOrder, Stuck, TooManyFindings}
+use Rattle.report_text.specs.declared.status.Status.TheVariants.{
+  Done,
+  Usage,
+  Absent,
+  BadCell,
+  BadScript,
+  ReadFault,
+  WriteFault,
+  TooLarge,
+  NoMemory,
+  BadOrder,
+  Stuck,
+  TooManyFindings,
+}
 
 -- the exit status; 1 is left to the runtime
 abbrev pub status_number : Status → ℕ
@@ -25,8 +38,10 @@ abbrev pub status_line : Status → List ℕ
 status_line Done = []
 status_line Usage = line (codes "enc_cell: usage") []
 status_line (Absent name) = line (codes "enc_cell: absent") (name ∷ [])
-status_line (BadCell fault) = line (codes "enc_cell: bad cell") (codes "record" ∷ decimal fault.number ∷ codes "offset" ∷ decimal fault.offset ∷ codes "code" ∷ decimal fault.code ∷ [])
-status_line (BadScript session place code) = line (codes "enc_cell: bad script") (codes "session" ∷ decimal session ∷ codes "line" ∷ decimal place ∷ codes "code" ∷ decimal code ∷ [])
+status_line (BadCell fault) = line (codes "enc_cell: bad cell")
+    (codes "record" ∷ decimal fault.number ∷ codes "offset" ∷ decimal fault.offset ∷ codes "code" ∷ decimal fault.code ∷ [])
+status_line (BadScript session place code) = line (codes "enc_cell: bad script")
+    (codes "session" ∷ decimal session ∷ codes "line" ∷ decimal place ∷ codes "code" ∷ decimal code ∷ [])
 status_line (ReadFault name) = line (codes "enc_cell: read fault") (name ∷ [])
 status_line WriteFault = line (codes "enc_cell: write fault") []
 status_line (TooLarge name) = line (codes "enc_cell: too large") (name ∷ [])

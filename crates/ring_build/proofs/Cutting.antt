@@ -1,5 +1,47 @@
 -- The cut of a boundary: it is what the lengths of its loops say, and there is no other.
-use Rattle.std.proofs.Common.{◌≡◌, ℕ, zero, suc, ◌+◌, ◌-◌, ◌<◌, ◌≤◌, Bool, true, false, List, [], ◌∷◌, ◌++◌, length, map, take, drop, find, Option, None, Some, cond, All, refl, sym, ap, ◌∙◌, subst, eqb, eq-eqb, ne_eqb, sum_by, flat_map, append_assoc, append-nil, length-append, length-take, take-append-drop, arith}
+use Rattle.std.proofs.Common.{
+  ◌≡◌,
+  ℕ,
+  zero,
+  suc,
+  ◌+◌,
+  ◌-◌,
+  ◌<◌,
+  ◌≤◌,
+  Bool,
+  true,
+  false,
+  List,
+  [],
+  ◌∷◌,
+  ◌++◌,
+  length,
+  map,
+  take,
+  drop,
+  find,
+  Option,
+  None,
+  Some,
+  cond,
+  All,
+  refl,
+  sym,
+  ap,
+  ◌∙◌,
+  subst,
+  eqb,
+  eq-eqb,
+  ne_eqb,
+  sum_by,
+  flat_map,
+  append_assoc,
+  append-nil,
+  length-append,
+  length-take,
+  take-append-drop,
+  arith,
+}
 use Rattle.std.specs.Option.{option_map_or}
 use Rattle.std.proofs.lemmas.Bool.{and_parts, not-true, false≢true}
 use Rattle.std.proofs.lemmas.List.{drop_at, take_at, length-drop}
@@ -33,7 +75,8 @@ one_more m = omega arith
 loop_found : (block rest : List Arc) → is_loop block ≡ true → loop_length (block ++ rest) ≡ Some (length block)
 loop_found [] rest h = absurd (false≢true h)
 loop_found (a ∷ block) rest h =
-    sym (front_loop a (block ++ rest)) ∙ rw (same_name-self a.0) (returns_round a.0 a.1 1 block rest (sym (is_loop-round a block) ∙ h) ∙ ap Some (one_more (length block)))
+    sym (front_loop a (block ++ rest)) ∙ rw (same_name-self a.0) (returns_round a.0 a.1 1 block rest (sym (is_loop-round a block) ∙ h)
+    ∙ ap Some (one_more (length block)))
 
 -- where none is at the front, none is found
 none_found : (arcs : List Arc) → ((n : ℕ) → is_loop (take n arcs) ≡ false) → loop_length arcs ≡ None
@@ -49,7 +92,8 @@ none_here arcs n true h e =
 none_at_front : (arcs : List Arc) → loop_length arcs ≡ None → (n : ℕ) → is_loop (take n arcs) ≡ false
 none_at_front arcs h n = sym (sym (none_here arcs n (is_loop (take n arcs)) h refl))
 
-find_here : {X : Type 0} (p : X → Bool) (y : X) (ys : List X) (x : X) (b : Bool) → ((find p ys ≡ Some x) → p x ≡ true) → p y ≡ b → cond b (Some y) (find p ys) ≡ Some x → p x ≡ true
+find_here : {X : Type 0} (p : X → Bool) (y : X) (ys : List X) (x : X) (b : Bool) → ((find p ys ≡ Some x) → p x ≡ true) → p y ≡ b
+    → cond b (Some y) (find p ys) ≡ Some x → p x ≡ true
 find_here p y ys x true later e h = let same : y ≡ x = cc in ap p (sym same) ∙ e
 find_here p y ys x false later e h = later h
 
@@ -85,7 +129,8 @@ pub record Cutting (arcs : List Arc) : Type 0 where
   pub loops : All (λ piece. is_loop piece ≡ true) pieces
   pub no_more : loop_length rest ≡ None
 
-cutting_by : (most : ℕ) (arcs : List Arc) (found : Option ℕ) → ((rest : List Arc) → suc (length rest) ≤ most → Cutting rest) → length arcs ≤ most → loop_length arcs ≡ found → Cutting arcs
+cutting_by : (most : ℕ) (arcs : List Arc) (found : Option ℕ) → ((rest : List Arc) → suc (length rest) ≤ most → Cutting rest)
+    → length arcs ≤ most → loop_length arcs ≡ found → Cutting arcs
 cutting_by most arcs None shorter h e = record { pieces = []; rest = arcs; together = refl; loops = All-nil (λ piece. is_loop piece ≡ true); no_more = e }
 cutting_by most arcs (Some n) shorter h e =
     let front = front_is arcs n e in
@@ -110,7 +155,8 @@ some_length [] h = absurd (false≢true h)
 some_length (a ∷ piece) h = omega arith
 
 -- the lengths of the loops, by any cutting
-lengths_within : (most : ℕ) (pieces : List (List Arc)) (rest : List Arc) → All (λ piece. is_loop piece ≡ true) pieces → loop_length rest ≡ None → length (joined pieces ++ rest) ≤ most
+lengths_within : (most : ℕ) (pieces : List (List Arc)) (rest : List Arc) → All (λ piece. is_loop piece ≡ true) pieces → loop_length rest ≡ None
+    → length (joined pieces ++ rest) ≤ most
     → loop_lengths_within most (joined pieces ++ rest) ≡ map length pieces
 lengths_within zero [] rest loops no_more h = refl
 lengths_within (suc most) [] rest loops no_more h = rw no_more refl
@@ -125,10 +171,18 @@ lengths_within (suc most) (piece ∷ pieces) rest loops no_more h =
     ∙ ap (λ o. option_map_or (λ n. n ∷ loop_lengths_within most (drop n (piece ++ (joined pieces ++ rest)))) o []) found
     ∙ ap (λ z. length piece ∷ loop_lengths_within most z) left
     ∙ ap (λ z. length piece ∷ z) (lengths_within most pieces rest (All-tail (λ piece. is_loop piece ≡ true) piece pieces loops) no_more
-    (omega (arith, h, some_length piece loop, length-append (piece ++ joined pieces) rest, length-append piece (joined pieces), length-append (joined pieces) rest)))
+    (omega (
+      arith,
+      h,
+      some_length piece loop,
+      length-append (piece ++ joined pieces) rest,
+      length-append piece (joined pieces),
+      length-append (joined pieces) rest,
+    )))
 
 pub lengths_of : (arcs : List Arc) (c : Cutting arcs) (most : ℕ) → length arcs ≤ most → loop_lengths_within most arcs ≡ map length c.pieces
-lengths_of arcs c most h = ap (loop_lengths_within most) c.together ∙ lengths_within most c.pieces c.rest c.loops c.no_more (omega (arith, h, ap length c.together))
+lengths_of arcs c most h = ap (loop_lengths_within most) c.together ∙ lengths_within most c.pieces c.rest c.loops c.no_more
+    (omega (arith, h, ap length c.together))
 
 -- the lengths, taken off one after the other
 pub lengths_stop : (arcs : List Arc) → loop_length arcs ≡ None → loop_lengths arcs ≡ []
@@ -147,36 +201,45 @@ lengths_step (a ∷ arcs) n h =
 -- ---- the cut, by any loops and what is behind them
 sum_lengths : (pieces : List (List Arc)) → sum_by (λ n. n) (map length pieces) ≡ length (joined pieces)
 sum_lengths [] = refl
-sum_lengths (piece ∷ pieces) = sum_by-cons (λ n. n) (length piece) (map length pieces) ∙ ap (λ s. length piece + s) (sum_lengths pieces) ∙ sym (length-append piece (joined pieces))
+sum_lengths (piece ∷ pieces) = sum_by-cons (λ n. n) (length piece) (map length pieces) ∙ ap (λ s. length piece + s) (sum_lengths pieces)
+    ∙ sym (length-append piece (joined pieces))
 
 -- the cut by the lengths of the loops and the number of the pieces in them
 abbrev cut_at : List Arc → List ℕ → ℕ → RingCut
 cut_at arcs lengths done = cut_by lengths (cond (eqb done (length arcs)) None (Some (done + 1)))
 
-cut_is : (arcs : List Arc) (pieces : List (List Arc)) (rest : List Arc) → arcs ≡ joined pieces ++ rest → All (λ piece. is_loop piece ≡ true) pieces → loop_length rest ≡ None
+cut_is : (arcs : List Arc) (pieces : List (List Arc)) (rest : List Arc) → arcs ≡ joined pieces ++ rest
+    → All (λ piece. is_loop piece ≡ true) pieces → loop_length rest ≡ None
     → cut_of arcs ≡ cut_at arcs (map length pieces) (length (joined pieces))
 cut_is arcs pieces rest together loops no_more =
     let c : Cutting arcs = record { pieces = pieces; rest = rest; together = together; loops = loops; no_more = no_more } in
-    ap (λ lengths. cut_at arcs lengths (sum_by (λ n. n) lengths)) (lengths_of arcs c (length arcs) (omega arith)) ∙ ap (cut_at arcs (map length pieces)) (sum_lengths pieces)
+    ap (λ lengths. cut_at arcs lengths (sum_by (λ n. n) lengths)) (lengths_of arcs c (length arcs) (omega arith))
+    ∙ ap (cut_at arcs (map length pieces)) (sum_lengths pieces)
 
-whole_cut : (arcs : List Arc) (pieces : List (List Arc)) → arcs ≡ joined pieces → All (λ piece. is_loop piece ≡ true) pieces → cut_of arcs ≡ Whole (blocks_after 0 (map length pieces))
+whole_cut : (arcs : List Arc) (pieces : List (List Arc)) → arcs ≡ joined pieces → All (λ piece. is_loop piece ≡ true) pieces
+    → cut_of arcs ≡ Whole (blocks_after 0 (map length pieces))
 whole_cut arcs pieces together loops =
     cut_is arcs pieces [] (together ∙ sym (append-nil (joined pieces))) loops refl
-    ∙ ap (λ t. cut_by (map length pieces) (cond t None (Some (length (joined pieces) + 1)))) (eq-eqb (length (joined pieces)) (length arcs) (sym (ap length together)))
+    ∙ ap (λ t. cut_by (map length pieces) (cond t None (Some (length (joined pieces) + 1))))
+    (eq-eqb (length (joined pieces)) (length arcs) (sym (ap length together)))
 
-open_cut : (arcs : List Arc) (pieces : List (List Arc)) (rest : List Arc) → arcs ≡ joined pieces ++ rest → All (λ piece. is_loop piece ≡ true) pieces → loop_length rest ≡ None → 0 < length rest
+open_cut : (arcs : List Arc) (pieces : List (List Arc)) (rest : List Arc) → arcs ≡ joined pieces ++ rest
+    → All (λ piece. is_loop piece ≡ true) pieces → loop_length rest ≡ None → 0 < length rest
     → cut_of arcs ≡ OpenAt (length (joined pieces) + 1)
 open_cut arcs pieces rest together loops no_more some =
     cut_is arcs pieces rest together loops no_more
     ∙ ap (λ t. cut_by (map length pieces) (cond t None (Some (length (joined pieces) + 1))))
     (ne_eqb (length (joined pieces)) (length arcs) (λ e. omega (arith, e, some, ap length together, length-append (joined pieces) rest)))
 
-is_open : (arcs : List Arc) (pieces : List (List Arc)) (rest : List Arc) → arcs ≡ joined pieces ++ rest → All (λ piece. is_loop piece ≡ true) pieces → loop_length rest ≡ None → 0 < length rest
+is_open : (arcs : List Arc) (pieces : List (List Arc)) (rest : List Arc) → arcs ≡ joined pieces ++ rest
+    → All (λ piece. is_loop piece ≡ true) pieces → loop_length rest ≡ None → 0 < length rest
     → loops.OpenAt (length (joined pieces) + 1) arcs
 is_open arcs pieces rest together each no_more some =
     let before : length (joined pieces) ≡ length (joined pieces) + 1 - 1 = omega arith in
-    let front : take (length (joined pieces) + 1 - 1) arcs ≡ joined pieces = ap (take (length (joined pieces) + 1 - 1)) together ∙ take_at (joined pieces) rest _ before in
-    let behind : drop (length (joined pieces) + 1 - 1) arcs ≡ rest = ap (drop (length (joined pieces) + 1 - 1)) together ∙ drop_at (joined pieces) rest _ before in
+    let front : take (length (joined pieces) + 1 - 1) arcs ≡ joined pieces = ap (take (length (joined pieces) + 1 - 1)) together
+    ∙ take_at (joined pieces) rest _ before in
+    let behind : drop (length (joined pieces) + 1 - 1) arcs ≡ rest = ap (drop (length (joined pieces) + 1 - 1)) together
+    ∙ drop_at (joined pieces) rest _ before in
     record {
       before = pieces;
       from_one = omega arith;
@@ -185,12 +248,14 @@ is_open arcs pieces rest together each no_more some =
       open_here = λ n. ap (λ z. is_loop (take n z)) behind ∙ none_at_front rest no_more n;
     }
 
-cut_holds : (arcs : List Arc) (pieces : List (List Arc)) (rest : List Arc) → arcs ≡ joined pieces ++ rest → All (λ piece. is_loop piece ≡ true) pieces → loop_length rest ≡ None → IsCut arcs (cut_of arcs)
+cut_holds : (arcs : List Arc) (pieces : List (List Arc)) (rest : List Arc) → arcs ≡ joined pieces ++ rest
+    → All (λ piece. is_loop piece ≡ true) pieces → loop_length rest ≡ None → IsCut arcs (cut_of arcs)
 cut_holds arcs pieces [] together each no_more =
     let all = together ∙ append-nil (joined pieces) in
     subst (IsCut arcs) (sym (whole_cut arcs pieces all each)) (record { pieces = pieces; are_loops = record { joined = all; each = each }; placed = refl })
 cut_holds arcs pieces (a ∷ rest) together each no_more =
-    subst (IsCut arcs) (sym (open_cut arcs pieces (a ∷ rest) together each no_more (omega arith))) (is_open arcs pieces (a ∷ rest) together each no_more (omega arith))
+    subst (IsCut arcs) (sym (open_cut arcs pieces (a ∷ rest) together each no_more (omega arith)))
+    (is_open arcs pieces (a ∷ rest) together each no_more (omega arith))
 
 cut_alone : (arcs : List Arc) (other : RingCut) → IsCut arcs other → other ≡ cut_of arcs
 cut_alone arcs (Whole blocks) h = ap Whole h.placed ∙ sym (whole_cut arcs h.pieces h.are_loops.joined h.are_loops.each)
@@ -200,27 +265,34 @@ cut_alone arcs (OpenAt place) h =
     let from_one = h.from_one in
     let within = h.within in
     let same : place ≡ length (joined h.before) + 1 = omega (arith, from_one, within, ap length h.cut.joined, length-take (place - 1) arcs) in
-    ap OpenAt same ∙ sym (open_cut arcs h.before rest together h.cut.each (none_found rest h.open_here) (omega (arith, from_one, within, length-drop (place - 1) arcs)))
+    ap OpenAt same ∙ sym (open_cut arcs h.before rest together h.cut.each (none_found rest h.open_here)
+    (omega (arith, from_one, within, length-drop (place - 1) arcs)))
 
 -- what the lengths say is the cut, and there is no other
 pub only_cut : ComputedCutIsOnly
 only_cut arcs = let c = cutting arcs in record { holds = cut_holds arcs c.pieces c.rest c.together c.loops c.no_more; only = cut_alone arcs }
 
 -- ---- the cut, by the pieces that are done and the rest
-pub open_at : (arcs rest : List Arc) (done : ℕ) → loop_length rest ≡ None → done + sum_by (λ n. n) (loop_lengths rest) ≡ sum_by (λ n. n) (loop_lengths arcs) → done + length rest ≡ length arcs
+pub open_at : (arcs rest : List Arc) (done : ℕ) → loop_length rest ≡ None → done + sum_by (λ n. n) (loop_lengths rest) ≡
+    sum_by (λ n. n) (loop_lengths arcs) → done + length rest ≡ length arcs
     → 0 < length rest → OpenAt (done + 1) ≡ cut_of arcs
 open_at arcs rest done none counted left some =
     let sum : sum_by (λ n. n) (loop_lengths arcs) ≡ done = omega (arith, counted, ap (sum_by (λ n. n)) (lengths_stop rest none)) in
-    sym (ap (cut_at arcs (loop_lengths arcs)) sum ∙ ap (λ t. cut_by (loop_lengths arcs) (cond t None (Some (done + 1)))) (ne_eqb done (length arcs) (λ e. omega (arith, e, some, left))))
+    sym (ap (cut_at arcs (loop_lengths arcs)) sum ∙ ap (λ t. cut_by (loop_lengths arcs) (cond t None (Some (done + 1))))
+    (ne_eqb done (length arcs) (λ e. omega (arith, e, some, left))))
 
-pub whole_at : (arcs rest : List Arc) (blocks : List Block) (done : ℕ) → length rest ≡ 0 → blocks ++ blocks_after done (loop_lengths rest) ≡ blocks_after 0 (loop_lengths arcs)
+pub whole_at : (arcs rest : List Arc) (blocks : List Block) (done : ℕ) → length rest ≡ 0
+    → blocks ++ blocks_after done (loop_lengths rest) ≡ blocks_after 0 (loop_lengths arcs)
     → done + sum_by (λ n. n) (loop_lengths rest) ≡ sum_by (λ n. n) (loop_lengths arcs) → done + length rest ≡ length arcs → Whole blocks ≡ cut_of arcs
 whole_at arcs (a ∷ rest) blocks done none placed counted left = absurd (omega (arith, none))
 whole_at arcs [] blocks done none placed counted left =
     let sum : sum_by (λ n. n) (loop_lengths arcs) ≡ length arcs = omega (arith, counted, left) in
     ap Whole (sym (append-nil blocks) ∙ placed)
-    ∙ sym (ap (λ t. cut_by (loop_lengths arcs) (cond t None (Some (sum_by (λ n. n) (loop_lengths arcs) + 1)))) (eq-eqb (sum_by (λ n. n) (loop_lengths arcs)) (length arcs) sum))
+    ∙ sym (ap (λ t. cut_by (loop_lengths arcs) (cond t None (Some (sum_by (λ n. n) (loop_lengths arcs) + 1))))
+    (eq-eqb (sum_by (λ n. n) (loop_lengths arcs)) (length arcs) sum))
 
 -- what the first loop of the rest adds to the lengths
-pub lengths_sum : (rest after : List Arc) (n : ℕ) → loop_length rest ≡ Some n → after ≡ drop n rest → sum_by (λ n. n) (loop_lengths rest) ≡ n + sum_by (λ n. n) (loop_lengths after)
-lengths_sum rest after n found back = ap (sum_by (λ n. n)) (lengths_step rest n found) ∙ sum_by-cons (λ n. n) n (loop_lengths (drop n rest)) ∙ ap (λ z. n + sum_by (λ n. n) (loop_lengths z)) (sym back)
+pub lengths_sum : (rest after : List Arc) (n : ℕ) → loop_length rest ≡ Some n → after ≡ drop n rest
+    → sum_by (λ n. n) (loop_lengths rest) ≡ n + sum_by (λ n. n) (loop_lengths after)
+lengths_sum rest after n found back = ap (sum_by (λ n. n)) (lengths_step rest n found) ∙ sum_by-cons (λ n. n) n (loop_lengths (drop n rest))
+    ∙ ap (λ z. n + sum_by (λ n. n) (loop_lengths z)) (sym back)

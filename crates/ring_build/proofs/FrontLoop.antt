@@ -1,5 +1,38 @@
 -- The loop at the front of a boundary: found by one walk along it.
-use Rattle.std.proofs.Common.{◌≡◌, ℕ, suc, ◌+◌, ◌-◌, ◌<◌, ◌≤◌, Bool, true, false, not, ◌&&◌, ◌||◌, List, [], ◌∷◌, ◌++◌, length, map, take, drop, find, Option, None, Some, cond, refl, sym, ap, ◌∙◌, get_or, arith}
+use Rattle.std.proofs.Common.{
+  ◌≡◌,
+  ℕ,
+  suc,
+  ◌+◌,
+  ◌-◌,
+  ◌<◌,
+  ◌≤◌,
+  Bool,
+  true,
+  false,
+  not,
+  ◌&&◌,
+  ◌||◌,
+  List,
+  [],
+  ◌∷◌,
+  ◌++◌,
+  length,
+  map,
+  take,
+  drop,
+  find,
+  Option,
+  None,
+  Some,
+  cond,
+  refl,
+  sym,
+  ap,
+  ◌∙◌,
+  get_or,
+  arith,
+}
 use Rattle.std.specs.List.{list_any}
 use Rattle.std.specs.Cmp.Lexicographic.{pointwise}
 use Rattle.s57_types.specs.declared.name.RecName.{RecName}
@@ -37,11 +70,13 @@ last_closes true = refl
 last_closes false = refl
 
 closed_no_sooner : (start : RecName) (a : Arc) (rest : List Arc) →
-    (pointwise same_name (map (λ (b : Arc). b.1) (a ∷ rest)) (map (λ (b : Arc). b.0) rest ++ start ∷ []) && not (list_any (λ (b : Arc). same_name b.1 start) (take (length rest) (a ∷ rest))))
+    (pointwise same_name (map (λ (b : Arc). b.1) (a ∷ rest)) (map (λ (b : Arc). b.0) rest ++ start ∷ []) && not
+    (list_any (λ (b : Arc). same_name b.1 start) (take (length rest) (a ∷ rest))))
     ≡ goes_round start a.1 rest
 closed_no_sooner start a [] = last_closes (same_name a.1 start)
 closed_no_sooner start a (b ∷ rest) =
-    regroup (same_name a.1 b.0) (pointwise same_name (map (λ (b : Arc). b.1) (b ∷ rest)) (map (λ (b : Arc). b.0) rest ++ start ∷ [])) (same_name a.1 start) (list_any (λ (b : Arc). same_name b.1 start) (take (length rest) (b ∷ rest)))
+    regroup (same_name a.1 b.0) (pointwise same_name (map (λ (b : Arc). b.1) (b ∷ rest)) (map (λ (b : Arc). b.0) rest ++ start ∷ []))
+    (same_name a.1 start) (list_any (λ (b : Arc). same_name b.1 start) (take (length rest) (b ∷ rest)))
     ∙ ap (λ t. not (same_name a.1 start) && (same_name a.1 b.0 && t)) (closed_no_sooner start b rest)
 
 pub is_loop-round : (a : Arc) (rest : List Arc) → is_loop (a ∷ rest) ≡ goes_round a.0 a.1 rest
@@ -54,9 +89,11 @@ none_counted p n (x ∷ xs) h = rw (h n (omega arith)) (none_counted p (n + 1) x
 
 -- one piece on, by whether the chain has come back and whether it goes on
 round_further : (p : ℕ → Bool) (start node : RecName) (n : ℕ) (b : Arc) (rest : List Arc) (back meets : Bool)
-    → (((j m : ℕ) → m ≡ n + 1 + j → p m ≡ goes_round start b.1 (take j rest)) → find p ((n + 1) ∷ counted_from (n + 1 + 1) rest) ≡ cond (same_name b.1 start) (Some (n + 1)) (returns_at (n + 1) start b.1 rest))
+    → (((j m : ℕ) → m ≡ n + 1 + j → p m ≡ goes_round start b.1 (take j rest)) → find p ((n + 1) ∷ counted_from (n + 1 + 1) rest) ≡
+    cond (same_name b.1 start) (Some (n + 1)) (returns_at (n + 1) start b.1 rest))
     → ((j m : ℕ) → m ≡ n + j → p m ≡ goes_round start node (take j (b ∷ rest))) → same_name node start ≡ back → same_name node b.0 ≡ meets
-    → find p (n ∷ (n + 1) ∷ counted_from (n + 1 + 1) rest) ≡ cond back (Some n) (cond meets (cond (same_name b.1 start) (Some (n + 1)) (returns_at (n + 1) start b.1 rest)) None)
+    → find p (n ∷ (n + 1) ∷ counted_from (n + 1 + 1) rest) ≡ cond back (Some n)
+    (cond meets (cond (same_name b.1 start) (Some (n + 1)) (returns_at (n + 1) start b.1 rest)) None)
 round_further p start node n b rest true meets next h e f = rw (h 0 n (omega arith), e) refl
 round_further p start node n b rest false true next h e f =
     rw (h 0 n (omega arith), e) (next (λ j m is. h (suc j) m (omega (arith, is)) ∙ rw (e, f) refl))
@@ -74,7 +111,8 @@ round_counted p start node n (b ∷ rest) h =
 pub front_loop : (a : Arc) (rest : List Arc) → returns_at 0 a.0 a.0 (a ∷ rest) ≡ loop_length (a ∷ rest)
 front_loop a rest =
     ap (λ t. cond t (cond (same_name a.1 a.0) (Some 1) (returns_at 1 a.0 a.1 rest)) None) (same_name-self a.0)
-    ∙ sym (round_counted (λ n. is_loop (take n (a ∷ rest))) a.0 a.1 1 rest (λ j m is. ap (λ k. is_loop (take k (a ∷ rest))) (is ∙ one_more j) ∙ is_loop-round a (take j rest)))
+    ∙ sym (round_counted (λ n. is_loop (take n (a ∷ rest))) a.0 a.1 1 rest (λ j m is. ap (λ k. is_loop (take k (a ∷ rest))) (is ∙ one_more j)
+    ∙ is_loop-round a (take j rest)))
 
 pub front_loop_of : (xs : List Arc) (d : Arc) → 0 < length xs → returns_at 0 (get_or xs 0 d).0 (get_or xs 0 d).0 xs ≡ loop_length xs
 front_loop_of [] d h = absurd (omega (arith, h))

@@ -1,5 +1,28 @@
 -- The steps of a turn: how great each is, and their sum one point on.
-use Rattle.std.proofs.Common.{◌≡◌, ℕ, ◌+◌, ◌^◌, ◌<◌, ◌≤◌, ℤ, pos, negsuc, ◌+ℤ◌, ◌*ℤ◌, unsigned_abs, FitsSigned, List, [], ◌∷◌, ◌++◌, length, drop, get_or, w32, arith}
+use Rattle.std.proofs.Common.{
+  ◌≡◌,
+  ℕ,
+  ◌+◌,
+  ◌^◌,
+  ◌<◌,
+  ◌≤◌,
+  ℤ,
+  pos,
+  negsuc,
+  ◌+ℤ◌,
+  ◌*ℤ◌,
+  unsigned_abs,
+  FitsSigned,
+  List,
+  [],
+  ◌∷◌,
+  ◌++◌,
+  length,
+  drop,
+  get_or,
+  w32,
+  arith,
+}
 use Rattle.std.proofs.Math.Nat.{mul-le-mul}
 use Rattle.std.proofs.lemmas.Int.{ints, unsigned_abs-mul}
 use Rattle.std.proofs.lemmas.List.{at_drop_more}
@@ -20,11 +43,13 @@ step_back : (a : Point) → twice_area_step a a ≡ pos 0
 step_back a = omega (arith, ints)
 
 -- the sum along the points from the first to itself and on is the area
-pub from_first : (points : List Point) (d : Point) → 0 < length points → twice_area_along (get_or points 0 d ∷ (points ++ get_or points 0 d ∷ [])) ≡ signed_double_area points
+pub from_first : (points : List Point) (d : Point) → 0 < length points
+    → twice_area_along (get_or points 0 d ∷ (points ++ get_or points 0 d ∷ [])) ≡ signed_double_area points
 from_first [] d h = absurd (omega (arith, h))
 from_first (a ∷ rest) d h = omega (arith, ints, step_back a)
 
 -- the sum along what is left, one point on
 pub along_more : (points : List Point) (k : ℕ) (before first d : Point) → k < length points
-    → twice_area_along (before ∷ (drop k points ++ first ∷ [])) ≡ twice_area_step before (get_or points k d) +ℤ twice_area_along (get_or points k d ∷ (drop (k + 1) points ++ first ∷ []))
+    → twice_area_along (before ∷ (drop k points ++ first ∷ [])) ≡ twice_area_step before (get_or points k d) +ℤ twice_area_along
+    (get_or points k d ∷ (drop (k + 1) points ++ first ∷ []))
 along_more points k before first d h = at_drop_more (λ rest. twice_area_along (before ∷ (rest ++ first ∷ []))) points k d h

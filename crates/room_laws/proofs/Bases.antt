@@ -56,12 +56,15 @@ newest_cell c es = edited_from c (opening c) es refl ∙ ap (edited c) (sym (tak
 numbered : (h : History) (event : Event) (reply : Reply) → reply ≡ answer h event → IsNumbered h.commits reply
 numbered h event reply is = subst (IsNumbered h.commits) (sym is) (answer_numbered h event)
 
-moved : (h : History) (desk base : ℕ) (event : Event) (reply : Reply) → IsNumbered h.commits reply → (base_told (brief_of reply) base ≡ base) ⊎ (base_told (brief_of reply) base ≡ length (left_after desk event reply h).commits)
+moved : (h : History) (desk base : ℕ) (event : Event) (reply : Reply) → IsNumbered h.commits reply → (base_told (brief_of reply) base ≡ base)
+    ⊎ (base_told (brief_of reply) base ≡ length (left_after desk event reply h).commits)
 moved h desk base event (Viewed number findings) n = inr n
 moved h desk base event (Formed fault) n = inl refl
 moved h desk base event (Newer number name other edit) n = inl refl
 moved h desk base event (Refused refusal) n = inl refl
-moved h desk base event (Accepted number findings) n = inr (n ∙ sym (ap length (commits_left desk event (Accepted number findings) h) ∙ length-append h.commits (added_by desk event (Accepted number findings))))
+moved h desk base event (Accepted number findings) n = inr (n
+    ∙ sym (ap length (commits_left desk event (Accepted number findings) h) ∙ length-append h.commits
+    (added_by desk event (Accepted number findings))))
 
 -- an answer leaves a base where it is, or moves it to the newest commit
 pub base_moved : (h : History) (desk base : ℕ) (asked : Asked) (reply : Reply) → reply ≡ answer h (event_asked asked)
@@ -69,7 +72,8 @@ pub base_moved : (h : History) (desk base : ℕ) (asked : Asked) (reply : Reply)
 base_moved h desk base asked reply is = moved h desk base (event_asked asked) reply (numbered h (event_asked asked) reply is)
 
 -- and never moves it back
-pub base_grows : (h : History) (base : ℕ) (asked : Asked) (reply : Reply) → reply ≡ answer h (event_asked asked) → base ≤ length h.commits → base ≤ base_told (brief_of reply) base
+pub base_grows : (h : History) (base : ℕ) (asked : Asked) (reply : Reply) → reply ≡ answer h (event_asked asked) → base ≤ length h.commits
+    → base ≤ base_told (brief_of reply) base
 base_grows h base asked reply is b = ⊎_elim (λ (same : base_told (brief_of reply) base ≡ base). omega (arith, same))
     (λ (last : base_told (brief_of reply) base ≡ length (left_after 0 (event_asked asked) reply h).commits).
     let many = ap length (commits_left 0 (event_asked asked) reply h) ∙ length-append h.commits (added_by 0 (event_asked asked) reply) in

@@ -24,7 +24,8 @@ pub record IsMoved (c : Cell) (after : List Entry) (base : ℕ) (copy : Cell) : 
   pub within : base ≤ length (replayed c after).commits
   pub copy_is : copy ≡ cell_told c after base
 
-module _ (c : Cell) (before after : List Entry) (desk : ℕ) (asked : Asked) (base : ℕ) (copy : Cell) (within : base ≤ length (replayed c before).commits) (copy_is : copy ≡ cell_told c before base) where
+module _ (c : Cell) (before after : List Entry) (desk : ℕ) (asked : Asked) (base : ℕ) (copy : Cell)
+    (within : base ≤ length (replayed c before).commits) (copy_is : copy ≡ cell_told c before base) where
   abbrev h : History
   h = replayed c before
 

@@ -1,5 +1,40 @@
 -- Entries of sessions in one history, as a run of their scripts in the entries' order.
-use Rattle.std.proofs.Common.{◌≡◌, ◌==◌, ℕ, suc, ◌+◌, ◌≤◌, Bool, true, false, if◌then◌else◌, List, [], ◌∷◌, ◌++◌, length, map, filter, filter_map, fold, take, All, Option, Some, count_by, refl, sym, ap, ◌∙◌, subst, arith, append_assoc, append-nil, ◌⊎◌, ⊎_elim}
+use Rattle.std.proofs.Common.{
+  ◌≡◌,
+  ◌==◌,
+  ℕ,
+  suc,
+  ◌+◌,
+  ◌≤◌,
+  Bool,
+  true,
+  false,
+  if◌then◌else◌,
+  List,
+  [],
+  ◌∷◌,
+  ◌++◌,
+  length,
+  map,
+  filter,
+  filter_map,
+  fold,
+  take,
+  All,
+  Option,
+  Some,
+  count_by,
+  refl,
+  sym,
+  ap,
+  ◌∙◌,
+  subst,
+  arith,
+  append_assoc,
+  append-nil,
+  ◌⊎◌,
+  ⊎_elim,
+}
 use Rattle.std.specs.Prelude.{slice_get}
 use Rattle.std.specs.List.{cons_option, enumerate_from}
 use Rattle.std.specs.Option.{option_map}
@@ -13,7 +48,18 @@ use Rattle.s57_types.specs.declared.cell.Cell.{Cell}
 use Rattle.text_spec.specs.declared.command.Command.{Command}
 use Rattle.history_spec.specs.declared.entry.Entry.{Entry}
 use Rattle.history_spec.specs.declared.reply.Reply.{Reply}
-use Rattle.history_spec.specs.Entries.{AreInterleaved, AreToldFrom, AreAsked, order_of_entries, entries_of, entry_step, stepped, brief_of, base_told, event_asked}
+use Rattle.history_spec.specs.Entries.{
+  AreInterleaved,
+  AreToldFrom,
+  AreAsked,
+  order_of_entries,
+  entries_of,
+  entry_step,
+  stepped,
+  brief_of,
+  base_told,
+  event_asked,
+}
 use Rattle.history_spec.specs.Sessions.{Request, event_of, request_at, request_step, requests_of, script_of, replies_from, history_after}
 use Rattle.history_spec.specs.Steps.{History, opening, step, answer}
 use Rattle.room_laws.specs.Interleaved.{IsRunOfEntries, told_brief, entered_brief}
@@ -30,11 +76,13 @@ pub record IsRequested (nall base : ℕ) (requests : List Request) (place : ℕ)
   pub there : slice_get requests place ≡ Some request
   pub event : event_asked e.asked ≡ event_of nall base request
 
-asked_at : (nall base : ℕ) (rs : List Request) (xs : List Entry) (e : Entry) (ys : List Entry) → AreAsked nall base rs (xs ++ e ∷ ys) → IsRequested nall (later_base base xs) rs (length xs) e
+asked_at : (nall base : ℕ) (rs : List Request) (xs : List Entry) (e : Entry) (ys : List Entry) → AreAsked nall base rs (xs ++ e ∷ ys)
+    → IsRequested nall (later_base base xs) rs (length xs) e
 asked_at nall base [] [] e ys all = absurd all
 asked_at nall base [] (x ∷ xs) e ys all = absurd all
 asked_at nall base (r ∷ rs) [] e ys all = record { request = r; there = refl; event = all.0 }
-asked_at nall base (r ∷ rs) (x ∷ xs) e ys all = let i = asked_at nall (base_told x.brief base) rs xs e ys all.1 in record { request = i.request; there = i.there; event = i.event }
+asked_at nall base (r ∷ rs) (x ∷ xs) e ys all = let i = asked_at nall (base_told x.brief base) rs xs e ys all.1 in
+    record { request = i.request; there = i.there; event = i.event }
 
 pub same_number : (n : ℕ) → (n == n) ≡ true
 same_number n = grind (arith, nat_tests)
@@ -52,9 +100,11 @@ desk_count d es = sym (length-filter (λ other. other == d) (order_of_entries es
     by_entry : (es : List Entry) → length (filter (λ other. other == d) (order_of_entries es)) ≡ length (entries_of d es)
     by_entry [] = refl
     by_entry (e ∷ es) = ⊎_elim
-        (λ (t : (e.desk == d) ≡ true). ap (λ (b : Bool). length (if b then e.desk ∷ filter (λ other. other == d) (order_of_entries es) else filter (λ other. other == d) (order_of_entries es))) t
+        (λ (t : (e.desk == d) ≡ true). ap (λ (b : Bool). length
+        (if b then e.desk ∷ filter (λ other. other == d) (order_of_entries es) else filter (λ other. other == d) (order_of_entries es))) t
         ∙ (ap suc (by_entry es) ∙ ap (λ (b : Bool). length (if b then e ∷ entries_of d es else entries_of d es)) (sym t)))
-        (λ (t : (e.desk == d) ≡ false). ap (λ (b : Bool). length (if b then e.desk ∷ filter (λ other. other == d) (order_of_entries es) else filter (λ other. other == d) (order_of_entries es))) t
+        (λ (t : (e.desk == d) ≡ false). ap (λ (b : Bool). length
+        (if b then e.desk ∷ filter (λ other. other == d) (order_of_entries es) else filter (λ other. other == d) (order_of_entries es))) t
         ∙ (by_entry es ∙ ap (λ (b : Bool). length (if b then e ∷ entries_of d es else entries_of d es)) (sym t)))
         (cases_Bool (e.desk == d))
 
@@ -83,36 +133,50 @@ module _ (c : Cell) (scripts : List (List Command)) (entries : List Entry) (r : 
     level = level_left e.desk (event_asked e.asked) (answer h (event_asked e.asked)) h ∙ p.level;
   }
     where
-      by_desk : (i : ℕ) → ((e.desk == i) ≡ true) ⊎ ((e.desk == i) ≡ false) → (if i == e.desk then base_told e.brief (h.bases e.desk) else h.bases i) ≡ later_base 0 (entries_of i (done ++ e ∷ []))
+      by_desk : (i : ℕ) → ((e.desk == i) ≡ true) ⊎ ((e.desk == i) ≡ false)
+          → (if i == e.desk then base_told e.brief (h.bases e.desk) else h.bases i) ≡ later_base 0 (entries_of i (done ++ e ∷ []))
       by_desk i = ⊎_elim
           (λ (t : (e.desk == i) ≡ true).
-          ap (λ (b : Bool). if b then base_told e.brief (h.bases e.desk) else h.bases i) (turned i e.desk ∙ t) ∙ (ap (base_told e.brief) (p.bases e.desk ∙ ap (λ n. later_base 0 (entries_of n done)) (eqb-true e.desk i t))
-          ∙ (sym (later_snoc 0 (entries_of i done) e) ∙ ap (later_base 0) (ap (λ (b : Bool). entries_of i done ++ (if b then e ∷ [] else [])) (sym t) ∙ sym (filter-append (λ (x : Entry). x.desk == i) done (e ∷ []))))))
+          ap (λ (b : Bool). if b then base_told e.brief (h.bases e.desk) else h.bases i) (turned i e.desk ∙ t)
+          ∙ (ap (base_told e.brief) (p.bases e.desk ∙ ap (λ n. later_base 0 (entries_of n done)) (eqb-true e.desk i t))
+          ∙ (sym (later_snoc 0 (entries_of i done) e) ∙ ap (later_base 0)
+          (ap (λ (b : Bool). entries_of i done ++ (if b then e ∷ [] else [])) (sym t)
+          ∙ sym (filter-append (λ (x : Entry). x.desk == i) done (e ∷ []))))))
           (λ (t : (e.desk == i) ≡ false).
           ap (λ (b : Bool). if b then base_told e.brief (h.bases e.desk) else h.bases i) (turned i e.desk ∙ t) ∙ (p.bases i
-          ∙ ap (later_base 0) (sym (append-nil (entries_of i done)) ∙ (ap (λ (b : Bool). entries_of i done ++ (if b then e ∷ [] else [])) (sym t) ∙ sym (filter-append (λ (x : Entry). x.desk == i) done (e ∷ []))))))
+          ∙ ap (later_base 0) (sym (append-nil (entries_of i done))
+          ∙ (ap (λ (b : Bool). entries_of i done ++ (if b then e ∷ [] else [])) (sym t)
+          ∙ sym (filter-append (λ (x : Entry). x.desk == i) done (e ∷ []))))))
 
   -- the request at the place of an entry
-  place_is : (done : List Entry) (h : History) (e : Entry) (rest : List Entry) → entries ≡ done ++ e ∷ rest → IsPoint done h → (1 ≤ e.desk) × (e.desk ≤ length scripts)
+  place_is : (done : List Entry) (h : History) (e : Entry) (rest : List Entry) → entries ≡ done ++ e ∷ rest → IsPoint done h
+      → (1 ≤ e.desk) × (e.desk ≤ length scripts)
       → (request : Request) × (request_at scripts Order (length done, e.desk) ≡ Some (e.desk, request)) × (request_step h (e.desk, request) ≡ entry_step h e)
   place_is done h e rest is p within =
       let d = e.desk in
-      let all = subst (AreAsked c.head.nall 0 (requests_of (script_of scripts d))) (ap (entries_of d) is ∙ (filter-append (λ (x : Entry). x.desk == d) done (e ∷ rest) ∙ ap (λ (l : List Entry). entries_of d done ++ l) (entries_cons e rest))) (r.each d within.0 within.1) in
+      let all = subst (AreAsked c.head.nall 0 (requests_of (script_of scripts d)))
+      (ap (entries_of d) is ∙ (filter-append (λ (x : Entry). x.desk == d) done (e ∷ rest) ∙ ap (λ (l : List Entry). entries_of d done ++ l)
+      (entries_cons e rest))) (r.each d within.0 within.1) in
       let q = asked_at c.head.nall 0 (requests_of (script_of scripts d)) (entries_of d done) e (entries_of d rest) all in
       let taken : take (length done) Order ≡ order_of_entries done =
       ap (λ (l : List Entry). take (length done) (order_of_entries l)) is ∙ (ap (take (length done)) (map-append (λ (x : Entry). x.desk) done (e ∷ rest))
-      ∙ (ap (λ n. take n (order_of_entries done ++ order_of_entries (e ∷ rest))) (sym (length-map done (λ (x : Entry). x.desk))) ∙ take-append_seam (order_of_entries done) (order_of_entries (e ∷ rest)))) in
-      let place : count_by (λ other. other == d) (take (length done) Order) ≡ length (entries_of d done) = ap (count_by (λ other. other == d)) taken ∙ desk_count d done in (
+      ∙ (ap (λ n. take n (order_of_entries done ++ order_of_entries (e ∷ rest))) (sym (length-map done (λ (x : Entry). x.desk)))
+      ∙ take-append_seam (order_of_entries done) (order_of_entries (e ∷ rest)))) in
+      let place : count_by (λ other. other == d) (take (length done) Order) ≡ length (entries_of d done) =
+      ap (count_by (λ other. other == d)) taken ∙ desk_count d done in (
         q.request,
-        ap (λ n. option_map (λ request. (d, request)) (slice_get (requests_of (script_of scripts d)) n)) place ∙ ap (option_map (λ request. (d, request))) q.there,
+        ap (λ n. option_map (λ request. (d, request)) (slice_get (requests_of (script_of scripts d)) n)) place
+            ∙ ap (option_map (λ request. (d, request))) q.there,
         ap (step h d) (ap (λ n. event_of n (h.bases d) q.request) p.level ∙ (ap (λ b. event_of c.head.nall b q.request) (p.bases d) ∙ sym q.event)),
       )
 
-  rest_is : (done : List Entry) (h : History) (rest : List Entry) → entries ≡ done ++ rest → IsPoint done h → AreToldFrom h rest → All (λ (e : Entry). (1 ≤ e.desk) × (e.desk ≤ length scripts)) rest → IsRest h done rest
+  rest_is : (done : List Entry) (h : History) (rest : List Entry) → entries ≡ done ++ rest → IsPoint done h → AreToldFrom h rest
+      → All (λ (e : Entry). (1 ≤ e.desk) × (e.desk ≤ length scripts)) rest → IsRest h done rest
   rest_is done h [] is p told numbers = record { state = refl; replies = refl }
   rest_is done h (e ∷ rest) is p told numbers =
       let q = place_is done h e rest is p (All-head (λ (e : Entry). (1 ≤ e.desk) × (e.desk ≤ length scripts)) e rest numbers) in
-      let more = rest_is (done ++ e ∷ []) (stepped h e) rest (is ∙ sym (append_assoc done (e ∷ []) rest)) (point_more done h e p told.0) told.1 (All-tail (λ (e : Entry). (1 ≤ e.desk) × (e.desk ≤ length scripts)) e rest numbers) in
+      let more = rest_is (done ++ e ∷ []) (stepped h e) rest (is ∙ sym (append_assoc done (e ∷ []) rest)) (point_more done h e p told.0) told.1
+      (All-tail (λ (e : Entry). (1 ≤ e.desk) × (e.desk ≤ length scripts)) e rest numbers) in
       let places : length done + 1 ≡ length (done ++ e ∷ []) = sym (length-append done (e ∷ [])) in
       let first : requests_behind done (e ∷ rest) ≡ (e.desk, q.0) ∷ requests_behind (done ++ e ∷ []) rest =
       ap (λ (o : Option (ℕ × Request)). cons_option o (filter_map (request_at scripts Order) (enumerate_from (length done + 1) (order_of_entries rest)))) q.1
@@ -124,4 +188,5 @@ module _ (c : Cell) (scripts : List (List Command)) (entries : List Entry) (r : 
       }
 
   pub run_of_entries : IsRunOfEntries c scripts entries
-  run_of_entries = let all = rest_is [] (opening c) entries refl (record { bases = λ i. refl; level = refl }) r.told r.numbers in record { state = all.state; replies = all.replies }
+  run_of_entries = let all = rest_is [] (opening c) entries refl (record { bases = λ i. refl; level = refl }) r.told r.numbers in
+      record { state = all.state; replies = all.replies }

@@ -41,7 +41,8 @@ commits_left desk event (reply.Newer number name other edit) h = sym (append-nil
 commits_left desk event (reply.Refused refusal) h = sym (append-nil h.commits)
 commits_left desk event (reply.Accepted number findings) h = refl
 
-pub cell_left : (desk : ℕ) (event : Event) (r : Reply) (h : History) → (left_after desk event r h).cell ≡ fold (λ d (a : AcceptedCommit). apply_edits a.edits d) h.cell (added_by desk event r)
+pub cell_left : (desk : ℕ) (event : Event) (r : Reply) (h : History) → (left_after desk event r h).cell ≡ fold
+    (λ d (a : AcceptedCommit). apply_edits a.edits d) h.cell (added_by desk event r)
 cell_left desk event (reply.Viewed number findings) h = refl
 cell_left desk event (reply.Formed fault) h = refl
 cell_left desk event (reply.Newer number name other edit) h = refl
@@ -72,7 +73,8 @@ module _ (c : Cell) (all : List AcceptedCommit) where
   now_at : (front : List AcceptedCommit) (rest : List AcceptedCommit) → all ≡ front ++ rest → at (length front) ≡ fold_edits c front
   now_at front rest is = ap (fold_edits c) (ap (take (length front)) is ∙ take-append_seam front rest)
 
-  one_part : (desk : ℕ) (a : Asked) (r : Reply) (h : History) (more : List AcceptedCommit) → h.cell ≡ fold_edits c h.commits → all ≡ (h.commits ++ added_by desk (event_asked a) r) ++ more
+  one_part : (desk : ℕ) (a : Asked) (r : Reply) (h : History) (more : List AcceptedCommit) → h.cell ≡ fold_edits c h.commits
+      → all ≡ (h.commits ++ added_by desk (event_asked a) r) ++ more
       → IsNumbered h.commits r → IsJudged h (event_asked a) r → texts (length h.commits + 1) (added_by desk (event_asked a) r) ≡ part_of desk a (brief_of r)
   one_part desk View (reply.Viewed number findings) h more cell is n j = refl
   one_part desk View (reply.Formed fault) h more cell is n j = refl
@@ -93,11 +95,14 @@ module _ (c : Cell) (all : List AcceptedCommit) where
       let front : List AcceptedCommit = h.commits ++ a ∷ [] in
       let many : length front ≡ length h.commits + 1 = length-append h.commits (a ∷ []) in
       let here : at (length h.commits + 1) ≡ apply_edits set.edits h.cell =
-      ap at (sym many) ∙ (now_at front more is ∙ (fold-append (λ d (a : AcceptedCommit). apply_edits a.edits d) c h.commits (a ∷ []) ∙ ap (apply_edits set.edits) (sym cell))) in
+      ap at (sym many) ∙ (now_at front more is ∙ (fold-append (λ d (a : AcceptedCommit). apply_edits a.edits d) c h.commits (a ∷ [])
+      ∙ ap (apply_edits set.edits) (sym cell))) in
       let total : finding_total (at (length h.commits + 1)) ≡ findings = ap (finding_total) here ∙ sym j.1 in
-      append-nil _ ∙ (λ i. line (codes "commit") (decimal (sym n i) ∷ codes "desk" ∷ decimal desk ∷ codes "findings" ∷ decimal (total i) ∷ []) ++ flat_map edit_line set.edits)
+      append-nil _ ∙ (λ i. line (codes "commit") (decimal (sym n i) ∷ codes "desk" ∷ decimal desk ∷ codes "findings" ∷ decimal (total i) ∷ [])
+      ++ flat_map edit_line set.edits)
 
-  parts : (h : History) (es : List Entry) → h.cell ≡ fold_edits c h.commits → all ≡ h.commits ++ added h es → AreToldFrom h es → texts (length h.commits + 1) (added h es) ≡ flat_map entry_part es
+  parts : (h : History) (es : List Entry) → h.cell ≡ fold_edits c h.commits → all ≡ h.commits ++ added h es → AreToldFrom h es
+      → texts (length h.commits + 1) (added h es) ≡ flat_map entry_part es
   parts h [] cell is told = refl
   parts h (e ∷ es) cell is told =
       let event = event_asked e.asked in
@@ -106,16 +111,19 @@ module _ (c : Cell) (all : List AcceptedCommit) where
       let more = added (stepped h e) es in
       let grown : (stepped h e).commits ≡ h.commits ++ now = commits_left e.desk event r h in
       let whole : all ≡ (h.commits ++ now) ++ more = is ∙ sym (append_assoc h.commits now more) in
-      let first : texts (length h.commits + 1) now ≡ entry_part e = one_part e.desk e.asked r h more cell whole (answer_numbered h event) (answer_judged h event) ∙ ap (part_of e.desk e.asked) (sym told.0) in
+      let first : texts (length h.commits + 1) now ≡ entry_part e =
+      one_part e.desk e.asked r h more cell whole (answer_numbered h event) (answer_judged h event) ∙ ap (part_of e.desk e.asked) (sym told.0) in
       let later : (stepped h e).cell ≡ fold_edits c (stepped h e).commits =
-      cell_left e.desk event r h ∙ (ap (λ (d : Cell). fold_edits d now) cell ∙ (sym (fold-append (λ d (a : AcceptedCommit). apply_edits a.edits d) c h.commits now) ∙ ap (fold_edits c) (sym grown))) in
+      cell_left e.desk event r h ∙ (ap (λ (d : Cell). fold_edits d now) cell
+      ∙ (sym (fold-append (λ d (a : AcceptedCommit). apply_edits a.edits d) c h.commits now) ∙ ap (fold_edits c) (sym grown))) in
       let rest = parts (stepped h e) es later (whole ∙ ap (λ (l : List AcceptedCommit). l ++ more) (sym grown)) told.1 in
       let place : length (stepped h e).commits + 1 ≡ length h.commits + 1 + length now = let l = ap length grown ∙ length-append h.commits now in omega arith in
       texts_append (length h.commits + 1) now more ∙ (λ i. first i ++ (ap (λ n. texts n more) (sym place) ∙ rest) i)
     where
       texts_append : (n : ℕ) (xs ys : List AcceptedCommit) → texts n (xs ++ ys) ≡ texts n xs ++ texts (n + length xs) ys
       texts_append n [] ys = ap (λ k. texts k ys) (omega arith)
-      texts_append n (x ∷ xs) ys = ap (λ (l : List ℕ). commit_text at (n, x) ++ l) (texts_append (n + 1) xs ys ∙ ap (λ k. texts (n + 1) xs ++ texts k ys) (omega arith))
+      texts_append n (x ∷ xs) ys = ap (λ (l : List ℕ). commit_text at (n, x) ++ l)
+          (texts_append (n + 1) xs ys ∙ ap (λ k. texts (n + 1) xs ++ texts k ys) (omega arith))
           ∙ sym (append_assoc (commit_text at (n, x)) (texts (n + 1) xs) (texts (n + suc (length xs)) ys))
 
 -- the parts of the accepted commits are those of the entries

@@ -1,5 +1,28 @@
 -- What a step leaves of bases and of the head.
-use Rattle.std.proofs.Common.{◌≡◌, ◌==◌, ℕ, ◌+◌, Bool, true, false, if◌then◌else◌, List, [], ◌∷◌, length, filter_map, drop, Option, Some, None, refl, sym, ap, ◌∙◌, ⊎_elim}
+use Rattle.std.proofs.Common.{
+  ◌≡◌,
+  ◌==◌,
+  ℕ,
+  ◌+◌,
+  Bool,
+  true,
+  false,
+  if◌then◌else◌,
+  List,
+  [],
+  ◌∷◌,
+  length,
+  filter_map,
+  drop,
+  Option,
+  Some,
+  None,
+  refl,
+  sym,
+  ap,
+  ◌∙◌,
+  ⊎_elim,
+}
 use Rattle.std.specs.List.{cons_option, enumerate_from}
 use Rattle.std.specs.Option.{option_map, option_map_or, option_and_then}
 use Rattle.std.proofs.lemmas.Bool.{cases_Bool, eqb-true}
@@ -16,7 +39,22 @@ use Rattle.history_spec.specs.declared.refusal.StateRefusal.{StateRefusal}
 use Rattle.history_spec.specs.declared.reply.Reply.{Reply}
 use Rattle.history_spec.specs.declared.reply.Reply.TheVariants.{Viewed, Formed, Newer, Refused, Accepted}
 use Rattle.history_spec.specs.Entries.{brief_of, base_told}
-use Rattle.history_spec.specs.Steps.{History, Event, AcceptedCommit, view, faulty, commit, answer, left_after, newer_answer, clash_with, first_of, contested_names, state_refusal, edits_asked}
+use Rattle.history_spec.specs.Steps.{
+  History,
+  Event,
+  AcceptedCommit,
+  view,
+  faulty,
+  commit,
+  answer,
+  left_after,
+  newer_answer,
+  clash_with,
+  first_of,
+  contested_names,
+  state_refusal,
+  edits_asked,
+}
 
 -- an edit leaves the head's level of national texts
 level_by : (h : CellHead) (edit : Option Edit) → (head_by h edit).nall ≡ h.nall
@@ -46,19 +84,23 @@ abbrev IsNumberedIf : List AcceptedCommit → Option Reply → Type 0
 IsNumberedIf commits None = Unit {0}
 IsNumberedIf commits (Some reply) = IsNumbered commits reply
 
-newer_of : (commits : List AcceptedCommit) (number desk : ℕ) (name : RecName) (edit : Option Edit) → IsNumberedIf commits (option_map (Newer number name desk) edit)
+newer_of : (commits : List AcceptedCommit) (number desk : ℕ) (name : RecName) (edit : Option Edit)
+    → IsNumberedIf commits (option_map (Newer number name desk) edit)
 newer_of commits number desk name None = tt
 newer_of commits number desk name (Some edit) = tt
 
-clash_of : (commits : List AcceptedCommit) (number : ℕ) (accepted : AcceptedCommit) (name : Option RecName) → IsNumberedIf commits (option_and_then (λ n. option_map (Newer number n accepted.desk) (edit_of n accepted.edits)) name)
+clash_of : (commits : List AcceptedCommit) (number : ℕ) (accepted : AcceptedCommit) (name : Option RecName)
+    → IsNumberedIf commits (option_and_then (λ n. option_map (Newer number n accepted.desk) (edit_of n accepted.edits)) name)
 clash_of commits number accepted None = tt
 clash_of commits number accepted (Some n) = newer_of commits number accepted.desk n (edit_of n accepted.edits)
 
-first_cons : (commits : List AcceptedCommit) (one : Option Reply) (rest : List Reply) → IsNumberedIf commits one → IsNumberedIf commits (first_of rest) → IsNumberedIf commits (first_of (cons_option one rest))
+first_cons : (commits : List AcceptedCommit) (one : Option Reply) (rest : List Reply) → IsNumberedIf commits one
+    → IsNumberedIf commits (first_of rest) → IsNumberedIf commits (first_of (cons_option one rest))
 first_cons commits None rest p q = q
 first_cons commits (Some reply) rest p q = p
 
-firsts : (commits : List AcceptedCommit) (edits : List Edit) (guards : List RecName) (told : List (ℕ × AcceptedCommit)) → IsNumberedIf commits (first_of (filter_map (clash_with edits guards) told))
+firsts : (commits : List AcceptedCommit) (edits : List Edit) (guards : List RecName) (told : List (ℕ × AcceptedCommit))
+    → IsNumberedIf commits (first_of (filter_map (clash_with edits guards) told))
 firsts commits edits guards [] = tt
 firsts commits edits guards (t ∷ ts) = first_cons commits (clash_with edits guards t) (filter_map (clash_with edits guards) ts)
     (clash_of commits t.0 t.1 (first_of (ascending name_order (contested_names edits guards t.1.edits)))) (firsts commits edits guards ts)
@@ -68,20 +110,23 @@ by_refusal : (h : History) (edits : List Edit) (refusal : Option StateRefusal)
 by_refusal h edits None = refl
 by_refusal h edits (Some refusal) = tt
 
-by_newer : (commits : List AcceptedCommit) (newer : Option Reply) (other : Reply) → IsNumberedIf commits newer → IsNumbered commits other → IsNumbered commits (option_map_or (λ reply. reply) newer other)
+by_newer : (commits : List AcceptedCommit) (newer : Option Reply) (other : Reply) → IsNumberedIf commits newer → IsNumbered commits other
+    → IsNumbered commits (option_map_or (λ reply. reply) newer other)
 by_newer commits None other p q = q
 by_newer commits (Some reply) other p q = p
 
 pub answer_numbered : (h : History) (event : Event) → IsNumbered h.commits (answer h event)
 answer_numbered h view = refl
 answer_numbered h (faulty fault) = tt
-answer_numbered h (commit base edits guards) = by_newer h.commits (newer_answer h.commits base edits guards) _ (firsts h.commits edits guards (drop base (enumerate_from 1 h.commits))) (by_refusal h edits (state_refusal h.cell edits))
+answer_numbered h (commit base edits guards) = by_newer h.commits (newer_answer h.commits base edits guards) _
+    (firsts h.commits edits guards (drop base (enumerate_from 1 h.commits))) (by_refusal h edits (state_refusal h.cell edits))
 
 same_base : (i desk : ℕ) (bases : ℕ → ℕ) → bases i ≡ (if i == desk then bases desk else bases i)
 same_base i desk bases = ⊎_elim (λ (e : (i == desk) ≡ true). ap bases (eqb-true i desk e) ∙ ap (λ (b : Bool). if b then bases desk else bases i) (sym e))
     (λ (e : (i == desk) ≡ false). ap (λ (b : Bool). if b then bases desk else bases i) (sym e)) (cases_Bool (i == desk))
 
-pub bases_left : (desk : ℕ) (event : Event) (reply : Reply) (h : History) (i : ℕ) → IsNumbered h.commits reply → (left_after desk event reply h).bases i ≡ (if i == desk then base_told (brief_of reply) (h.bases desk) else h.bases i)
+pub bases_left : (desk : ℕ) (event : Event) (reply : Reply) (h : History) (i : ℕ) → IsNumbered h.commits reply
+    → (left_after desk event reply h).bases i ≡ (if i == desk then base_told (brief_of reply) (h.bases desk) else h.bases i)
 bases_left desk event (Viewed number findings) h i is = refl
 bases_left desk event (Formed fault) h i is = same_base i desk h.bases
 bases_left desk event (Newer number name other edit) h i is = same_base i desk h.bases
@@ -113,7 +158,8 @@ newer_named : (number desk : ℕ) (name : RecName) (edit : Option Edit) → IsNe
 newer_named number desk name None = tt
 newer_named number desk name (Some edit) = tt
 
-newer_clash : (number : ℕ) (accepted : AcceptedCommit) (name : Option RecName) → IsNewer (option_and_then (λ n. option_map (Newer number n accepted.desk) (edit_of n accepted.edits)) name)
+newer_clash : (number : ℕ) (accepted : AcceptedCommit) (name : Option RecName)
+    → IsNewer (option_and_then (λ n. option_map (Newer number n accepted.desk) (edit_of n accepted.edits)) name)
 newer_clash number accepted None = tt
 newer_clash number accepted (Some n) = newer_named number accepted.desk n (edit_of n accepted.edits)
 
@@ -123,14 +169,16 @@ newer_first (Some r) rest p q = p
 
 newer_all : (edits : List Edit) (guards : List RecName) (told : List (ℕ × AcceptedCommit)) → IsNewer (first_of (filter_map (clash_with edits guards) told))
 newer_all edits guards [] = tt
-newer_all edits guards (t ∷ ts) = newer_first (clash_with edits guards t) (filter_map (clash_with edits guards) ts) (newer_clash t.0 t.1 (first_of (ascending name_order (contested_names edits guards t.1.edits)))) (newer_all edits guards ts)
+newer_all edits guards (t ∷ ts) = newer_first (clash_with edits guards t) (filter_map (clash_with edits guards) ts)
+    (newer_clash t.0 t.1 (first_of (ascending name_order (contested_names edits guards t.1.edits)))) (newer_all edits guards ts)
 
 judged_refusal : (h : History) (base : ℕ) (edits : List Edit) (guards : List RecName) (refusal : Option StateRefusal)
     → IsJudged h (commit base edits guards) (option_map_or Refused refusal (Accepted (length h.commits + 1) (finding_total (apply_edits edits h.cell))))
 judged_refusal h base edits guards None = (tt, refl)
 judged_refusal h base edits guards (Some refusal) = tt
 
-judged_newer : (h : History) (event : Event) (newer : Option Reply) (other : Reply) → IsNewer newer → IsJudged h event other → IsJudged h event (option_map_or (λ reply. reply) newer other)
+judged_newer : (h : History) (event : Event) (newer : Option Reply) (other : Reply) → IsNewer newer → IsJudged h event other
+    → IsJudged h event (option_map_or (λ reply. reply) newer other)
 judged_newer h event None other p q = q
 judged_newer h event (Some (Viewed number findings)) other p q = absurd p
 judged_newer h event (Some (Formed fault)) other p q = absurd p
@@ -141,4 +189,5 @@ judged_newer h event (Some (Accepted number findings)) other p q = absurd p
 pub answer_judged : (h : History) (event : Event) → IsJudged h event (answer h event)
 answer_judged h view = tt
 answer_judged h (faulty fault) = tt
-answer_judged h (commit base edits guards) = judged_newer h (commit base edits guards) (newer_answer h.commits base edits guards) _ (newer_all edits guards (drop base (enumerate_from 1 h.commits))) (judged_refusal h base edits guards (state_refusal h.cell edits))
+answer_judged h (commit base edits guards) = judged_newer h (commit base edits guards) (newer_answer h.commits base edits guards) _
+    (newer_all edits guards (drop base (enumerate_from 1 h.commits))) (judged_refusal h base edits guards (state_refusal h.cell edits))

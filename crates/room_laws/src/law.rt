@@ -21,7 +21,8 @@ pub fn entries_are_a_run()
 
 /// The report of a history that is kept as entries is that of the run in its entries' order, and so is the cell that is left.
 pub fn a_history_has_the_report_of_its_order()
-    ensures report { (c : Cell) (scripts : List (List Command)) (entries : List Entry) (texts : List (List ℕ)) → AreInterleaved c scripts entries → AreTranscripts c entries 1 scripts texts
+    ensures report { (c : Cell) (scripts : List (List Command)) (entries : List Entry) (texts : List (List ℕ)) → AreInterleaved c scripts entries
+        → AreTranscripts c entries 1 scripts texts
         → report c scripts (order_of_entries entries) ≡ entries_report c entries texts }
     ensures cell { (c : Cell) (scripts : List (List Command)) (entries : List Entry) → AreInterleaved c scripts entries
         → final_cell c scripts (order_of_entries entries) ≡ (replayed c entries).cell }
@@ -35,7 +36,8 @@ pub fn entries_tell_the_accepted_commits()
 
 /// The order of entries is an order of the scripts, and where there are few entries of each session there are few.
 pub fn entries_are_in_order()
-    ensures order { (c : Cell) (scripts : List (List Command)) (entries : List Entry) → AreInterleaved c scripts entries → IsOrder (quotas_of scripts) (order_of_entries entries) }
+    ensures order { (c : Cell) (scripts : List (List Command)) (entries : List Entry) → AreInterleaved c scripts entries
+        → IsOrder (quotas_of scripts) (order_of_entries entries) }
     ensures few { (most sessions : ℕ) (entries : List Entry) → All (λ (e : Entry). (1 ≤ e.desk) × (e.desk ≤ sessions)) entries
         → ((i : ℕ) → 1 ≤ i → i ≤ sessions → length (entries_of i entries) ≤ most) → length entries ≤ sessions * most }
 {}

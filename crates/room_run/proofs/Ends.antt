@@ -50,14 +50,16 @@ record IsDone (c : Cell) (entries : List Entry) (number : ℕ) (script : List Co
   asked : AreAsked c.head.nall 0 (requests_of script) (entries_of number entries)
   transcript : IsTranscript c entries number script k.session.lines
 
-is_done : (sticks : Type 0) (c : Cell) (entries : List Entry) (number : ℕ) (script : List Command) (k : Compiler) → IsLeft sticks c entries number script k → k.ended ≡ ended.Done → IsDone c entries number script k
+is_done : (sticks : Type 0) (c : Cell) (entries : List Entry) (number : ℕ) (script : List Command) (k : Compiler)
+    → IsLeft sticks c entries number script k → k.ended ≡ ended.Done → IsDone c entries number script k
 is_done sticks c entries number script k left done =
     let end : IsAtDesk k.desk k.session × (k.session.done ≡ script) = subst (IsEnd sticks script k.desk k.session) done left.over.end in
     let a = end.0 in
     let served = subst (λ o. IsServed o k.desk.seen a.entries k.desk.base k.session.done k.session.draft k.session.lines) left.opening a.served in
     let own : a.entries ≡ entries_of number entries = own_entries entries a.entries k.desk left.held a.own ∙ ap (λ n. entries_of n entries) left.number_is in
     record {
-      asked = subst (λ es. AreAsked c.head.nall 0 (requests_of script) es) own (subst (λ cs. AreAsked c.head.nall 0 (requests_of cs) a.entries) end.1 served.asked_are);
+      asked = subst (λ es. AreAsked c.head.nall 0 (requests_of script) es) own
+          (subst (λ cs. AreAsked c.head.nall 0 (requests_of cs) a.entries) end.1 served.asked_are);
       transcript = record {
         replies = served.replies;
         briefs = served.briefs ∙ ap (map (λ (e : Entry). e.brief)) own;
@@ -65,7 +67,8 @@ is_done sticks c entries number script k left done =
       };
     }
 
-few_own : (sticks : Type 0) (c : Cell) (entries : List Entry) (number : ℕ) (script : List Command) (k : Compiler) → IsLeft sticks c entries number script k → length script ≤ command_limit → length (entries_of number entries) ≤ command_limit
+few_own : (sticks : Type 0) (c : Cell) (entries : List Entry) (number : ℕ) (script : List Command) (k : Compiler)
+    → IsLeft sticks c entries number script k → length script ≤ command_limit → length (entries_of number entries) ≤ command_limit
 few_own sticks c entries number script k left short =
     let few = left.over.few in
     let own = ap length (own_entries entries few.entries k.desk left.held few.own ∙ ap (λ n. entries_of n entries) left.number_is) in
@@ -80,18 +83,24 @@ all_mapped P f [] all = All-nil P
 all_mapped P f (x ∷ xs) all = All-cons P (f x) (map f xs) (All-head (λ y. P (f y)) x xs all) (all_mapped P f xs (All-tail (λ y. P (f y)) x xs all))
 
 transcripts_by : (c : Cell) (entries : List Entry) (n : ℕ) (scripts : List (List Command)) (texts : List (List ℕ)) → length texts ≡ length scripts
-    → ((i : ℕ) → i < length scripts → IsTranscript c entries (n + i) (slice_index_or scripts i []) (slice_index_or texts i [])) → AreTranscripts c entries n scripts texts
+    → ((i : ℕ) → i < length scripts → IsTranscript c entries (n + i) (slice_index_or scripts i []) (slice_index_or texts i []))
+    → AreTranscripts c entries n scripts texts
 transcripts_by c entries n [] [] many each = tt
 transcripts_by c entries n [] (t ∷ texts) many each = absurd (omega (arith, many))
 transcripts_by c entries n (s ∷ scripts) [] many each = absurd (omega (arith, many))
 transcripts_by c entries n (s ∷ scripts) (t ∷ texts) many each = (
   subst (λ k. IsTranscript c entries k s t) (let same : n + 0 ≡ n = omega arith in same) (each 0 (omega arith)),
-  transcripts_by c entries (n + 1) scripts texts (omega (arith, many)) (λ i within. subst (λ k. IsTranscript c entries k (slice_index_or scripts i []) (slice_index_or texts i [])) (let same : n + suc i ≡ n + 1 + i = omega arith in same) (each (suc i) (omega (arith, within)))),
+  transcripts_by c entries (n + 1) scripts texts (omega (arith, many))
+      (λ i within. subst (λ k. IsTranscript c entries k (slice_index_or scripts i []) (slice_index_or texts i []))
+      (let same : n + suc i ≡ n + 1 + i = omega arith in same) (each (suc i) (omega (arith, within)))),
 )
 
-module _ (sticks : Type 0) (room : RoomState) (first : RoomId) (scripts : List (List Command)) (ks new : List Compiler) (book : BookState) (outcomes : List Outcome)
-    (opened : AreOpened first scripts ks) (many : length new ≡ length ks) (run : (i : ℕ) (d : Compiler) → i < length ks → IsRun sticks (slice_index_or ks i d) (slice_index_or new i d))
-    (gathered : IsGathered room new book outcomes) (desks : room.desks ≡ length scripts) (short : All IsShortScript scripts) (few : length scripts ≤ session_limit) where
+module _ (sticks : Type 0) (room : RoomState) (first : RoomId) (scripts : List (List Command)) (ks new : List Compiler) (book : BookState)
+    (outcomes : List Outcome)
+    (opened : AreOpened first scripts ks) (many : length new ≡ length ks) (run : (i : ℕ) (d : Compiler) → i < length ks
+    → IsRun sticks (slice_index_or ks i d) (slice_index_or new i d))
+    (gathered : IsGathered room new book outcomes) (desks : room.desks ≡ length scripts) (short : All IsShortScript scripts)
+    (few : length scripts ≤ session_limit) where
   abbrev c : Cell
   c = first.opening
 
@@ -99,7 +108,8 @@ module _ (sticks : Type 0) (room : RoomState) (first : RoomId) (scripts : List (
   as_many = sym (length-map ks (λ (k : Compiler). k.session.script)) ∙ ap length opened.scripts_are
 
   script_is : (i : ℕ) (d : Compiler) → i < length ks → (slice_index_or ks i d).session.script ≡ slice_index_or scripts i []
-  script_is i d within = sym (get_or-map (λ (k : Compiler). k.session.script) ks i d [] within) ∙ ap (λ (l : List (List Command)). get_or l i []) opened.scripts_are
+  script_is i d within = sym (get_or-map (λ (k : Compiler). k.session.script) ks i d [] within)
+      ∙ ap (λ (l : List (List Command)). get_or l i []) opened.scripts_are
 
   left_at : (i : ℕ) (d : Compiler) → i < length new → IsLeft sticks c book.entries (suc i) (slice_index_or scripts i []) (slice_index_or new i d)
   left_at i d within =
@@ -109,7 +119,8 @@ module _ (sticks : Type 0) (room : RoomState) (first : RoomId) (scripts : List (
       record {
         opening = ap (λ (id : RoomId). id.opening) (r.same.room ∙ o.fresh.room_is);
         number_is = r.same.number ∙ o.number_is;
-        over = subst (λ script. IsOver sticks script (slice_index_or new i d).desk (slice_index_or new i d).session (slice_index_or new i d).ended) (script_is i d there) r.over;
+        over = subst (λ script. IsOver sticks script (slice_index_or new i d).desk (slice_index_or new i d).session
+            (slice_index_or new i d).ended) (script_is i d there) r.over;
         held = gathered.held i d within;
       }
 
@@ -124,14 +135,16 @@ module _ (sticks : Type 0) (room : RoomState) (first : RoomId) (scripts : List (
       let place : suc (i - 1) ≡ i = omega (arith, low) in
       let m = many in
       let n = as_many in
-      let one = few_own sticks c book.entries (suc (i - 1)) (slice_index_or scripts (i - 1) []) (slice_index_or new (i - 1) d) (left_at (i - 1) d (omega (arith, low, high, m, n))) (script_short scripts (i - 1) short) in
+      let one = few_own sticks c book.entries (suc (i - 1)) (slice_index_or scripts (i - 1) []) (slice_index_or new (i - 1) d)
+      (left_at (i - 1) d (omega (arith, low, high, m, n))) (script_short scripts (i - 1) short) in
       subst (λ n. length (entries_of n book.entries) ≤ command_limit) place one) in
       omega (arith, all, few)
 
   not_full : All (λ (k : Compiler). IsNotFull (outcome_of k)) new
   not_full = λ i d within full.
       let left = left_at i d within in
-      let seen : length (slice_index_or new i d).desk.seen ≡ entry_limit = subst (IsEnd sticks (slice_index_or scripts i []) (slice_index_or new i d).desk (slice_index_or new i d).session) full left.over.end in
+      let seen : length (slice_index_or new i d).desk.seen ≡ entry_limit =
+      subst (IsEnd sticks (slice_index_or scripts i []) (slice_index_or new i d).desk (slice_index_or new i d).session) full left.over.end in
       let all = prefix_length (slice_index_or new i d).desk.seen book.entries left.held.begins in
       let less = room_left d in omega (arith, seen, all, less)
 
@@ -147,7 +160,8 @@ module _ (sticks : Type 0) (room : RoomState) (first : RoomId) (scripts : List (
       let i = one.0 in
       let within : i < length new = (let a = one.1 in let b = ap length gathered.outcomes_are ∙ length-map new outcome_of in omega (arith, a, b)) in
       let left = left_at i d within in
-      let here : (slice_index_or new i d).ended ≡ ended.Stuck stuck = ap (λ (o : Outcome). o.ended) (sym (outcome_at i d (outcome_of d) within)) ∙ one.2 (outcome_of d) in
+      let here : (slice_index_or new i d).ended ≡ ended.Stuck stuck = ap (λ (o : Outcome). o.ended) (sym (outcome_at i d (outcome_of d) within))
+      ∙ one.2 (outcome_of d) in
       let how = subst (IsEnd sticks (slice_index_or scripts i []) (slice_index_or new i d).desk (slice_index_or new i d).session) here left.over.end in
       let desk : stuck.desk ≡ suc i = how.1 ∙ left.number_is in
       let m = many in
@@ -179,7 +193,8 @@ module _ (sticks : Type 0) (room : RoomState) (first : RoomId) (scripts : List (
         let m = many in
         let n = as_many in
         let counted : length texts ≡ length scripts =
-        ap length done.texts_are ∙ length-map outcomes (λ (o : Outcome). o.session.lines) ∙ ap length gathered.outcomes_are ∙ length-map new outcome_of ∙ many ∙ as_many in
+        ap length done.texts_are ∙ length-map outcomes (λ (o : Outcome). o.session.lines) ∙ ap length gathered.outcomes_are
+        ∙ length-map new outcome_of ∙ many ∙ as_many in
         record {
           opening = ap (λ (b : BookState). b.opening) book_is ∙ opening;
           entries = subst (λ (b : BookState). Rattle.history_spec.specs.Entries.AreInterleaved c scripts b.entries) (sym book_is) (record {
@@ -187,7 +202,8 @@ module _ (sticks : Type 0) (room : RoomState) (first : RoomId) (scripts : List (
             numbers = numbers;
             each = λ i low high.
                 let place : suc (i - 1) ≡ i = omega (arith, low) in
-                subst (λ k. AreAsked c.head.nall 0 (requests_of (script_of scripts i)) (entries_of k book.entries)) place (done_at (i - 1) d (omega (arith, low, high, m, n))).asked;
+                subst (λ k. AreAsked c.head.nall 0 (requests_of (script_of scripts i)) (entries_of k book.entries)) place
+                (done_at (i - 1) d (omega (arith, low, high, m, n))).asked;
           });
           lines = subst (λ (b : BookState). AreTranscripts c b.entries 1 scripts held.transcripts.items) (sym book_is)
               (subst (AreTranscripts c book.entries 1 scripts) (sym texts_are)
@@ -195,5 +211,6 @@ module _ (sticks : Type 0) (room : RoomState) (first : RoomId) (scripts : List (
               (λ i within.
               let there : i < length new = omega (arith, within, m, n) in
               subst (IsTranscript c book.entries (1 + i) (slice_index_or scripts i [])) (sym (text_at i d there))
-              (subst (λ k. IsTranscript c book.entries k (slice_index_or scripts i []) (slice_index_or new i d).session.lines) (let same : suc i ≡ 1 + i = omega arith in same) (done_at i d there).transcript))));
+              (subst (λ k. IsTranscript c book.entries k (slice_index_or scripts i []) (slice_index_or new i d).session.lines)
+              (let same : suc i ≡ 1 + i = omega arith in same) (done_at i d there).transcript))));
         }

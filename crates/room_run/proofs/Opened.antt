@@ -19,16 +19,19 @@ new_at_desk room d s desk done draft lines =
       entries = [];
       own = refl;
       served = record {
-        asked_are = subst (λ cs. Rattle.history_spec.specs.Entries.AreAsked room.room.opening.head.nall 0 (Rattle.history_spec.specs.Sessions.requests_of cs) []) (sym done) tt;
+        asked_are = subst (λ cs. Rattle.history_spec.specs.Entries.AreAsked room.room.opening.head.nall 0
+            (Rattle.history_spec.specs.Sessions.requests_of cs) []) (sym done) tt;
         base_is = refl;
         draft_is = draft ∙ sym (ap (Rattle.history_spec.specs.Served.drafted no_draft) done);
         replies = [];
         briefs = refl;
-        lines_are = λ later p. lines ∙ sym (ap (λ cs. Rattle.history_spec.specs.ReportText.transcript_from (Rattle.history_spec.specs.EntriesReport.cell_told room.room.opening later) 0 0 cs []) done);
+        lines_are = λ later p. lines ∙ sym (ap (λ cs. Rattle.history_spec.specs.ReportText.transcript_from
+            (Rattle.history_spec.specs.EntriesReport.cell_told room.room.opening later) 0 0 cs []) done);
       };
     })
 
-pub opened_more : (room : RoomId) (scripts : List (List Command)) (ks : List Compiler) (script : List Command) (k : Compiler) → AreOpened room scripts ks → IsOpened room (suc (length ks)) k → k.session.script ≡ script
+pub opened_more : (room : RoomId) (scripts : List (List Command)) (ks : List Compiler) (script : List Command) (k : Compiler)
+    → AreOpened room scripts ks → IsOpened room (suc (length ks)) k → k.session.script ≡ script
     → AreOpened room (scripts ++ script ∷ []) (ks ++ k ∷ [])
 opened_more room scripts ks script k all one is = record {
   scripts_are = map-append (λ (x : Compiler). x.session.script) ks (k ∷ []) ∙ (λ i. all.scripts_are i ++ is i ∷ []);
@@ -51,7 +54,8 @@ pub all_fresh : (room : RoomId) (scripts : List (List Command)) (ks : List Compi
 all_fresh room scripts ks all = λ i d within. (all.each i d within).fresh
 
 -- the room of each desk stays
-pub all_in_room : (sticks : Type 0) (room : RoomId) (scripts : List (List Command)) (ks new : List Compiler) → AreOpened room scripts ks → length new ≡ length ks
+pub all_in_room : (sticks : Type 0) (room : RoomId) (scripts : List (List Command)) (ks new : List Compiler) → AreOpened room scripts ks
+    → length new ≡ length ks
     → ((i : ℕ) (d : Compiler) → i < length ks → IsRun sticks (slice_index_or ks i d) (slice_index_or new i d)) → All (λ (k : Compiler). k.desk.room ≡ room) new
 all_in_room sticks room scripts ks new all many run = λ i d within.
     let there : i < length ks = omega (arith, within, many) in

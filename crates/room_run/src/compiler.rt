@@ -5,14 +5,13 @@ ghost use Rattle.room_run.specs.Compilers.{IsAnswered, IsAtDesk, IsCut, IsHalted
 ghost use Rattle.text_spec.specs.ScriptLines.{is_shared};
 ghost use Rattle.workroom.specs.Desks.{IsSameDesk};
 
-use cell_bench::Prepared;
-use cell_spec::Rows;
 use edit_sets::FormRefusal;
 use enc_outside::{Meet, Stuck};
 use history_spec::Reply;
 use sessions::{Session, Shared};
 use std::alloc::{AllocError, Global};
 use std::sync::Wait;
+use std::thread::Threads;
 use workroom::{Desk, RoomRefusal, Workroom};
 
 /// How a session ended.
@@ -59,8 +58,8 @@ pub(crate) struct Compiler {
     pub(crate) ended: Ended,
 }
 
-/// Commits a session's draft, or tells the draft's fault of form.
-fn commit<R: Wait>(
+/// Commits a session's draft, of which all is checked before the desk waits for its turn, or tells the draft's fault of form.
+fn commit<R: Threads + Wait + Sync>(
     rt: &R,
     room: &Workroom,
     alloc: Global,
@@ -76,7 +75,9 @@ fn commit<R: Wait>(
     let nall = desk.bench().head().nall;
     match session.offer(alloc, nall) {
         Ok(set) => {
-            let prepared = Prepared::make(desk.base(), set, Rows::make(alloc));
+            let Ok(prepared) = desk.prepare(rt, alloc, set) else {
+                return Err(RoomRefusal::NoMemory { entered: false });
+            };
             room.commit(rt, alloc, desk, prepared)
         }
         Err(FormRefusal::Fault(fault)) => room.faulty(rt, alloc, desk, fault),
@@ -85,7 +86,7 @@ fn commit<R: Wait>(
 }
 
 /// Asks the log what the session's next command asks.
-fn ask<R: Wait>(
+fn ask<R: Threads + Wait + Sync>(
     rt: &R,
     room: &Workroom,
     alloc: Global,
@@ -106,7 +107,7 @@ fn ask<R: Wait>(
 
 /// Does a session's commands up to its next one that all sessions see, and that one: it is asked of the log in the desk's turn, and its
 /// answer taken in.
-fn serve_next<R: Wait, M: Meet>(
+fn serve_next<R: Threads + Wait + Sync, M: Meet>(
     rt: &R,
     room: &Workroom,
     alloc: Global,
@@ -136,7 +137,7 @@ fn serve_next<R: Wait, M: Meet>(
 }
 
 /// Runs a session at its desk to its end.
-pub(crate) fn serve<R: Wait, M: Meet>(
+pub(crate) fn serve<R: Threads + Wait + Sync, M: Meet>(
     rt: &R,
     room: &Workroom,
     alloc: Global,

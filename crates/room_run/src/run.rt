@@ -71,7 +71,7 @@ fn open_all(
 }
 
 /// Runs one session to its end.
-fn run_one<R: Wait, M: Meet>(
+fn run_one<R: Threads + Wait + Sync, M: Meet>(
     rt: &R,
     room: &Workroom,
     alloc: Global,
@@ -109,7 +109,10 @@ fn run_threads<R: Threads + Wait + Sync, M: Meet + Sync>(
         rt,
         compilers,
         threads,
-        &|_, compiler: &mut Compiler| run_one(rt, room, alloc, meet, compiler),
+        &|_, compiler: &mut Compiler|
+            requires { IsFresh room.now.room compiler.old }
+            ensures { IsRun (M.sticks meet.entry.now) compiler.old compiler.new }
+        { run_one(rt, room, alloc, meet, compiler) },
     );
 }
 

@@ -1,5 +1,39 @@
 -- The runs of the blocks, and the rows that they are seen as.
-use Rattle.std.proofs.Common.{◌≡◌, ℕ, suc, ◌<◌, ◌≤◌, List, [], ◌∷◌, ◌++◌, length, set, insert, remove, take, drop, get_or, refl, sym, ap, subst, ◌∙◌, arith, All, Option, Some, None, is_some, IfNone, OnSome, false, true, true≢false, Bor}
+use Rattle.std.proofs.Common.{
+  ◌≡◌,
+  ℕ,
+  suc,
+  ◌<◌,
+  ◌≤◌,
+  List,
+  [],
+  ◌∷◌,
+  ◌++◌,
+  length,
+  set,
+  insert,
+  remove,
+  take,
+  drop,
+  get_or,
+  refl,
+  sym,
+  ap,
+  subst,
+  ◌∙◌,
+  arith,
+  All,
+  Option,
+  Some,
+  None,
+  is_some,
+  IfNone,
+  OnSome,
+  false,
+  true,
+  true≢false,
+  Bor,
+}
 use Rattle.std.specs.Option.{option_copied}
 use Rattle.std.proofs.lemmas.List.{map-set, get_or-map, length-map, map-append, take-map, drop-map}
 use Rattle.std.proofs.lemmas.List.Elements.{All-set, All-append, All-cons, All-take, All-drop, All-push}
@@ -21,12 +55,15 @@ pub rows_of-set : {K V : Type 0} (runs : List (Run K V)) (place : ℕ) (run : Ru
 rows_of-set runs place run = map-set (λ run. run.rows) runs place run
 
 pub rows_of-insert : {K V : Type 0} (runs : List (Run K V)) (place : ℕ) (run : Run K V) → rows_of (insert runs place run) ≡ insert (rows_of runs) place run.rows
-rows_of-insert runs place run = map-append (λ run. run.rows) (take place runs) (run ∷ drop place runs) ∙ rw (take-map (λ (run : Run _ _). run.rows) place runs, drop-map (λ (run : Run _ _). run.rows) place runs) refl
+rows_of-insert runs place run = map-append (λ run. run.rows) (take place runs) (run ∷ drop place runs)
+    ∙ rw (take-map (λ (run : Run _ _). run.rows) place runs, drop-map (λ (run : Run _ _). run.rows) place runs) refl
 
 pub rows_of-remove : {K V : Type 0} (runs : List (Run K V)) (place : ℕ) → rows_of (remove runs place) ≡ remove (rows_of runs) place
-rows_of-remove runs place = map-append (λ run. run.rows) (take place runs) (drop (suc place) runs) ∙ rw (take-map (λ (run : Run _ _). run.rows) place runs, drop-map (λ (run : Run _ _). run.rows) (suc place) runs) refl
+rows_of-remove runs place = map-append (λ run. run.rows) (take place runs) (drop (suc place) runs)
+    ∙ rw (take-map (λ (run : Run _ _). run.rows) place runs, drop-map (λ (run : Run _ _). run.rows) (suc place) runs) refl
 
-pub filled_set : {K V : Type 0} (runs : List (Run K V)) (place : ℕ) (run : Run K V) → All IsFilled runs → 0 < length run.rows → length run.rows ≤ 256 → 256 ≤ run.room → All IsFilled (set runs place run)
+pub filled_set : {K V : Type 0} (runs : List (Run K V)) (place : ℕ) (run : Run K V) → All IsFilled runs → 0 < length run.rows
+    → length run.rows ≤ 256 → 256 ≤ run.room → All IsFilled (set runs place run)
 filled_set runs place run filled some few room = All-set IsFilled runs place run (record { some = some; few = few; room = room }) filled
 
 -- what is asked where there is no value holds where there is none
@@ -35,7 +72,8 @@ none_holds P None none asked = asked
 none_holds P (Some value) none asked = absurd (true≢false none)
 
 pub filled_remove : {K V : Type 0} (runs : List (Run K V)) (place : ℕ) → All IsFilled runs → All IsFilled (remove runs place)
-filled_remove runs place filled = All-append IsFilled (take place runs) (drop (suc place) runs) (All-take IsFilled place runs filled) (All-drop IsFilled (suc place) runs filled)
+filled_remove runs place filled = All-append IsFilled (take place runs) (drop (suc place) runs) (All-take IsFilled place runs filled)
+    (All-drop IsFilled (suc place) runs filled)
 
 pub nil_from_length : {X : Type 0} (xs : List X) → length xs ≡ 0 → xs ≡ []
 nil_from_length [] none = refl
@@ -52,15 +90,19 @@ replaced_none blocks place [] none = refl
 replaced_none blocks place (row ∷ rows) none = absurd (omega arith)
 
 -- a run of the reserve that takes the place of what stood in the list
-pub emptied : {K V : Type 0} (runs : List (Run K V)) (place : ℕ) (run taken : Run K V) → place < length runs → taken ≡ get_or (set runs place run) place taken → taken ≡ run
+pub emptied : {K V : Type 0} (runs : List (Run K V)) (place : ℕ) (run taken : Run K V) → place < length runs
+    → taken ≡ get_or (set runs place run) place taken → taken ≡ run
 emptied runs place run taken in_range is = is ∙ get_or-set_at runs place place run taken refl in_range
 
-pub empty_push : {K V : Type 0} (free : List (Run K V)) (run : Run K V) → All IsEmptyRun free → length run.rows ≡ 0 → 256 ≤ run.room → All IsEmptyRun (free ++ run ∷ [])
+pub empty_push : {K V : Type 0} (free : List (Run K V)) (run : Run K V) → All IsEmptyRun free → length run.rows ≡ 0 → 256 ≤ run.room
+    → All IsEmptyRun (free ++ run ∷ [])
 empty_push free run empty none room = All-push IsEmptyRun free run empty (record { none = nil_from_length run.rows none; room = room })
 
-pub filled_insert : {K V : Type 0} (runs : List (Run K V)) (place : ℕ) (run : Run K V) → All IsFilled runs → 0 < length run.rows → length run.rows ≤ 256 → 256 ≤ run.room → All IsFilled (insert runs place run)
+pub filled_insert : {K V : Type 0} (runs : List (Run K V)) (place : ℕ) (run : Run K V) → All IsFilled runs → 0 < length run.rows
+    → length run.rows ≤ 256 → 256 ≤ run.room → All IsFilled (insert runs place run)
 filled_insert runs place run filled some few room =
-    All-append IsFilled (take place runs) (run ∷ drop place runs) (All-take IsFilled place runs filled) (All-cons IsFilled run (drop place runs) (record { some = some; few = few; room = room }) (All-drop IsFilled place runs filled))
+    All-append IsFilled (take place runs) (run ∷ drop place runs) (All-take IsFilled place runs filled)
+    (All-cons IsFilled run (drop place runs) (record { some = some; few = few; room = room }) (All-drop IsFilled place runs filled))
 
 -- no rows are those of no run
 pub nil_from_rows : {K V : Type 0} (runs : List (Run K V)) → rows_of runs ≡ [] → runs ≡ []
@@ -70,7 +112,8 @@ nil_from_rows runs none = nil_from_length runs (sym (length-map runs (λ run. ru
 pub some_row : {K V : Type 0} (runs : List (Run K V)) → All IsFilled runs → (k : ℕ) → k < length (rows_of runs) → 0 < length (block_at (rows_of runs) k)
 some_row [] filled k lt = absurd (omega arith)
 some_row (run ∷ runs) filled k lt =
-    let at : block_at (rows_of (run ∷ runs)) k ≡ (get_or (run ∷ runs) k run).rows = get_or-map (λ r. r.rows) (run ∷ runs) k run [] (in_runs (run ∷ runs) k lt) in
+    let at : block_at (rows_of (run ∷ runs)) k ≡ (get_or (run ∷ runs) k run).rows =
+    get_or-map (λ r. r.rows) (run ∷ runs) k run [] (in_runs (run ∷ runs) k lt) in
     rw at (filled k run (in_runs (run ∷ runs) k lt)).some
 
 -- nothing is asked where there is a value
@@ -86,7 +129,8 @@ is_some-copied (Some value) = refl
 pub few_rows : {K V : Type 0} (runs : List (Run K V)) → All IsFilled runs → (k : ℕ) → k < length (rows_of runs) → length (block_at (rows_of runs) k) ≤ 256
 few_rows [] filled k lt = absurd (omega arith)
 few_rows (run ∷ runs) filled k lt =
-    let at : block_at (rows_of (run ∷ runs)) k ≡ (get_or (run ∷ runs) k run).rows = get_or-map (λ r. r.rows) (run ∷ runs) k run [] (in_runs (run ∷ runs) k lt) in
+    let at : block_at (rows_of (run ∷ runs)) k ≡ (get_or (run ∷ runs) k run).rows =
+    get_or-map (λ r. r.rows) (run ∷ runs) k run [] (in_runs (run ∷ runs) k lt) in
     rw at (filled k run (in_runs (run ∷ runs) k lt)).few
 
 -- what follows from what is asked where there is no value

@@ -1,5 +1,6 @@
 //! Rows in blocks of bounded size, and empty blocks held in reserve.
-ghost use Rattle.std.specs.Prelude.{◌≡◌, ℕ, ◌+◌, ◌*◌, ◌^◌, ◌<◌, ◌≤◌, [], ◌∷◌, length, All, insert, slice_get, slice_index_or, slice_set, Some, IfOk, IfNone, OnOk, is_some, if◌then◌else◌, vec_len, vec_capacity};
+ghost use Rattle.std.specs.Prelude.{◌≡◌, ℕ, ◌+◌, ◌*◌, ◌^◌, ◌<◌, ◌≤◌, [], ◌∷◌, length, All, insert, slice_get, slice_index_or, slice_set, Some, IfOk};
+ghost use Rattle.std.specs.Prelude.{IfNone, OnOk, is_some, if◌then◌else◌, vec_len, vec_capacity};
 ghost use Rattle.row_table.specs.Rows.{IsAscending, value_of, with_row, without_key, AreCopies};
 ghost use Rattle.row_table.specs.Blocks.{joined, block_at, rows_before, claim_of, replaced, halved, BlockList, IsEmptyRun, IsBlockFor, IsBlockAt};
 
@@ -29,7 +30,8 @@ impl<K: Ord, V> Model for Blocks<K, V> {
 
     ghost view = { λ b. record { blocks = rows_of b.runs.items; free = vec_len b.free } };
 
-    ghost invariant = { λ b. All IsFilled b.runs.items × All IsEmptyRun b.free.items × AreStarts (rows_of b.runs.items) b.starts.items × HasRoom (vec_len b.runs) (vec_len b.free) (vec_capacity b.runs) (vec_capacity b.starts) (vec_capacity b.free) };
+    ghost invariant = { λ b. All IsFilled b.runs.items × All IsEmptyRun b.free.items × AreStarts (rows_of b.runs.items) b.starts.items
+        × HasRoom (vec_len b.runs) (vec_len b.free) (vec_capacity b.runs) (vec_capacity b.starts) (vec_capacity b.free) };
 }
 
 impl<K: Ord + Drop, V: Drop> Blocks<K, V> {

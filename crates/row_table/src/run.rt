@@ -1,5 +1,6 @@
 //! A run of rows in ascending order of their keys, in one vector.
-ghost use Rattle.std.specs.Prelude.{◌≡◌, ◌+◌, ◌<◌, ◌≤◌, [], length, take, drop, slice_get, Some, IfOk, IfNone, MatchResult, OnOk, IsTrue, ◌↔◌, is_some, if◌then◌else◌, vec_len, vec_capacity};
+ghost use Rattle.std.specs.Prelude.{◌≡◌, ◌+◌, ◌<◌, ◌≤◌, [], length, take, drop, slice_get, Some, IfOk, IfNone, MatchResult, OnOk, IsTrue, ◌↔◌};
+ghost use Rattle.std.specs.Prelude.{is_some, if◌then◌else◌, vec_len, vec_capacity};
 ghost use Rattle.std.specs.Option.{option_copied};
 ghost use Rattle.row_table.specs.Rows.{Run, IsAscending, value_of, with_row, without_key, lower_bound, begins_by, AreCopies, IsRowAt, IsGapAt};
 

@@ -1,5 +1,6 @@
 //! The table in blocks of bounded size: its rows are those of the blocks, one block after another.
-ghost use Rattle.std.specs.Prelude.{◌≡◌, false, ◌+◌, ◌-◌, ◌*◌, ◌<◌, ◌≤◌, [], length, max, slice_get, Some, IfOk, IfNone, OnSome, OnOk, OnErr, is_some, if◌then◌else◌};
+ghost use Rattle.std.specs.Prelude.{◌≡◌, false, ◌+◌, ◌-◌, ◌*◌, ◌<◌, ◌≤◌, [], length, max, slice_get, Some, IfOk, IfNone, OnSome, OnOk, OnErr};
+ghost use Rattle.std.specs.Prelude.{is_some, if◌then◌else◌};
 ghost use Rattle.std.specs.Option.{option_copied};
 ghost use Rattle.std.specs.Ordering.{is_gt};
 ghost use Rattle.row_table.specs.Rows.{Table, IsAscending, value_of, with_row, without_key, lower_bound, AreCopies};
@@ -26,7 +27,8 @@ impl<K: Ord, V> Model for RowTable<K, V> {
 
     ghost view = { λ t. record { rows = joined t.blocks.blocks; spare = t.spare } };
 
-    ghost invariant = { λ t. IsAscending K.cmp (joined t.blocks.blocks) × (t.len ≡ length (joined t.blocks.blocks)) × (t.len + t.spare < 2 ^ 64) × IsCovered t.blocks.blocks t.blocks.free t.spare };
+    ghost invariant = { λ t. IsAscending K.cmp (joined t.blocks.blocks) × (t.len ≡ length (joined t.blocks.blocks)) × (t.len + t.spare < 2 ^ 64)
+        × IsCovered t.blocks.blocks t.blocks.free t.spare };
 }
 
 impl<K: Ord + Drop, V: Drop> RowTable<K, V> {

@@ -22,8 +22,10 @@ use Rattle.sample_cells.specs.Samples.{grid, closed_edge, used_by_line, accented
 -- a new node goes last, a replaced one keeps its place, and the list closes up where one is deleted
 abbrev pub EditsKeepPlaces : Type 0
 EditsKeepPlaces =
-    (map name_of (apply_edits (Add (node 9 (at 5 5)) ∷ Set (node 2 (at 7 7)) ∷ Add (node 8 (at 6 6)) ∷ Del (vc 3) ∷ []) grid).vc ≡ vc 1 ∷ vc 2 ∷ vc 4 ∷ vc 9 ∷ vc 8 ∷ []) ×
-    (map (λ edit. is_applicable (edit ∷ []) grid) (Add (node 1 (at 0 0)) ∷ Add (node 9 (at 0 0)) ∷ Set (node 9 (at 0 0)) ∷ Set (node 1 (at 0 0)) ∷ Del (vc 9) ∷ Del (vc 1) ∷ at_level One ∷ Del head_name ∷ [])
+    (map name_of (apply_edits (Add (node 9 (at 5 5)) ∷ Set (node 2 (at 7 7)) ∷ Add (node 8 (at 6 6)) ∷ Del (vc 3) ∷ []) grid).vc ≡
+    vc 1 ∷ vc 2 ∷ vc 4 ∷ vc 9 ∷ vc 8 ∷ []) ×
+    (map (λ edit. is_applicable (edit ∷ []) grid) (Add (node 1 (at 0 0)) ∷ Add (node 9 (at 0 0)) ∷ Set (node 9 (at 0 0)) ∷ Set
+    (node 1 (at 0 0)) ∷ Del (vc 9) ∷ Del (vc 1) ∷ at_level One ∷ Del head_name ∷ [])
     ≡ false ∷ true ∷ false ∷ true ∷ false ∷ true ∷ true ∷ false ∷ []) ×
     ((apply_edits (at_level One ∷ []) grid).head.aall ≡ 1) ×
     (length (all_records (apply_edits (at_level One ∷ []) grid)) ≡ length (all_records grid))
@@ -34,7 +36,8 @@ ReadsAreAsListed =
     (read_set grid (Rec (vc 1)) ≡ Name (vc 1) ∷ []) ×
     (read_set grid (Rec (ve 1)) ≡ Name (vc 1) ∷ Name (vc 2) ∷ Name (ve 1) ∷ []) ×
     (read_set accented_line (Rec (fe 1)) ≡ Name (ve 1) ∷ Name (fe 1) ∷ Name head_name ∷ []) ×
-    (read_set grid (Rec (fe 1)) ≡ Name (vc 1) ∷ Name (vc 2) ∷ Name (vc 3) ∷ Name (vc 4) ∷ Name (ve 1) ∷ Name (ve 2) ∷ Name (ve 3) ∷ Name (ve 4) ∷ Name (fe 1) ∷ Name head_name ∷ []) ×
+    (read_set grid (Rec (fe 1)) ≡ Name (vc 1) ∷ Name (vc 2) ∷ Name (vc 3) ∷ Name (vc 4) ∷ Name (ve 1) ∷ Name (ve 2) ∷ Name
+    (ve 3) ∷ Name (ve 4) ∷ Name (fe 1) ∷ Name head_name ∷ []) ×
     (read_set grid (Side (ve 1)) ≡ Name (ve 1) ∷ Name (fe 1) ∷ Name (fe 2) ∷ Refs (ve 1) ∷ []) ×
     (read_set grid (Pair (vc 1) (ve 1)) ≡ Name (vc 1) ∷ Name (vc 2) ∷ Name (ve 1) ∷ []) ×
     (read_set grid (Ident (lnam 7)) ≡ Foid (lnam 7) ∷ []) ×
@@ -67,11 +70,13 @@ abbrev pub AffectedAreTheSet : Type 0
 AffectedAreTheSet =
     (
     affected_list (change_by moved_nodes node_on_line)
-    ≡ Rec (vc 1) ∷ Rec (ve 1) ∷ Rec (vc 2) ∷ Pair (vc 1) (vc 2) ∷ Pair (vc 1) (vc 3) ∷ Pair (vc 1) (ve 1) ∷ Pair (vc 2) (ve 1) ∷ Pair (vc 3) (ve 1) ∷ Pair (vc 2) (vc 3) ∷ []
+    ≡ Rec (vc 1) ∷ Rec (ve 1) ∷ Rec (vc 2) ∷ Pair (vc 1) (vc 2) ∷ Pair (vc 1) (vc 3) ∷ Pair (vc 1) (ve 1) ∷ Pair (vc 2) (ve 1) ∷ Pair
+    (vc 3) (ve 1) ∷ Pair (vc 2) (vc 3) ∷ []
     ) ×
     (
     affected_subjects moved_nodes node_on_line
-    ≡ Rec (vc 1) ∷ Rec (vc 2) ∷ Rec (ve 1) ∷ Pair (vc 1) (vc 2) ∷ Pair (vc 1) (vc 3) ∷ Pair (vc 1) (ve 1) ∷ Pair (vc 2) (vc 3) ∷ Pair (vc 2) (ve 1) ∷ Pair (vc 3) (ve 1) ∷ []
+    ≡ Rec (vc 1) ∷ Rec (vc 2) ∷ Rec (ve 1) ∷ Pair (vc 1) (vc 2) ∷ Pair (vc 1) (vc 3) ∷ Pair (vc 1) (ve 1) ∷ Pair (vc 2) (vc 3) ∷ Pair
+    (vc 2) (ve 1) ∷ Pair (vc 3) (ve 1) ∷ []
     ) ×
     (affected_subjects (used_by_line ∷ []) closed_edge ≡ Rec (fe 1) ∷ Side (ve 1) ∷ Ident (lnam 1) ∷ []) ×
     (affected_subjects (Set (node 3 (at 5 500000)) ∷ []) node_on_line ≡ Rec (vc 3) ∷ Pair (vc 1) (vc 3) ∷ Pair (vc 2) (vc 3) ∷ Pair (vc 3) (ve 1) ∷ []) ×
@@ -95,11 +100,13 @@ HeadEditsAffectFeatures =
 abbrev pub moved_rows : List Row
 moved_rows =
     row (Pair (vc 3) (ve 1)) (finding 11 (1 ∷ []) ∷ []) (Name (vc 1) ∷ Name (vc 2) ∷ Name (vc 3) ∷ Name (ve 1) ∷ []) ∷
-    row (Pair (vc 2) (vc 3)) [] (Name (vc 2) ∷ Name (vc 3) ∷ []) ∷ row (Pair (vc 1) (vc 3)) [] (Name (vc 1) ∷ Name (vc 3) ∷ []) ∷ row (Rec (vc 3)) [] (Name (vc 3) ∷ []) ∷ []
+    row (Pair (vc 2) (vc 3)) [] (Name (vc 2) ∷ Name (vc 3) ∷ []) ∷ row (Pair (vc 1) (vc 3)) [] (Name (vc 1) ∷ Name (vc 3) ∷ []) ∷ row
+    (Rec (vc 3)) [] (Name (vc 3) ∷ []) ∷ []
 
 -- those rows, the orphan that a deletion leaves, and no row where the cell doesn't take the edit
 abbrev pub RowsAreAsListed : Type 0
 RowsAreAsListed =
     RowsAreExact (Set (node 3 (at 0 7)) ∷ []) node_on_line moved_rows ×
-    RowsAreExact (Del (fe 1) ∷ []) (apply_edits (used_by_line ∷ []) closed_edge) (row (Side (ve 1)) (finding 21 [] ∷ []) (Name (ve 1) ∷ Refs (ve 1) ∷ []) ∷ []) ×
+    RowsAreExact (Del (fe 1) ∷ []) (apply_edits (used_by_line ∷ []) closed_edge)
+    (row (Side (ve 1)) (finding 21 [] ∷ []) (Name (ve 1) ∷ Refs (ve 1) ∷ []) ∷ []) ×
     RowsAreExact (Del (vc 9) ∷ []) closed_edge []

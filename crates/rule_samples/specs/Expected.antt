@@ -8,7 +8,30 @@ use Rattle.cell_spec.specs.declared.key.Subject.{Subject}
 use Rattle.cell_spec.specs.declared.key.Subject.TheVariants.{Rec, Side, Pair, Ident}
 use Rattle.rule_spec.specs.Findings.{all_findings, finding, finding_total}
 use Rattle.sample_cells.specs.Parts.{head, vi, vc, ve, fe, lnam, at, node, edge, end_of, vector, outer, inner, feature, depth_area, square}
-use Rattle.sample_cells.specs.Samples.{empty_cell, grid, grid_after, dangling, closed_edge, used_by_line, accented_line, at_level, stacked_edge, diagonals, node_on_line, touching_edges, overlapping_edges, self_named, knotted_edges, misshapen, nodes_at_one_place, two_squares, ring_area, eight, faulty_features, truncated_square}
+use Rattle.sample_cells.specs.Samples.{
+  empty_cell,
+  grid,
+  grid_after,
+  dangling,
+  closed_edge,
+  used_by_line,
+  accented_line,
+  at_level,
+  stacked_edge,
+  diagonals,
+  node_on_line,
+  touching_edges,
+  overlapping_edges,
+  self_named,
+  knotted_edges,
+  misshapen,
+  nodes_at_one_place,
+  two_squares,
+  ring_area,
+  eight,
+  faulty_features,
+  truncated_square,
+}
 use Rattle.cell_spec.specs.Edits.{apply_edits}
 
 -- a subject with its findings
@@ -42,7 +65,8 @@ vector_samples =
     (dangling, (Rec (ve 2), finding 2 (1 ∷ 0 ∷ 1 ∷ []) ∷ finding 3 (1 ∷ []) ∷ []) ∷ orphan_edge 1 ∷ orphan_edge 2 ∷ []) ∷
     (closed_edge, orphan_edge 1 ∷ []) ∷ (
       wrong_ends,
-      (Rec (ve 2), finding 2 (1 ∷ 1 ∷ 5 ∷ []) ∷ finding 3 (2 ∷ []) ∷ finding 3 (3 ∷ []) ∷ finding 3 (4 ∷ []) ∷ finding 3 (5 ∷ []) ∷ []) ∷ orphan_edge 1 ∷ orphan_edge 2 ∷ [],
+      (Rec (ve 2), finding 2 (1 ∷ 1 ∷ 5 ∷ []) ∷ finding 3 (2 ∷ []) ∷ finding 3 (3 ∷ []) ∷ finding 3 (4 ∷ []) ∷ finding 3 (5 ∷ []) ∷ [])
+          ∷ orphan_edge 1 ∷ orphan_edge 2 ∷ [],
     ) ∷
     (stacked_edge, one (Rec (ve 1)) 4 (1 ∷ []) ∷ orphan_edge 1 ∷ []) ∷
     (self_named, (Rec (ve 1), finding 3 (1 ∷ []) ∷ finding 3 (2 ∷ []) ∷ []) ∷ orphan_edge 1 ∷ []) ∷
@@ -57,8 +81,11 @@ pair_samples =
       touching_edges,
       orphan_edge 1 ∷ orphan_edge 2 ∷ one (Pair (vc 1) (vc 2)) 10 [] ∷ one (Pair (vc 1) (ve 2)) 11 (1 ∷ []) ∷
           one (Pair (vc 2) (ve 1)) 11 (1 ∷ []) ∷ one (Pair (ve 1) (ve 2)) 8 (1 ∷ 1 ∷ []) ∷ [],
-    ) ∷
-    (overlapping_edges, orphan_edge 1 ∷ orphan_edge 2 ∷ orphan_edge 3 ∷ one (Pair (ve 1) (ve 2)) 8 (1 ∷ 2 ∷ []) ∷ one (Pair (ve 1) (ve 3)) 9 (1 ∷ 1 ∷ []) ∷ []) ∷ []
+    ) ∷ (
+      overlapping_edges,
+      orphan_edge 1 ∷ orphan_edge 2 ∷ orphan_edge 3 ∷ one (Pair (ve 1) (ve 2)) 8 (1 ∷ 2 ∷ []) ∷ one (Pair (ve 1) (ve 3)) 9
+          (1 ∷ 1 ∷ []) ∷ [],
+    ) ∷ []
 
 -- features and their boundaries
 abbrev pub feature_samples : List Sample
@@ -97,8 +124,10 @@ side_samples = (
 ) ∷
     (grid_after (Add (feature 4 3 2 30 [] truncated_square) ∷ []), []) ∷ (
       grid_after (Del (fe 2) ∷ Add (feature 4 3 2 30 [] truncated_square) ∷ []),
-      (Side (ve 1), finding 23 (0 ∷ 1 ∷ 0 ∷ 0 ∷ []) ∷ finding 24 (4 ∷ 4 ∷ []) ∷ []) ∷ (Side (ve 2), finding 23 (1 ∷ 0 ∷ 0 ∷ 0 ∷ []) ∷ finding 24 (4 ∷ 2 ∷ []) ∷ []) ∷
-          (Side (ve 3), finding 23 (1 ∷ 0 ∷ 0 ∷ 0 ∷ []) ∷ finding 24 (4 ∷ 1 ∷ []) ∷ []) ∷ (Side (ve 4), finding 23 (0 ∷ 1 ∷ 0 ∷ 0 ∷ []) ∷ finding 24 (4 ∷ 3 ∷ []) ∷ []) ∷ [],
+      (Side (ve 1), finding 23 (0 ∷ 1 ∷ 0 ∷ 0 ∷ []) ∷ finding 24 (4 ∷ 4 ∷ []) ∷ []) ∷
+          (Side (ve 2), finding 23 (1 ∷ 0 ∷ 0 ∷ 0 ∷ []) ∷ finding 24 (4 ∷ 2 ∷ []) ∷ []) ∷
+          (Side (ve 3), finding 23 (1 ∷ 0 ∷ 0 ∷ 0 ∷ []) ∷ finding 24 (4 ∷ 1 ∷ []) ∷ []) ∷
+          (Side (ve 4), finding 23 (0 ∷ 1 ∷ 0 ∷ 0 ∷ []) ∷ finding 24 (4 ∷ 3 ∷ []) ∷ []) ∷ [],
     ) ∷ []
 
 -- what is found in each cell is what stands beside it

@@ -30,7 +30,8 @@ accepted prim = map codes_of (filter (has_its_codes prim) all_spots)
 abbrev pub CodesFitTheTable : Type 0
 CodesFitTheTable =
     (accepted 1 ≡ (255, 255, 255) ∷ []) ×
-    (accepted 2 ≡ (1, 255, 1) ∷ (1, 255, 2) ∷ (1, 255, 255) ∷ (2, 255, 1) ∷ (2, 255, 2) ∷ (2, 255, 255) ∷ (255, 255, 1) ∷ (255, 255, 2) ∷ (255, 255, 255) ∷ []) ×
+    (accepted 2 ≡ (1, 255, 1) ∷ (1, 255, 2) ∷ (1, 255, 255) ∷ (2, 255, 1) ∷ (2, 255, 2) ∷ (2, 255, 255) ∷ (255, 255, 1) ∷
+    (255, 255, 2) ∷ (255, 255, 255) ∷ []) ×
     (accepted 3 ≡ (1, 1, 1) ∷ (1, 1, 2) ∷ (1, 1, 255) ∷ (1, 2, 1) ∷ (1, 2, 2) ∷ (1, 2, 255) ∷ (1, 3, 255) ∷
     (2, 1, 1) ∷ (2, 1, 2) ∷ (2, 1, 255) ∷ (2, 2, 1) ∷ (2, 2, 2) ∷ (2, 2, 255) ∷ (2, 3, 255) ∷ [])
 
@@ -40,7 +41,8 @@ covered attf = record { name = fe 2; prim = 3; grup = 2; objl = 302; rver = 1; f
 
 abbrev pub CoverageIsSaid : Type 0
 CoverageIsSaid =
-    map is_coverage_area (covered [] ∷ covered (catcov 49 ∷ []) ∷ covered (catcov 50 ∷ []) ∷ covered (catcov 50 ∷ catcov 49 ∷ []) ∷ covered (record { code = 18; value = 49 ∷ 49 ∷ [] } ∷ []) ∷ [])
+    map is_coverage_area (covered [] ∷ covered (catcov 49 ∷ []) ∷ covered (catcov 50 ∷ []) ∷ covered (catcov 50 ∷ catcov 49 ∷ []) ∷ covered
+    (record { code = 18; value = 49 ∷ 49 ∷ [] } ∷ []) ∷ [])
     ≡ false ∷ true ∷ false ∷ true ∷ false ∷ []
 
 -- from one connected node to another

@@ -2,7 +2,8 @@
 
 ghost use Rattle.rule_samples.specs.Expected.{AreFoundAs, vector_samples, pair_samples, feature_samples, side_samples, PlacedNodesCount};
 ghost use Rattle.rule_samples.specs.Tables.{CodesFitTheTable, CoverageIsSaid, BoundariesPartition, TilesDecideCandidates};
-ghost use Rattle.rule_samples.specs.Changes.{EditsKeepPlaces, ReadsAreAsListed, TouchedAreAsListed, AffectedAreAsListed, AffectedAreTheSet, HeadEditsAffectFeatures, RowsAreAsListed};
+ghost use Rattle.rule_samples.specs.Changes.{EditsKeepPlaces, ReadsAreAsListed, TouchedAreAsListed, AffectedAreAsListed, AffectedAreTheSet};
+ghost use Rattle.rule_samples.specs.Changes.{HeadEditsAffectFeatures, RowsAreAsListed};
 
 /// In each sample cell the rules find what stands beside it.
 pub fn samples_are_judged()

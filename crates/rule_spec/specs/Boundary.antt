@@ -1,5 +1,27 @@
 -- The boundary of an area (S-57 Part 3, 7.6.8; Appendix B.1): closed loops, one of them exterior and clockwise, the interior ones counterclockwise.
-use Rattle.std.specs.Prelude.{ℕ, ◌==◌, ◌&&◌, Bool, not, List, [], ◌∷◌, Option, length, map, filter, filter_map, flat_map, reverse, is_some, ℤ, pos, int_lt, option_map, if◌then◌else◌}
+use Rattle.std.specs.Prelude.{
+  ℕ,
+  ◌==◌,
+  ◌&&◌,
+  Bool,
+  not,
+  List,
+  [],
+  ◌∷◌,
+  Option,
+  length,
+  map,
+  filter,
+  filter_map,
+  flat_map,
+  reverse,
+  is_some,
+  ℤ,
+  pos,
+  int_lt,
+  option_map,
+  if◌then◌else◌,
+}
 use Rattle.std.specs.List.{enumerate_from, list_any, list_all}
 use Rattle.s57_types.specs.declared.record.Feature.{Feature}
 use Rattle.s57_types.specs.declared.record.Spot.{Spot}
@@ -20,7 +42,8 @@ abbrev pub line_along : ℕ → EdgeLine → EdgeLine
 line_along ornt line = if ornt == 2 then reversed_line line else line
 
 abbrev pub boundary_row : Cell → ℕ × Spot → Option BoundaryRow
-boundary_row c pointer = option_map (λ line. record { place = pointer.0; usag = pointer.1.usag; line = line_along pointer.1.ornt line }) (edge_line_of c (target pointer.1))
+boundary_row c pointer = option_map (λ line. record { place = pointer.0; usag = pointer.1.usag; line = line_along pointer.1.ornt line })
+    (edge_line_of c (target pointer.1))
 
 -- the rows of an area's boundary in the order of its spatial pointers
 unfoldable pub boundary_of : Cell → Feature → List BoundaryRow

@@ -33,7 +33,8 @@ abbrev pub line_between : Cell → Vector → Option RecName → Option RecName 
 line_between c e None last = None
 line_between c e (Some first) None = None
 line_between c e (Some first) (Some last) =
-    option_and_then (λ p. option_map (λ q. record { begins = first; ends = last; points = p ∷ (e.plane ++ q ∷ []) }) (node_position c last)) (node_position c first)
+    option_and_then (λ p. option_map (λ q. record { begins = first; ends = last; points = p ∷ (e.plane ++ q ∷ []) }) (node_position c last))
+    (node_position c first)
 
 -- the line of an edge: exactly one end has TOPI 1, exactly one has TOPI 2, and each of the two names a connected node of the cell with
 -- exactly one position

@@ -39,7 +39,8 @@ abbrev pub has_its_codes : ℕ → Spot → Bool
 has_its_codes prim s =
     if prim == 1 then (s.ornt == 255) && (s.usag == 255) && (s.mask == 255)
     else if prim == 2 then is_one_of (1 ∷ 2 ∷ 255 ∷ []) s.ornt && (s.usag == 255) && is_one_of (1 ∷ 2 ∷ 255 ∷ []) s.mask
-    else if prim == 3 then is_one_of (1 ∷ 2 ∷ []) s.ornt && ((is_one_of (1 ∷ 2 ∷ []) s.usag && is_one_of (1 ∷ 2 ∷ 255 ∷ []) s.mask) || ((s.usag == 3) && (s.mask == 255)))
+    else if prim == 3 then is_one_of (1 ∷ 2 ∷ []) s.ornt && ((is_one_of (1 ∷ 2 ∷ []) s.usag && is_one_of (1 ∷ 2 ∷ 255 ∷ []) s.mask) ||
+    ((s.usag == 3) && (s.mask == 255)))
     else true
 
 -- BadCodes: the indicators of a spatial pointer are outside that table; its place

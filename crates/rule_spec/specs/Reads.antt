@@ -31,13 +31,15 @@ end_keys_at c n = option_map_or end_keys (edge_named c n) []
 -- name; and its partners' identifiers
 abbrev pub feature_keys : Cell → Feature → List Key
 feature_keys c f =
-    Name head_name ∷ map (λ (s : Spot). Name s.to) f.places ++ (if f.prim == 3 then flat_map (λ (s : Spot). end_keys_at c s.to) f.places else []) ++ map (λ (p : Partner). Foid p.to) f.partners
+    Name head_name ∷ map (λ (s : Spot). Name s.to) f.places ++ (if f.prim == 3 then flat_map (λ (s : Spot). end_keys_at c s.to) f.places else [])
+    ++ map (λ (p : Partner). Foid p.to) f.partners
 
 -- what the findings about a record depend on, beside the record
 abbrev pub record_keys : Cell → RecName → List Key
 record_keys c n = Name n ∷ (end_keys_at c n ++ option_map_or (feature_keys c) (feature_named c n) [])
 
--- what the findings about a subject depend on: the record, the head for a feature, and the records that it names; for a side the edge, the pointers to it and the records that
+-- what the findings about a subject depend on: the record, the head for a feature, and the records that it names; for a side the edge, the
+-- pointers to it and the records that
 -- have them; for a pair both records' keys; for an identifier its bearers
 abbrev pub keys_read : Cell → Subject → List Key
 keys_read c (Rec n) = record_keys c n

@@ -1,6 +1,28 @@
 -- The areas at the two sides of an edge, and the features that bear an identifier (S-57 Appendix B.1, 3.10.1: Group 1 areas cover the
 -- area that has data without gaps and overlaps; Part 3, 4.3: identifiers are unique).
-use Rattle.std.specs.Prelude.{ℕ, ◌+◌, ◌-◌, ◌==◌, ◌&&◌, ◌||◌, Bool, not, List, [], ◌∷◌, Option, length, filter_map, find, count_by, nat_lt, slice_get, option_map, option_and_then, if◌then◌else◌}
+use Rattle.std.specs.Prelude.{
+  ℕ,
+  ◌+◌,
+  ◌-◌,
+  ◌==◌,
+  ◌&&◌,
+  ◌||◌,
+  Bool,
+  not,
+  List,
+  [],
+  ◌∷◌,
+  Option,
+  length,
+  filter_map,
+  find,
+  count_by,
+  nat_lt,
+  slice_get,
+  option_map,
+  option_and_then,
+  if◌then◌else◌,
+}
 use Rattle.std.specs.Option.{option_map_or}
 use Rattle.s57_types.specs.declared.name.RecName.{RecName}
 use Rattle.s57_types.specs.declared.name.Lnam.{Lnam}
@@ -17,7 +39,15 @@ use Rattle.rule_spec.specs.Rule.{Found, found_if}
 
 -- the use that a row of a feature's spatial pointers (FSPT) makes of an edge
 abbrev pub use_of_row : Ref → Feature → Spot → EdgeUse
-use_of_row pointer f row = record { pointer = pointer; is_area = f.prim == 3; is_group1 = is_group1_area f; is_coverage = is_coverage_area f; ornt = row.ornt; usag = row.usag }
+use_of_row pointer f row = record {
+  pointer = pointer;
+  is_area = f.prim == 3;
+  is_group1 = is_group1_area f;
+  is_coverage =
+      is_coverage_area f;
+  ornt = row.ornt;
+  usag = row.usag;
+}
 
 -- the use that a pointer to an edge is, if a feature has it
 abbrev pub use_by : Cell → Ref → Option EdgeUse

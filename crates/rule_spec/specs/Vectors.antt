@@ -1,5 +1,29 @@
 -- Rules on single nodes and edges, beside those on the ends of an edge.
-use Rattle.std.specs.Prelude.{ℕ, ◌+◌, ◌==◌, ◌&&◌, ◌||◌, Bool, true, false, not, List, [], ◌∷◌, Option, None, Some, length, map, flat_map, find, nat_lt, is_some, slice_index_or, if◌then◌else◌}
+use Rattle.std.specs.Prelude.{
+  ℕ,
+  ◌+◌,
+  ◌==◌,
+  ◌&&◌,
+  ◌||◌,
+  Bool,
+  true,
+  false,
+  not,
+  List,
+  [],
+  ◌∷◌,
+  Option,
+  None,
+  Some,
+  length,
+  map,
+  flat_map,
+  find,
+  nat_lt,
+  is_some,
+  slice_index_or,
+  if◌then◌else◌,
+}
 use Rattle.std.specs.List.{enumerate_from, position_from}
 use Rattle.std.specs.Option.{option_map_or}
 use Rattle.s57_types.specs.declared.name.Kind.TheVariants.{Vi, Vc}
@@ -80,7 +104,8 @@ first_wrong_meeting closed segments = find (meets_wrongly closed (length segment
 
 -- SelfMeet: an edge with points, none of them stacked, meets itself; the numbers of the least two segments
 abbrev pub self_meet_of : List Point → Found
-self_meet_of points = if is_some (stacked_segment points) then [] else found_pair (first_wrong_meeting (is_closed_line points) (enumerate_from 1 (segments_of points)))
+self_meet_of points = if is_some (stacked_segment points) then [] else found_pair
+    (first_wrong_meeting (is_closed_line points) (enumerate_from 1 (segments_of points)))
 
 abbrev pub self_meet : Cell → Vector → Found
 self_meet c e = option_map_or (λ line. self_meet_of line.points) (line_of c e) []

@@ -16,7 +16,8 @@ second_group names third None = refl
 second_group names third (Some y) = third_group (names ++ y.0) (cut_row third y.1)
 
 first_group : (second third : List Form) (first : Option (List Subfield × List ℕ))
-    → option_and_then (λ x. option_and_then (λ y. option_map (λ z. (x.0 ++ y.0 ++ z.0, z.1)) (cut_row third y.1)) (cut_row second x.1)) first ≡ then_cut third (then_cut second first)
+    → option_and_then (λ x. option_and_then (λ y. option_map (λ z. (x.0 ++ y.0 ++ z.0, z.1)) (cut_row third y.1)) (cut_row second x.1)) first ≡
+    then_cut third (then_cut second first)
 first_group second third None = refl
 first_group second third (Some x) = second_group x.0 third (cut_row second x.1)
 

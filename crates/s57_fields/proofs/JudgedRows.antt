@@ -20,7 +20,8 @@ summary_content good value None = refl
 summary_content good value (Some rows) = by_tests (list_all good rows) (list_all (list_all is_plain) rows)
   where
     by_tests : (g p : Bool)
-        → result_map_both (map value) (λ e. e) (cond (not g) (Err BadField) (cond (not p) (Err BadText) (Ok rows))) ≡ content_of_rows (cond g (Some (map value rows, p)) None)
+        → result_map_both (map value) (λ e. e) (cond (not g) (Err BadField) (cond (not p) (Err BadText) (Ok rows))) ≡ content_of_rows
+        (cond g (Some (map value rows, p)) None)
     by_tests true true = refl
     by_tests true false = refl
     by_tests false p = refl
@@ -31,7 +32,8 @@ one_more true true x xs p q = refl
 one_more true false x xs p q = refl
 one_more false h x xs p q = refl
 
-summary-rows_from : {X : Type 0} (forms : List Form) (good : List Subfield → Bool) (value : List Subfield → X) (n : ℕ) (b : List ℕ) → summary good value (cut_rows n forms b) ≡ rows_from forms good value n b
+summary-rows_from : {X : Type 0} (forms : List Form) (good : List Subfield → Bool) (value : List Subfield → X) (n : ℕ) (b : List ℕ)
+    → summary good value (cut_rows n forms b) ≡ rows_from forms good value n b
 unfolding rows_from
 summary-rows_from forms good value n [] = refl
 summary-rows_from forms good value zero (c ∷ b) = refl
@@ -47,11 +49,14 @@ summary-rows_from forms good value (suc n) (c ∷ b) = taken forms good value n 
     failed false x p = refl
 
     joined : {X : Type 0} (good : List Subfield → Bool) (value : List Subfield → X) (row : List Subfield) (rows : Option (List (List Subfield)))
-        → summary good value (option_map (λ others. row ∷ others) rows) ≡ cond (good row) (with_front (value row ∷ []) (list_all is_plain row) (summary good value rows)) None
+        → summary good value (option_map (λ others. row ∷ others) rows) ≡ cond (good row)
+        (with_front (value row ∷ []) (list_all is_plain row) (summary good value rows)) None
     joined good value row None = failed (good row) (value row) (list_all is_plain row)
-    joined good value row (Some rows) = one_more (good row) (list_all good rows) (value row) (map value rows) (list_all is_plain row) (list_all (list_all is_plain) rows)
+    joined good value row (Some rows) = one_more (good row) (list_all good rows) (value row) (map value rows) (list_all is_plain row)
+        (list_all (list_all is_plain) rows)
 
-    taken : {X : Type 0} (forms : List Form) (good : List Subfield → Bool) (value : List Subfield → X) (n : ℕ) → ((rest : List ℕ) → summary good value (cut_rows n forms rest) ≡ rows_from forms good value n rest)
+    taken : {X : Type 0} (forms : List Form) (good : List Subfield → Bool) (value : List Subfield → X) (n : ℕ)
+        → ((rest : List ℕ) → summary good value (cut_rows n forms rest) ≡ rows_from forms good value n rest)
         → (t : Option (List Subfield × List ℕ))
         → summary good value (option_and_then (λ x. option_map (λ rows. x.0 ∷ rows) (cut_rows n forms x.1)) t)
         ≡ rows_after (rows_from forms good value n) (option_and_then (λ x. cond (good x.0) (Some (value x.0, list_all is_plain x.0, x.1)) None) t)
@@ -62,7 +67,8 @@ summary-rows_from forms good value (suc n) (c ∷ b) = taken forms good value n 
         ∙ choose (good x.0) (value x.0) (list_all is_plain x.0) x.1 (rows_from forms good value n)
 
 -- a field of rows, by its bytes before the terminator
-pub rows_as-body : {X : Type 0} (value : List Subfield → X) (level : ℕ) (forms : List Form) (good : List Subfield → Bool) (bytes body : List ℕ) → body_at_level level bytes ≡ Some body
+pub rows_as-body : {X : Type 0} (value : List Subfield → X) (level : ℕ) (forms : List Form) (good : List Subfield → Bool) (bytes body : List ℕ)
+    → body_at_level level bytes ≡ Some body
     → rows_as value level forms good bytes ≡ content_of_rows (rows_from forms good value (length body) body)
 rows_as-body value level forms good bytes body is =
     ap (λ b. result_map_both (map value) (λ e. e) (judged good (option_and_then (λ c. cut_rows (length c) forms c) b))) is

@@ -1,5 +1,33 @@
 -- Rows that are cut one after the other, as a loop does.
-use Rattle.std.proofs.Common.{◌≡◌, ℕ, suc, ◌+◌, ◌-◌, ◌<◌, ◌≤◌, ◌&&◌, Bool, true, false, List, [], ◌∷◌, ◌++◌, length, take, set, Option, Some, None, refl, sym, ap, ◌∙◌, append_assoc, arith}
+use Rattle.std.proofs.Common.{
+  ◌≡◌,
+  ℕ,
+  suc,
+  ◌+◌,
+  ◌-◌,
+  ◌<◌,
+  ◌≤◌,
+  ◌&&◌,
+  Bool,
+  true,
+  false,
+  List,
+  [],
+  ◌∷◌,
+  ◌++◌,
+  length,
+  take,
+  set,
+  Option,
+  Some,
+  None,
+  refl,
+  sym,
+  ap,
+  ◌∙◌,
+  append_assoc,
+  arith,
+}
 use Rattle.std.proofs.lemmas.List.{append-nil, take_more_set}
 use Rattle.s57_types.specs.Subfield.{Form, Subfield}
 use Rattle.s57_fields.specs.RowCutting.{take_row, with_front, rows_after, rows_from}
@@ -19,7 +47,8 @@ with_front-with_front : {X : Type 0} (front : List X) (plain : Bool) (x : X) (is
     → with_front front plain (with_front (x ∷ []) is_plain rest) ≡ with_front (front ++ x ∷ []) (plain && is_plain) rest
 with_front-with_front front plain x is_plain None = refl
 with_front-with_front front plain x is_plain (Some rows) =
-    pair (front ++ (x ∷ rows.0)) ((front ++ x ∷ []) ++ rows.0) (plain && (is_plain && rows.1)) ((plain && is_plain) && rows.1) (simp append_assoc) (and_assoc plain is_plain rows.1)
+    pair (front ++ (x ∷ rows.0)) ((front ++ x ∷ []) ++ rows.0) (plain && (is_plain && rows.1)) ((plain && is_plain) && rows.1)
+    (simp append_assoc) (and_assoc plain is_plain rows.1)
 
 -- bytes that are left give the next row, of one row fewer
 rows_from-next : {X : Type 0} (forms : List Form) (good : List Subfield → Bool) (value : List Subfield → X) (j : ℕ) (rest : List ℕ) → 0 < length rest
@@ -29,33 +58,39 @@ rows_from-next forms good value j [] some = absurd (omega arith)
 rows_from-next forms good value j (c ∷ b) some = refl
 
 -- the next row, where so many rows are left
-next_is : {X : Type 0} (forms : List Form) (good : List Subfield → Bool) (value : List Subfield → X) (k j : ℕ) (rest : List ℕ) (taken : Option (X × Bool × List ℕ))
+next_is : {X : Type 0} (forms : List Form) (good : List Subfield → Bool) (value : List Subfield → X) (k j : ℕ) (rest : List ℕ)
+    (taken : Option (X × Bool × List ℕ))
     → 0 < length rest → k ≡ suc j → take_row forms good value rest ≡ taken → rows_from forms good value k rest ≡ rows_after (rows_from forms good value j) taken
 next_is forms good value k j rest taken some left is =
     ap (λ n. rows_from forms good value n rest) left ∙ rows_from-next forms good value j rest some ∙ ap (rows_after (rows_from forms good value j)) is
 
-pub goes_on : {X : Type 0} (forms : List Form) (good : List Subfield → Bool) (value : List Subfield → X) (front : List X) (plain : Bool) (total : Option (List X × Bool)) (k j : ℕ) (rest : List ℕ)
+pub goes_on : {X : Type 0} (forms : List Form) (good : List Subfield → Bool) (value : List Subfield → X) (front : List X)
+    (plain : Bool) (total : Option (List X × Bool)) (k j : ℕ) (rest : List ℕ)
     (x : X) (is_plain : Bool) (after : List ℕ)
-    → 0 < length rest → k ≡ suc j → take_row forms good value rest ≡ Some (x, is_plain, after) → with_front front plain (rows_from forms good value k rest) ≡ total
+    → 0 < length rest → k ≡ suc j → take_row forms good value rest ≡ Some (x, is_plain, after)
+    → with_front front plain (rows_from forms good value k rest) ≡ total
     → with_front (front ++ x ∷ []) (plain && is_plain) (rows_from forms good value j after) ≡ total
 goes_on forms good value front plain total k j rest x is_plain after some left taken so_far =
     sym (with_front-with_front front plain x is_plain (rows_from forms good value j after))
     ∙ sym (ap (with_front front plain) (next_is forms good value k j rest (Some (x, is_plain, after)) some left taken))
     ∙ so_far
 
-pub stops : {X : Type 0} (forms : List Form) (good : List Subfield → Bool) (value : List Subfield → X) (front : List X) (plain : Bool) (total : Option (List X × Bool)) (k j : ℕ) (rest : List ℕ)
+pub stops : {X : Type 0} (forms : List Form) (good : List Subfield → Bool) (value : List Subfield → X) (front : List X) (plain : Bool)
+    (total : Option (List X × Bool)) (k j : ℕ) (rest : List ℕ)
     → 0 < length rest → k ≡ suc j → take_row forms good value rest ≡ None → with_front front plain (rows_from forms good value k rest) ≡ total → total ≡ None
 stops forms good value front plain total k j rest some left taken so_far =
     sym so_far ∙ ap (with_front front plain) (next_is forms good value k j rest None some left taken)
 
-pub is_done : {X : Type 0} (forms : List Form) (good : List Subfield → Bool) (value : List Subfield → X) (front : List X) (plain : Bool) (total : Option (List X × Bool)) (k : ℕ) (rest : List ℕ)
+pub is_done : {X : Type 0} (forms : List Form) (good : List Subfield → Bool) (value : List Subfield → X) (front : List X)
+    (plain : Bool) (total : Option (List X × Bool)) (k : ℕ) (rest : List ℕ)
     → length rest ≡ 0 → with_front front plain (rows_from forms good value k rest) ≡ total → total ≡ Some (front, plain)
 unfolding rows_from
 is_done forms good value front plain total k [] none so_far = sym so_far ∙ pair (front ++ []) front (plain && true) plain (append-nil front) (and_true plain)
 is_done forms good value front plain total k (c ∷ b) none so_far = absurd (omega arith)
 
 -- the next row is written over a place
-pub writes_on : {X : Type 0} (forms : List Form) (good : List Subfield → Bool) (value : List Subfield → X) (rows : List X) (place : ℕ) (plain : Bool) (total : Option (List X × Bool)) (size : ℕ) (rest : List ℕ)
+pub writes_on : {X : Type 0} (forms : List Form) (good : List Subfield → Bool) (value : List Subfield → X) (rows : List X)
+    (place : ℕ) (plain : Bool) (total : Option (List X × Bool)) (size : ℕ) (rest : List ℕ)
     (x : X) (is_plain : Bool) (after : List ℕ)
     → place < length rows → length rest + place ≤ size → length after < length rest → take_row forms good value rest ≡ Some (x, is_plain, after)
     → with_front (take place rows) plain (rows_from forms good value (size - place) rest) ≡ total

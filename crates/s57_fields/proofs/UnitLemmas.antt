@@ -1,5 +1,34 @@
 -- The unit at which a text ends, by its place.
-use Rattle.std.proofs.Common.{◌≡◌, ℕ, suc, ◌+◌, ◌≤◌, ◌==◌, ◌&&◌, ◌||◌, Bool, true, false, cond, List, [], ◌∷◌, length, take, drop, slice_index, Option, Some, None, is_some, refl, sym, ap, ◌∙◌, arith}
+use Rattle.std.proofs.Common.{
+  ◌≡◌,
+  ℕ,
+  suc,
+  ◌+◌,
+  ◌≤◌,
+  ◌==◌,
+  ◌&&◌,
+  ◌||◌,
+  Bool,
+  true,
+  false,
+  cond,
+  List,
+  [],
+  ◌∷◌,
+  length,
+  take,
+  drop,
+  slice_index,
+  Option,
+  Some,
+  None,
+  is_some,
+  refl,
+  sym,
+  ap,
+  ◌∙◌,
+  arith,
+}
 use Rattle.std.specs.Option.{option_map}
 use Rattle.s57_types.specs.Subfield.{unit_terminator, has_unit}
 use Rattle.field_spec.specs.Cutting.{split_units}
@@ -20,7 +49,8 @@ pub goes_on : (low at : ℕ) (rest : List ℕ) (total : Option ℕ) → 2 ≤ le
     → option_map (λ i. i + at) (unit_place low rest) ≡ total → option_map (λ i. i + (at + 2)) (unit_place low (drop 2 rest)) ≡ total
 goes_on low at rest total some other so_far =
     sym (moved at (unit_place low (drop 2 rest)))
-    ∙ sym (ap (option_map (λ i. i + at)) (unit_place-step low rest some ∙ ap (λ t. cond t (Some 0) (option_map (λ i. i + 2) (unit_place low (drop 2 rest)))) other))
+    ∙ sym (ap (option_map (λ i. i + at)) (unit_place-step low rest some
+    ∙ ap (λ t. cond t (Some 0) (option_map (λ i. i + 2) (unit_place low (drop 2 rest)))) other))
     ∙ so_far
 
 pub found : (low at : ℕ) (rest : List ℕ) (total : Option ℕ) → 2 ≤ length rest → ((slice_index rest 0 == low) && (slice_index rest 1 == 0)) ≡ true
@@ -28,7 +58,8 @@ pub found : (low at : ℕ) (rest : List ℕ) (total : Option ℕ) → 2 ≤ leng
 found low at rest total some here so_far =
     let zero_at : at ≡ 0 + at = omega arith in
     ap Some zero_at
-    ∙ sym (ap (option_map (λ i. i + at)) (unit_place-step low rest some ∙ ap (λ t. cond t (Some 0) (option_map (λ i. i + 2) (unit_place low (drop 2 rest)))) here))
+    ∙ sym (ap (option_map (λ i. i + at)) (unit_place-step low rest some
+    ∙ ap (λ t. cond t (Some 0) (option_map (λ i. i + 2) (unit_place low (drop 2 rest)))) here))
     ∙ so_far
 
 pub not_found : (low at : ℕ) (rest : List ℕ) (total : Option ℕ) → length rest ≤ 1 → option_map (λ i. i + at) (unit_place low rest) ≡ total → None ≡ total
@@ -46,11 +77,13 @@ place_holds low (a ∷ b ∷ rest) = either ((a == low) && (b == 0)) (unit_place
     later None = refl
     later (Some i) = refl
 
-    either : (here : Bool) (place : Option ℕ) → is_some place ≡ has_unit low rest → is_some (cond here (Some 0) (option_map (λ i. i + 2) place)) ≡ (here || has_unit low rest)
+    either : (here : Bool) (place : Option ℕ) → is_some place ≡ has_unit low rest
+        → is_some (cond here (Some 0) (option_map (λ i. i + 2) place)) ≡ (here || has_unit low rest)
     either true place same = refl
     either false place same = later place ∙ same
 
-two_more : (c d i : ℕ) (rest : List ℕ) → (let a : List ℕ × List ℕ = (c ∷ d ∷ take i rest, drop (i + 2) rest) in let b : List ℕ × List ℕ = (take (i + 2) (c ∷ d ∷ rest), drop (i + 2 + 2) (c ∷ d ∷ rest)) in a ≡ b)
+two_more : (c d i : ℕ) (rest : List ℕ) → (let a : List ℕ × List ℕ = (c ∷ d ∷ take i rest, drop (i + 2) rest) in let b : List ℕ × List ℕ =
+    (take (i + 2) (c ∷ d ∷ rest), drop (i + 2 + 2) (c ∷ d ∷ rest)) in a ≡ b)
 two_more c d i rest =
     let two : i + 2 ≡ suc (suc i) = omega arith in
     let four : i + 2 + 2 ≡ suc (suc (i + 2)) = omega arith in
@@ -75,6 +108,7 @@ split_at_place (c ∷ d ∷ rest) = either ((c == unit_terminator) && (d == 0)) 
     later (Some i) = ap Some (two_more c d i rest)
 
     either : (here : Bool) (place : Option ℕ) → split_units rest ≡ option_map (parts rest) place
-        → cond here (Some ([], rest)) (option_map (behind c d) (split_units rest)) ≡ option_map (parts (c ∷ d ∷ rest)) (cond here (Some 0) (option_map (λ i. i + 2) place))
+        → cond here (Some ([], rest)) (option_map (behind c d) (split_units rest)) ≡ option_map (parts (c ∷ d ∷ rest))
+        (cond here (Some 0) (option_map (λ i. i + 2) place))
     either true place same = refl
     either false place same = ap (option_map (behind c d)) same ∙ later place

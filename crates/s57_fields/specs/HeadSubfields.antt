@@ -11,10 +11,12 @@ use Rattle.s57_fields.specs.declared.head.DsidProduct.{DsidProduct}
 
 abbrev pub dspm_subfields : DspmSubfields → List Subfield
 dspm_subfields d = unsigned_of 1 d.rcnm ∷ unsigned_of 4 d.rcid ∷ unsigned_of 1 d.hdat ∷ unsigned_of 1 d.vdat ∷ unsigned_of 1 d.sdat ∷ unsigned_of 4 d.cscl
-    ∷ unsigned_of 1 d.duni ∷ unsigned_of 1 d.huni ∷ unsigned_of 1 d.puni ∷ unsigned_of 1 d.coun ∷ unsigned_of 4 d.comf ∷ unsigned_of 4 d.somf ∷ text_of d.comt.now ∷ []
+    ∷ unsigned_of 1 d.duni ∷ unsigned_of 1 d.huni ∷ unsigned_of 1 d.puni ∷ unsigned_of 1 d.coun ∷ unsigned_of 4 d.comf ∷
+    unsigned_of 4 d.somf ∷ text_of d.comt.now ∷ []
 
 abbrev pub dsid_names : DsidNames → List Subfield
-dsid_names d = unsigned_of 1 d.rcnm ∷ unsigned_of 4 d.rcid ∷ unsigned_of 1 d.expp ∷ unsigned_of 1 d.intu ∷ text_of d.dsnm.now ∷ text_of d.edtn.now ∷ text_of d.updn.now ∷ []
+dsid_names d = unsigned_of 1 d.rcnm ∷ unsigned_of 4 d.rcid ∷ unsigned_of 1 d.expp ∷ unsigned_of 1 d.intu ∷ text_of d.dsnm.now
+    ∷ text_of d.edtn.now ∷ text_of d.updn.now ∷ []
 
 abbrev pub dsid_dates : DsidDates → List Subfield
 dsid_dates d = fixed_of d.uadt ∷ fixed_of d.isdt ∷ fixed_of d.sted ∷ []
@@ -37,4 +39,5 @@ dsid_product_forms = b11 ∷ text ∷ text ∷ b11 ∷ b12 ∷ text ∷ []
 
 -- three groups of forms one after the other
 abbrev pub cut_groups : List Form → List Form → List Form → List ℕ → Option (List Subfield × List ℕ)
-cut_groups first second third b = option_and_then (λ x. option_and_then (λ y. option_map (λ z. (x.0 ++ y.0 ++ z.0, z.1)) (cut_row third y.1)) (cut_row second x.1)) (cut_row first b)
+cut_groups first second third b = option_and_then (λ x. option_and_then (λ y. option_map (λ z. (x.0 ++ y.0 ++ z.0, z.1)) (cut_row third y.1))
+    (cut_row second x.1)) (cut_row first b)

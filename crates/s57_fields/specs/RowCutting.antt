@@ -9,7 +9,8 @@ use Rattle.field_spec.specs.declared.fault.FieldFault.TheVariants as fault
 
 -- the first row as a value, whether its texts are plain, and the bytes after it
 abbrev pub take_row : {X : Type 0} → List Form → (List Subfield → Bool) → (List Subfield → X) → List ℕ → Option (X × Bool × List ℕ)
-take_row {X} forms good value b = option_and_then (λ (x : List Subfield × List ℕ). if good x.0 then Some (value x.0, list_all is_plain x.0, x.1) else None) (cut_row forms b)
+take_row {X} forms good value b = option_and_then (λ (x : List Subfield × List ℕ). if good x.0 then Some
+    (value x.0, list_all is_plain x.0, x.1) else None) (cut_row forms b)
 
 -- values in front of more values, and whether all texts are plain
 abbrev pub with_front : {X : Type 0} → List X → Bool → Option (List X × Bool) → Option (List X × Bool)

@@ -3,7 +3,8 @@
 ghost use Rattle.std.specs.Prelude.{◌≡◌, ◌<◌, ◌++◌, MatchOption, IfSome, OnOk, OnErr, true, Ok, Err, [], ◌∷◌, length};
 ghost use Rattle.std.specs.Option.{option_map};
 ghost use Rattle.s57_types.specs.Subfield.{unsigned_of, text_of};
-ghost use Rattle.s57_types.specs.FieldRows.{attribute_forms, partner_forms, place_forms, foid_forms, foid_row, frid_row, attribute_row, partner_row, place_row, level_text};
+ghost use Rattle.s57_types.specs.FieldRows.{attribute_forms, partner_forms, place_forms, foid_forms, foid_row, frid_row, attribute_row, partner_row};
+ghost use Rattle.s57_types.specs.FieldRows.{place_row, level_text};
 ghost use Rattle.field_spec.specs.declared.fault.FieldFault.TheVariants.{BadField};
 ghost use Rattle.field_spec.specs.Cutting.{cut_row};
 ghost use Rattle.field_spec.specs.Contents.{frid_content, foid_content, attribute_content, partner_content, place_content, names_a_vector, place_value};
@@ -213,7 +214,11 @@ pub fn write_natf(
 
 /// A pointer to a feature object as it was cut: LNAM, RIND and COMT.
 fn cut_partner(bytes: &[u8]) -> Option<(Lnam, u8, &[u8], &[u8])>
-    ensures cut { option_map (λ x. (unsigned_of 2 x.0.agen ∷ unsigned_of 4 x.0.fidn ∷ unsigned_of 2 x.0.fids ∷ unsigned_of 1 x.1 ∷ text_of x.2.now ∷ [], x.3.now)) result ≡ cut_row partner_forms bytes.now }
+    ensures cut { option_map (λ x. (
+      unsigned_of 2 x.0.agen ∷ unsigned_of 4 x.0.fidn ∷ unsigned_of 2 x.0.fids ∷ unsigned_of
+          1 x.1 ∷ text_of x.2.now ∷ [],
+      x.3.now,
+    )) result ≡ cut_row partner_forms bytes.now }
     ensures shorter { IfSome result (λ x. length x.3.now < length bytes.now) }
 {
     let (agen, rest) = take_u16(bytes)?;

@@ -10,7 +10,8 @@ ghost use Rattle.field_spec.specs.Cutting.{cut_row, field_row, whole, before_ter
 ghost use Rattle.field_spec.specs.Contents.{dsid_value, dsid_content, dssi_content, dspm_content};
 ghost use Rattle.field_spec.specs.FieldBytes.{field_bytes};
 ghost use Rattle.s57_fields.specs.Gives.{Gives};
-ghost use Rattle.s57_fields.specs.HeadSubfields.{dspm_subfields, dsid_subfields, dsid_names, dsid_dates, dsid_product, dsid_name_forms, dsid_date_forms, dsid_product_forms, cut_groups};
+ghost use Rattle.s57_fields.specs.HeadSubfields.{dspm_subfields, dsid_subfields, dsid_names, dsid_dates, dsid_product, dsid_name_forms};
+ghost use Rattle.s57_fields.specs.HeadSubfields.{dsid_date_forms, dsid_product_forms, cut_groups};
 
 use crate::cut::{field_body, take_array, take_text, take_u8, take_u16, take_u32};
 use crate::refusal::FieldRefusal;
@@ -285,7 +286,8 @@ fn cut_dsid_product(bytes: &[u8]) -> Option<(DsidProduct<'_>, &[u8])>
 
 /// Cuts the data set identification into subfields, group by group.
 fn cut_dsid_groups(bytes: &[u8]) -> Option<DsidSubfields<'_>>
-    ensures { option_map dsid_subfields result ≡ option_and_then (λ body. whole (cut_groups dsid_name_forms dsid_date_forms dsid_product_forms body)) (before_terminator bytes.now) }
+    ensures { option_map dsid_subfields result ≡ option_and_then
+        (λ body. whole (cut_groups dsid_name_forms dsid_date_forms dsid_product_forms body)) (before_terminator bytes.now) }
 {
     let (names, rest) = cut_dsid_names(field_body(bytes)?)?;
     let (dates, rest) = cut_dsid_dates(rest)?;

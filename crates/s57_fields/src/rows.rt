@@ -131,7 +131,9 @@ fn rows_behind<R: FieldRow>(
     count: usize,
     size: usize,
 ) -> Result<Items<R>, FieldRefusal>
-    requires walk { with_front (take count rows.items) all_plain (rows_from (R.forms level) R.good R.value (length body.now - count) (drop size body.now)) ≡ rows_from (R.forms level) R.good R.value (length body.now) body.now }
+    requires walk { with_front (take count rows.items) all_plain
+        (rows_from (R.forms level) R.good R.value (length body.now - count) (drop size body.now)) ≡ rows_from (R.forms level) R.good R.value
+        (length body.now) body.now }
     requires written { count ≤ length rows.items }
     requires room { count ≤ size }
     requires within { size ≤ length body.now }
@@ -152,7 +154,8 @@ fn other_rows<R: FieldRow>(
     mut all_plain: bool,
     mut rest: &[u8],
 ) -> Result<Items<R>, FieldRefusal>
-    requires walk { with_front rows all_plain (rows_from (R.forms level) R.good R.value (length body.now - length rows) rest.now) ≡ rows_from (R.forms level) R.good R.value (length body.now) body.now }
+    requires walk { with_front rows all_plain (rows_from (R.forms level) R.good R.value (length body.now - length rows) rest.now) ≡
+        rows_from (R.forms level) R.good R.value (length body.now) body.now }
     requires room { length rest.now + length rows ≤ length body.now }
     ensures { Gives result (content_of_rows (rows_from (R.forms level) R.good R.value (length body.now) body.now)) }
 {

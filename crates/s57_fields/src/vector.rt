@@ -3,9 +3,11 @@
 ghost use Rattle.std.specs.Prelude.{◌≡◌, ◌<◌, ◌++◌, MatchOption, IfSome, OnOk, OnErr, true, false, [], ◌∷◌, length};
 ghost use Rattle.std.specs.Option.{option_map};
 ghost use Rattle.s57_types.specs.Subfield.{unsigned_of};
-ghost use Rattle.s57_types.specs.FieldRows.{vrid_forms, end_forms, plane_forms, deep_forms, attribute_row, end_row, plane_row, deep_row, vrid_row, rcnm_of as rcnm_number};
+ghost use Rattle.s57_types.specs.FieldRows.{vrid_forms, end_forms, plane_forms, deep_forms, attribute_row, end_row, plane_row, deep_row, vrid_row};
+ghost use Rattle.s57_types.specs.FieldRows.{rcnm_of as rcnm_number};
 ghost use Rattle.field_spec.specs.Cutting.{field_row};
-ghost use Rattle.field_spec.specs.Contents.{attribute_content, end_content, plane_content, deep_content, vrid_content, is_vector_rcnm, kind_of_rcnm, names_a_vector, any_row, end_value, plane_value, deep_value};
+ghost use Rattle.field_spec.specs.Contents.{attribute_content, end_content, plane_content, deep_content, vrid_content, is_vector_rcnm, kind_of_rcnm};
+ghost use Rattle.field_spec.specs.Contents.{names_a_vector, any_row, end_value, plane_value, deep_value};
 ghost use Rattle.field_spec.specs.FieldBytes.{field_bytes, rows_bytes};
 ghost use Rattle.s57_fields.specs.Gives.{Gives};
 ghost use Rattle.s57_fields.specs.RowCutting.{take_row};

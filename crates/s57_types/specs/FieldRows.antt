@@ -61,7 +61,8 @@ abbrev pub dspm_forms : List Form
 dspm_forms = b11 ∷ b14 ∷ b11 ∷ b11 ∷ b11 ∷ b14 ∷ b11 ∷ b11 ∷ b11 ∷ b11 ∷ b14 ∷ b14 ∷ text ∷ []
 
 abbrev pub dspm_row : Dspm → List Subfield
-dspm_row d = unsigned_of 1 20 ∷ unsigned_of 4 d.rcid ∷ unsigned_of 1 d.hdat ∷ unsigned_of 1 d.vdat ∷ unsigned_of 1 d.sdat ∷ unsigned_of 4 d.cscl ∷ unsigned_of 1 d.duni
+dspm_row d = unsigned_of 1 20 ∷ unsigned_of 4 d.rcid ∷ unsigned_of 1 d.hdat ∷ unsigned_of 1 d.vdat ∷ unsigned_of 1 d.sdat
+    ∷ unsigned_of 4 d.cscl ∷ unsigned_of 1 d.duni
     ∷ unsigned_of 1 d.huni ∷ unsigned_of 1 d.puni ∷ unsigned_of 1 d.coun ∷ unsigned_of 4 d.comf ∷ unsigned_of 4 d.somf ∷ text_of d.comt ∷ []
 
 -- FRID, feature record identifier: RCNM, RCID, PRIM, GRUP, OBJL, RVER, RUIN
@@ -69,7 +70,8 @@ abbrev pub frid_forms : List Form
 frid_forms = b11 ∷ b14 ∷ b11 ∷ b11 ∷ b12 ∷ b12 ∷ b11 ∷ []
 
 abbrev pub frid_row : Frid → List Subfield
-frid_row d = unsigned_of 1 100 ∷ unsigned_of 4 d.rcid ∷ unsigned_of 1 d.prim ∷ unsigned_of 1 d.grup ∷ unsigned_of 2 d.objl ∷ unsigned_of 2 d.rver ∷ unsigned_of 1 d.ruin ∷ []
+frid_row d = unsigned_of 1 100 ∷ unsigned_of 4 d.rcid ∷ unsigned_of 1 d.prim ∷ unsigned_of 1 d.grup ∷ unsigned_of 2 d.objl
+    ∷ unsigned_of 2 d.rver ∷ unsigned_of 1 d.ruin ∷ []
 
 -- FOID, feature object identifier: AGEN, FIDN, FIDS
 abbrev pub foid_forms : List Form

@@ -5,7 +5,21 @@ use Rattle.std.specs.List.{flat_map}
 use Rattle.frame_spec.specs.RecordFrame.{Field}
 use Rattle.frame_spec.specs.WrittenRecord.{record_length, field_lengths}
 use Rattle.s57_types.specs.Subfield.{Subfield, row_bytes, field_terminator}
-use Rattle.s57_types.specs.FieldRows.{number_row, dsid_row, dssi_row, dspm_row, frid_row, foid_row, attribute_row, partner_row, place_row, vrid_row, end_row, plane_row, deep_row}
+use Rattle.s57_types.specs.FieldRows.{
+  number_row,
+  dsid_row,
+  dssi_row,
+  dspm_row,
+  frid_row,
+  foid_row,
+  attribute_row,
+  partner_row,
+  place_row,
+  vrid_row,
+  end_row,
+  plane_row,
+  deep_row,
+}
 use Rattle.s57_types.specs.declared.head.Head.{Head}
 use Rattle.s57_types.specs.declared.record.Vector.{Vector}
 use Rattle.s57_types.specs.declared.record.Feature.{Feature}
@@ -72,7 +86,8 @@ number_field number = field_of (codes "0001") (number_row number)
 
 -- the two head records, with the counts of the data set structure information
 abbrev pub identification_fields : ℕ → Head → List ℕ → List Field
-identification_fields number h counts = number_field number ∷ field_of (codes "DSID") (dsid_row (dsid_of_head h)) ∷ field_of (codes "DSSI") (dssi_row (dssi_of_head h counts)) ∷ []
+identification_fields number h counts = number_field number ∷ field_of (codes "DSID") (dsid_row (dsid_of_head h)) ∷ field_of
+    (codes "DSSI") (dssi_row (dssi_of_head h counts)) ∷ []
 
 abbrev pub parameter_fields : ℕ → Head → List Field
 parameter_fields number h = number_field number ∷ field_of (codes "DSPM") (dspm_row (dspm_of_head h)) ∷ []
@@ -85,7 +100,8 @@ vector_fields number v = (number_field number ∷ field_of (codes "VRID") (vrid_
 -- a feature's national attributes are at the level NALL
 abbrev pub feature_fields : ℕ → ℕ → Feature → List Field
 feature_fields nall number f =
-    (number_field number ∷ field_of (codes "FRID") (frid_row (record { rcid = f.name.id; prim = f.prim; grup = f.grup; objl = f.objl; rver = f.rver; ruin = 1 }))
+    (number_field number ∷ field_of (codes "FRID") (frid_row
+    (record { rcid = f.name.id; prim = f.prim; grup = f.grup; objl = f.objl; rver = f.rver; ruin = 1 }))
     ∷ field_of (codes "FOID") (foid_row f.foid) ∷ [])
     ++ rows_field 0 (codes "ATTF") (attribute_row 0) f.attf ++ rows_field nall (codes "NATF") (attribute_row nall) f.natf
     ++ rows_field 0 (codes "FFPT") partner_row f.partners ++ rows_field 0 (codes "FSPT") place_row f.places

@@ -70,7 +70,19 @@ partnered n partners =
 
 -- a feature without geometry that bears another's identifier
 abbrev pub named_alike : ℕ → ℕ → Rec
-named_alike n other = F (record { name = fe n; prim = 255; grup = 2; objl = 400; rver = 1; foid = lnam other; attf = []; natf = []; partners = []; places = [] })
+named_alike n other = F (record {
+  name = fe n;
+  prim = 255;
+  grup = 2;
+  objl = 400;
+  rver = 1;
+  foid = lnam other;
+  attf = [];
+  natf =
+      [];
+  partners = [];
+  places = [];
+})
 
 -- a depth area of Group 1
 abbrev pub depth_area : ℕ → List Spot → Rec

@@ -7,7 +7,27 @@ use Rattle.s57_types.specs.declared.record.Spot.{Spot}
 use Rattle.cell_spec.specs.declared.edit.Edit.{Edit}
 use Rattle.cell_spec.specs.declared.edit.Edit.TheVariants.{Add, Head}
 use Rattle.cell_spec.specs.Edits.{apply_edits}
-use Rattle.sample_cells.specs.Parts.{head, head_values, vi, vc, ve, at, node, edge, end_of, vector, spot, objnam, outer, feature, depth_area, coverage_area, partnered, named_alike, square}
+use Rattle.sample_cells.specs.Parts.{
+  head,
+  head_values,
+  vi,
+  vc,
+  ve,
+  at,
+  node,
+  edge,
+  end_of,
+  vector,
+  spot,
+  objnam,
+  outer,
+  feature,
+  depth_area,
+  coverage_area,
+  partnered,
+  named_alike,
+  square,
+}
 
 abbrev pub cell : List Rec → List Rec → List Rec → Cell
 cell nodes edges features = record { head = head; vi = []; vc = nodes; ve = edges; fe = features }
@@ -49,7 +69,8 @@ stacked_edge = cell (node 1 (at 0 0) ∷ []) (edge 1 1 1 [] ∷ []) []
 -- two edges between opposite corners of the whole range of coordinates
 abbrev pub diagonals : Cell
 diagonals = cell
-    (node 1 (negsuc 2147483647, negsuc 2147483647) ∷ node 2 (at 2147483647 2147483647) ∷ node 3 (negsuc 2147483647, pos 2147483647) ∷ node 4 (pos 2147483647, negsuc 2147483647) ∷ [])
+    (node 1 (negsuc 2147483647, negsuc 2147483647) ∷ node 2 (at 2147483647 2147483647) ∷ node 3 (negsuc 2147483647, pos 2147483647) ∷ node 4
+    (pos 2147483647, negsuc 2147483647) ∷ [])
     (edge 1 1 2 [] ∷ edge 2 3 4 [] ∷ []) []
 
 -- a node on an edge
@@ -76,7 +97,14 @@ knotted_edges = cell (node 1 (at 0 0) ∷ node 2 (at 10 10) ∷ node 3 (at 50 0)
 
 -- nodes of the wrong shape: an isolated node with nothing, a connected node with two positions, and a node with a pointer
 abbrev pub misshapen : Cell
-misshapen = record { head = head; vi = vector (vi 1) [] [] ∷ []; vc = vector (vc 1) [] (at 0 0 ∷ at 0 1 ∷ []) ∷ vector (vc 2) (end_of 1 (vc 1) ∷ []) (at 5 5 ∷ []) ∷ []; ve = []; fe = [] }
+misshapen = record {
+  head = head;
+  vi = vector (vi 1) [] [] ∷ [];
+  vc =
+      vector (vc 1) [] (at 0 0 ∷ at 0 1 ∷ []) ∷ vector (vc 2) (end_of 1 (vc 1) ∷ []) (at 5 5 ∷ []) ∷ [];
+  ve = [];
+  fe = [];
+}
 
 -- so many nodes at one place
 abbrev pub nodes_at_one_place : List ℕ → Cell

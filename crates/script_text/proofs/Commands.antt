@@ -1,5 +1,36 @@
 -- Which command the words of a line are.
-use Rattle.std.proofs.Common.{◌≡◌, ℕ, ◌<◌, ◌^◌, ◌&&◌, not, true, false, Bool, ◌↔◌, Option, Result, Ok, Err, IfOk, Some, List, [], ◌∷◌, ◌++◌, length, codes, get_or, drop, All, refl, sym, ap, ◌∙◌, arith}
+use Rattle.std.proofs.Common.{
+  ◌≡◌,
+  ℕ,
+  ◌<◌,
+  ◌^◌,
+  ◌&&◌,
+  not,
+  true,
+  false,
+  Bool,
+  ◌↔◌,
+  Option,
+  Result,
+  Ok,
+  Err,
+  IfOk,
+  Some,
+  List,
+  [],
+  ◌∷◌,
+  ◌++◌,
+  length,
+  codes,
+  get_or,
+  drop,
+  All,
+  refl,
+  sym,
+  ap,
+  ◌∙◌,
+  arith,
+}
 use Rattle.std.specs.Fmt.{decimal}
 use Rattle.std.specs.List.{list_all}
 use Rattle.std.proofs.lemmas.Bool.{le-leb, false≢true, not-true, and_parts}
@@ -83,7 +114,8 @@ vector_found (F f) read kind words is test found width own spelled =
 vector_found (H h) read kind words is test found width own spelled = absurd (false≢true own)
 
 -- words of a record that isn't the head
-no_head_record : (r : Rec) (kind : Kind) (words : List ℕ) → IsKindOf kind words → record_has_line r ≡ true → words ≡ spaced_words (record_words r) → is_head kind ≡ false
+no_head_record : (r : Rec) (kind : Kind) (words : List ℕ) → IsKindOf kind words → record_has_line r ≡ true
+    → words ≡ spaced_words (record_words r) → is_head kind ≡ false
 no_head_record (V v) kind words test own spelled = ap is_head (kind_of_vector kind words v test spelled) ∙ (own_vector v own).no_head
 no_head_record (F f) kind words test own spelled = ap is_head (kind_of_feature kind words f test spelled) ∙ no_head_feature f.name.kind (own_feature f own)
 no_head_record (H h) kind words test own spelled = absurd (false≢true own)
@@ -181,7 +213,8 @@ guard_found (Push (Head e)) words read found first can spelled = absurd (omega (
 guard_found (Guard n) words read found first can spelled = ap (λ (x : RecName). Guard x) (found n (name_of_width n can.1) spelled)
 
 abbrev pub IsEditFound : List ℕ → List ℕ → Edit → Type 0
-IsEditFound first words read = (edit : Edit) → IsCommand (Push edit) → first ≡ first_word (Push edit) → words ≡ spaced_words (other_words (Push edit)) → read ≡ edit
+IsEditFound first words read = (edit : Edit) → IsCommand (Push edit) → first ≡ first_word (Push edit)
+    → words ≡ spaced_words (other_words (Push edit)) → read ≡ edit
 
 pub push_found : (c : Command) (first words : List ℕ) (read : Edit) → IsEditFound first words read
     → (first ≡ codes "view" → ⊥) → (first ≡ codes "commit" → ⊥) → (first ≡ codes "drop" → ⊥) → (first ≡ codes "list" → ⊥) → (first ≡ codes "guard" → ⊥)
@@ -191,7 +224,8 @@ push_found Commit first words read found not_view not_commit not_drop not_list n
 push_found Drop first words read found not_view not_commit not_drop not_list not_guard can first_is spelled = absurd (not_drop first_is)
 push_found (Findings shown) first words read found not_view not_commit not_drop not_list not_guard can first_is spelled = absurd (not_list first_is)
 push_found (Guard n) first words read found not_view not_commit not_drop not_list not_guard can first_is spelled = absurd (not_guard first_is)
-push_found (Push edit) first words read found not_view not_commit not_drop not_list not_guard can first_is spelled = ap (λ (x : Edit). Push x) (found edit can first_is spelled)
+push_found (Push edit) first words read found not_view not_commit not_drop not_list not_guard can first_is spelled =
+    ap (λ (x : Edit). Push x) (found edit can first_is spelled)
 
 -- a line is its words and a line feed
 pub line_is : (c : Command) → command_line c ≡ command_text c ++ 10 ∷ []
@@ -219,7 +253,8 @@ free_first (Guard n) = record { free = refl }
 pub text_cut : (c : Command) (text : List ℕ) → text ≡ command_text c → IsCut 32 text (first_word c) (spaced_words (other_words c))
 text_cut c text same = cut_of 32 text (first_word c) (spaced_words (other_words c)) same (free_first c).free (from_parts 32 (other_words c))
 
-pub command_cut : (c : Command) (line text : List ℕ) (end : ℕ) → line ≡ text ++ end ∷ [] → command_line c ≡ line → IsCut 32 text (first_word c) (spaced_words (other_words c))
+pub command_cut : (c : Command) (line text : List ℕ) (end : ℕ) → line ≡ text ++ end ∷ [] → command_line c ≡ line
+    → IsCut 32 text (first_word c) (spaced_words (other_words c))
 command_cut c line text end parts spelled = text_cut c text (same_from_push text (command_text c) end 10 (sym parts ∙ sym spelled ∙ line_is c)).0
 
 can_of : (c : Command) → IsCommand c → can_stand c ≡ true
@@ -300,7 +335,8 @@ pub set_last : (word : List ℕ) → IsLastWord word → IsCommandWord word → 
 set_last word last known = set_by known.0 word last known.1
 
 -- the line of an edit is read as it
-pub written : {R : Type 0} (result : Result (Option Command) R) (line : List ℕ) (edit : Edit) → IfOk result (IsReadOf line) → line ≡ edit_line edit → IsCommand (Push edit)
+pub written : {R : Type 0} (result : Result (Option Command) R) (line : List ℕ) (edit : Edit) → IfOk result (IsReadOf line)
+    → line ≡ edit_line edit → IsCommand (Push edit)
     → IfOk result (λ read. read ≡ Some (Push edit))
 written (Ok read) line edit is line_is can = is.found (Push edit) can (sym line_is)
 written (Err _) line edit is line_is can = tt

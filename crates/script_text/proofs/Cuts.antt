@@ -1,5 +1,33 @@
 -- What cuts at a mark give.
-use Rattle.std.proofs.Common.{◌≡◌, ℕ, ◌+◌, ◌≤◌, ◌==◌, Bool, true, false, List, [], ◌∷◌, ◌++◌, length, take, drop, cond, refl, sym, ap, ◌∙◌, arith, subst, Option, Some, None, ltb, eqb}
+use Rattle.std.proofs.Common.{
+  ◌≡◌,
+  ℕ,
+  ◌+◌,
+  ◌≤◌,
+  ◌==◌,
+  Bool,
+  true,
+  false,
+  List,
+  [],
+  ◌∷◌,
+  ◌++◌,
+  length,
+  take,
+  drop,
+  cond,
+  refl,
+  sym,
+  ap,
+  ◌∙◌,
+  arith,
+  subst,
+  Option,
+  Some,
+  None,
+  ltb,
+  eqb,
+}
 use Rattle.std.specs.List.{position_or_len}
 use Rattle.std.proofs.lemmas.Bool.{eq-eqb, eqb-true, or_parts, or_from, ltb-false}
 use Rattle.std.proofs.lemmas.List.{length-append}
@@ -40,7 +68,8 @@ pub record IsWhole (mark : ℕ) (text : List ℕ) : Type 0 where
   pub free : holds mark (before mark text) ≡ false
   pub begins : IsFrom mark (from mark text)
 
-whole_cons : (mark b : ℕ) (text front rest : List ℕ) → IsCut mark (b ∷ text) front rest → front ++ rest ≡ b ∷ text → holds mark front ≡ false → IsFrom mark rest → IsWhole mark (b ∷ text)
+whole_cons : (mark b : ℕ) (text front rest : List ℕ) → IsCut mark (b ∷ text) front rest → front ++ rest ≡ b ∷ text → holds mark front ≡ false
+    → IsFrom mark rest → IsWhole mark (b ∷ text)
 whole_cons mark b text front rest cut joined free begins = record {
   joined = ap (λ t. t ++ from mark (b ∷ text)) cut.front_is ∙ ap (λ t. front ++ t) cut.rest_is ∙ joined;
   free = ap (holds mark) cut.front_is ∙ free;
@@ -76,7 +105,8 @@ place_by n len true below within = refl
 place_by n len false above within = let past : len ≤ n = ltb-false n len above in omega arith
 
 -- the place of the first mark, or the end
-pub place_is : (mark : ℕ) (text : List ℕ) (place : Option ℕ) → place ≡ cond (ltb (position_or_len (λ b. eqb b mark) text) (length text)) (Some (position_or_len (λ b. eqb b mark) text)) None
+pub place_is : (mark : ℕ) (text : List ℕ) (place : Option ℕ) → place ≡ cond (ltb (position_or_len (λ b. eqb b mark) text) (length text))
+    (Some (position_or_len (λ b. eqb b mark) text)) None
     → unwrap_or place (length text) ≡ length (before mark text)
 place_is mark text place found =
     let at : length (before mark text) ≡ position_or_len (λ b. eqb b mark) text = length_before mark text in

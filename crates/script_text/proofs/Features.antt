@@ -20,7 +20,8 @@ feature_with name prim grup objl rver foid attf natf partners places =
     record { name = name; prim = prim; grup = grup; objl = objl; rver = rver; foid = foid; attf = attf; natf = natf; partners = partners; places = places }
 
 pub same_feature : (name : RecName) (prim grup objl rver : ℕ) (foid : Lnam) (attf natf : List Attr) (partners : List Partner) (places : List Spot) (f : Feature)
-    → name ≡ f.name → prim ≡ f.prim → grup ≡ f.grup → objl ≡ f.objl → rver ≡ f.rver → foid ≡ f.foid → attf ≡ f.attf → natf ≡ f.natf → partners ≡ f.partners → places ≡ f.places
+    → name ≡ f.name → prim ≡ f.prim → grup ≡ f.grup → objl ≡ f.objl → rver ≡ f.rver → foid ≡ f.foid → attf ≡ f.attf → natf ≡ f.natf
+    → partners ≡ f.partners → places ≡ f.places
     → feature_with name prim grup objl rver foid attf natf partners places ≡ f
 same_feature name prim grup objl rver foid attf natf partners places f name_is prim_is grup_is objl_is rver_is foid_is attf_is natf_is partners_are places_are =
     ap (λ x. feature_with x prim grup objl rver foid attf natf partners places) name_is
@@ -48,13 +49,21 @@ sorted_feature f =
     let partners = map partner_item f.partners in
     let places = map place_item f.places in
     record {
-      attf = four 97 attf natf partners places attf [] [] [] (each_begins 97 (attribute_item (codes "a")) (λ x. refl) f.attf) (none_begins 97 (attribute_item (codes "n")) (λ x. refl) f.natf) (none_begins 97 partner_item (λ x. refl) f.partners) (none_begins 97 place_item (λ x. refl) f.places)
+      attf = four 97 attf natf partners places attf [] [] [] (each_begins 97 (attribute_item (codes "a")) (λ x. refl) f.attf)
+          (none_begins 97 (attribute_item (codes "n")) (λ x. refl) f.natf) (none_begins 97 partner_item (λ x. refl) f.partners)
+          (none_begins 97 place_item (λ x. refl) f.places)
           ∙ append-nil ((attf ++ []) ++ []) ∙ append-nil (attf ++ []) ∙ append-nil attf;
-      natf = four 110 attf natf partners places [] natf [] [] (none_begins 110 (attribute_item (codes "a")) (λ x. refl) f.attf) (each_begins 110 (attribute_item (codes "n")) (λ x. refl) f.natf) (none_begins 110 partner_item (λ x. refl) f.partners) (none_begins 110 place_item (λ x. refl) f.places)
+      natf = four 110 attf natf partners places [] natf [] [] (none_begins 110 (attribute_item (codes "a")) (λ x. refl) f.attf)
+          (each_begins 110 (attribute_item (codes "n")) (λ x. refl) f.natf) (none_begins 110 partner_item (λ x. refl) f.partners)
+          (none_begins 110 place_item (λ x. refl) f.places)
           ∙ append-nil (natf ++ []) ∙ append-nil natf;
-      partners = four 102 attf natf partners places [] [] partners [] (none_begins 102 (attribute_item (codes "a")) (λ x. refl) f.attf) (none_begins 102 (attribute_item (codes "n")) (λ x. refl) f.natf) (each_begins 102 partner_item (λ x. refl) f.partners) (none_begins 102 place_item (λ x. refl) f.places)
+      partners = four 102 attf natf partners places [] [] partners [] (none_begins 102 (attribute_item (codes "a")) (λ x. refl) f.attf)
+          (none_begins 102 (attribute_item (codes "n")) (λ x. refl) f.natf) (each_begins 102 partner_item (λ x. refl) f.partners)
+          (none_begins 102 place_item (λ x. refl) f.places)
           ∙ append-nil partners;
-      places = four 115 attf natf partners places [] [] [] places (none_begins 115 (attribute_item (codes "a")) (λ x. refl) f.attf) (none_begins 115 (attribute_item (codes "n")) (λ x. refl) f.natf) (none_begins 115 partner_item (λ x. refl) f.partners) (each_begins 115 place_item (λ x. refl) f.places);
+      places = four 115 attf natf partners places [] [] [] places (none_begins 115 (attribute_item (codes "a")) (λ x. refl) f.attf)
+          (none_begins 115 (attribute_item (codes "n")) (λ x. refl) f.natf) (none_begins 115 partner_item (λ x. refl) f.partners)
+          (each_begins 115 place_item (λ x. refl) f.places);
     }
 
 -- the lists of items are those of the feature record
@@ -64,7 +73,8 @@ pub record AreOf (items : FeatureItems) (f : Feature) : Type 0 where
   pub partners : items.partners ≡ f.partners
   pub places : items.places ≡ f.places
 
-pub feature_items_are : (f : Feature) (text : List ℕ) (items : FeatureItems) → IsFeatureOfWidth f → AreFeatureItemsOf text items → text ≡ spaced_words (feature_items f) → AreOf items f
+pub feature_items_are : (f : Feature) (text : List ℕ) (items : FeatureItems) → IsFeatureOfWidth f → AreFeatureItemsOf text items
+    → text ≡ spaced_words (feature_items f) → AreOf items f
 feature_items_are f text items width of spelled =
     let words_are = of.are (feature_items f) (without_feature_items 32 f (omega arith) width) spelled in
     let sorted = subst (IsSorted f) words_are (sorted_feature f) in

@@ -57,7 +57,8 @@ pub record IsSame (line line' rest rest' : List ℕ) : Type 0 where
   pub line_is : line ≡ line'
   pub rest_is : rest ≡ rest'
 
-pub first_feed : (line line' rest rest' : List ℕ) → holds 10 line ≡ false → holds 10 line' ≡ false → line ++ (10 ∷ rest) ≡ line' ++ (10 ∷ rest') → IsSame line line' rest rest'
+pub first_feed : (line line' rest rest' : List ℕ) → holds 10 line ≡ false → holds 10 line' ≡ false → line ++ (10 ∷ rest) ≡ line' ++ (10 ∷ rest')
+    → IsSame line line' rest rest'
 first_feed line line' rest rest' free free' same =
     let one = cut_between 10 line (10 ∷ rest) free refl in
     let other = cut_of 10 (line ++ (10 ∷ rest)) line' (10 ∷ rest') same free' refl in
@@ -86,7 +87,8 @@ same_body : (l l' : ScriptLine) → IsLine l → IsLine l' → body l ≡ body l
 same_body (skipped text) (skipped text') good good' same = ap (λ (t : List ℕ). skipped t) same
 same_body (skipped text) (spoken c') good good' same = absurd (false≢true (sym (spoken_by c') ∙ ap is_skipped (sym same) ∙ good.0))
 same_body (spoken c) (skipped text') good good' same = absurd (false≢true (sym (spoken_by c) ∙ ap is_skipped same ∙ good'.0))
-same_body (spoken c) (spoken c') good good' same = ap (λ (x : Command). spoken x) (alike_commands c c' good good' (line_is c ∙ ap (λ t. t ++ 10 ∷ []) same ∙ sym (line_is c')))
+same_body (spoken c) (spoken c') good good' same = ap (λ (x : Command). spoken x)
+    (alike_commands c c' good good' (line_is c ∙ ap (λ t. t ++ 10 ∷ []) same ∙ sym (line_is c')))
 
 pub record AreSameLines (l l' : ScriptLine) (rest rest' : List ℕ) : Type 0 where
   pub line : l ≡ l'
@@ -113,7 +115,8 @@ spoken_line : (line : List ℕ) (l : ScriptLine) → is_skipped line ≡ false �
 spoken_line line (skipped text) not_skipped good same = absurd (false≢true (sym not_skipped ∙ ap is_skipped same ∙ good.0))
 spoken_line line (spoken c) not_skipped good same = record { command = c; is = refl; of = (good, line_is c ∙ ap (λ t. t ++ 10 ∷ []) (sym same)) }
 
-pub spoken_first : {P : List ℕ → Type 0} (text : List ℕ) (h : HasSpoken text P) (l : ScriptLine) (rest : List ℕ) → IsLine l → text ≡ line_text l ++ rest → IsSpoken h.line l
+pub spoken_first : {P : List ℕ → Type 0} (text : List ℕ) (h : HasSpoken text P) (l : ScriptLine) (rest : List ℕ) → IsLine l
+    → text ≡ line_text l ++ rest → IsSpoken h.line l
 spoken_first text h l rest good same =
     spoken_line h.line l h.not_skipped good (first_feed h.line (body l) h.rest rest h.free (free_body l good) (sym h.text_is ∙ same ∙ body_is l rest)).line_is
 
@@ -138,7 +141,8 @@ pub parted : (text front line rest : List ℕ) → front ≡ before 10 text → 
     → line ≡ take (length front + 1) text → rest ≡ drop (length front + 1) text → IsParted text front line rest
 parted text front line rest front_is fed line_is rest_is =
     let w = whole 10 text in
-    parted_by text front line rest (from 10 text) (sym w.joined ∙ ap (λ t. t ++ from 10 text) (sym front_is)) w.begins fed (ap (holds 10) front_is ∙ w.free) line_is rest_is
+    parted_by text front line rest (from 10 text) (sym w.joined ∙ ap (λ t. t ++ from 10 text) (sym front_is)) w.begins fed
+    (ap (holds 10) front_is ∙ w.free) line_is rest_is
 
 unfed_by : (text front behind : List ℕ) → front ++ behind ≡ text → length front ≡ length text → holds 10 front ≡ false → holds 10 text ≡ false
 unfed_by text front [] joined same free = ap (holds 10) (sym joined ∙ append-nil front) ∙ free

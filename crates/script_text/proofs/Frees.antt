@@ -12,9 +12,31 @@ use Rattle.s57_types.specs.declared.record.Feature.{Feature}
 use Rattle.s57_types.specs.declared.record.Rec.{Rec}
 use Rattle.s57_types.specs.declared.record.Rec.TheVariants.{V, F, H}
 use Rattle.text_spec.specs.CellText.{kind_word, name_words}
-use Rattle.text_spec.specs.EditLine.{attribute_item, end_item, plane_item, deep_item, partner_item, place_item, text_word, vector_words, feature_words, record_words}
+use Rattle.text_spec.specs.EditLine.{
+  attribute_item,
+  end_item,
+  plane_item,
+  deep_item,
+  partner_item,
+  place_item,
+  text_word,
+  vector_words,
+  feature_words,
+  record_words,
+}
 use Rattle.text_spec.specs.Lines.{spaced_words}
-use Rattle.script_text.specs.Widths.{IsNameOfWidth, IsAttributeOfWidth, IsEndOfWidth, IsPointOfWidth, IsSoundingOfWidth, IsPartnerOfWidth, IsPlaceOfWidth, IsVectorOfWidth, IsFeatureOfWidth, IsRecordOfWidth}
+use Rattle.script_text.specs.Widths.{
+  IsNameOfWidth,
+  IsAttributeOfWidth,
+  IsEndOfWidth,
+  IsPointOfWidth,
+  IsSoundingOfWidth,
+  IsPartnerOfWidth,
+  IsPlaceOfWidth,
+  IsVectorOfWidth,
+  IsFeatureOfWidth,
+  IsRecordOfWidth,
+}
 use Rattle.script_text.proofs.Words.{IsFree, free_nothing, free_cons, free_part, free_kind, free_decimal, free_signed, free_end, free_point}
 use Rattle.script_text.proofs.Texts.{free_text}
 
@@ -63,9 +85,11 @@ without_cons mark word words free others = All-cons (λ x. holds mark x ≡ fals
 without_append : (mark : ℕ) (front back : List (List ℕ)) → AreWithout mark front → AreWithout mark back → AreWithout mark (front ++ back)
 without_append mark front back = All-append (λ x. holds mark x ≡ false) front back
 
-without_items : {X : Type 0} (mark : ℕ) (item : X → List ℕ) (Q : X → Type 0) → ((x : X) → Q x → IsFree mark (item x)) → (xs : List X) → All Q xs → AreWithout mark (map item xs)
+without_items : {X : Type 0} (mark : ℕ) (item : X → List ℕ) (Q : X → Type 0) → ((x : X) → Q x → IsFree mark (item x)) → (xs : List X)
+    → All Q xs → AreWithout mark (map item xs)
 without_items mark item Q each [] all = without_none mark
-without_items mark item Q each (x ∷ xs) all = without_cons mark (item x) (map item xs) (each x (All-head Q x xs all)) (without_items mark item Q each xs (All-tail Q x xs all))
+without_items mark item Q each (x ∷ xs) all = without_cons mark (item x) (map item xs) (each x (All-head Q x xs all))
+    (without_items mark item Q each xs (All-tail Q x xs all))
 
 -- the items of a vector record and of a feature record
 abbrev pub vector_items : Vector → List (List ℕ)
@@ -74,7 +98,8 @@ vector_items v = map (attribute_item (codes "a")) v.attrs ++ map end_item v.ends
 abbrev pub feature_items : Feature → List (List ℕ)
 feature_items f = map (attribute_item (codes "a")) f.attf ++ map (attribute_item (codes "n")) f.natf ++ map partner_item f.partners ++ map place_item f.places
 
-without_four : (mark : ℕ) (a b c d : List (List ℕ)) → AreWithout mark a → AreWithout mark b → AreWithout mark c → AreWithout mark d → AreWithout mark (a ++ b ++ c ++ d)
+without_four : (mark : ℕ) (a b c d : List (List ℕ)) → AreWithout mark a → AreWithout mark b → AreWithout mark c → AreWithout mark d
+    → AreWithout mark (a ++ b ++ c ++ d)
 without_four mark a b c d first second third fourth =
     without_append mark (a ++ b ++ c) d (without_append mark (a ++ b) c (without_append mark a b first second) third) fourth
 
@@ -88,7 +113,8 @@ without_vector_items mark v small width =
 
 pub without_feature_items : (mark : ℕ) (f : Feature) → mark < 33 → IsFeatureOfWidth f → AreWithout mark (feature_items f)
 without_feature_items mark f small width =
-    without_four mark (map (attribute_item (codes "a")) f.attf) (map (attribute_item (codes "n")) f.natf) (map partner_item f.partners) (map place_item f.places)
+    without_four mark (map (attribute_item (codes "a")) f.attf) (map (attribute_item (codes "n")) f.natf) (map partner_item f.partners)
+    (map place_item f.places)
     (without_items mark (attribute_item (codes "a")) IsAttributeOfWidth (λ a fits. free_attribute mark 97 a small (omega arith) fits) f.attf width.attf)
     (without_items mark (attribute_item (codes "n")) IsAttributeOfWidth (λ a fits. free_attribute mark 110 a small (omega arith) fits) f.natf width.natf)
     (without_items mark partner_item IsPartnerOfWidth (λ p fits. free_partner mark p small fits) f.partners width.partners)
@@ -100,7 +126,8 @@ without_number mark n small fits = without_cons mark (decimal n) [] (free_number
 
 pub without_name : (mark : ℕ) (n : RecName) → mark < 33 → IsNameOfWidth n → AreWithout mark (name_words n)
 without_name mark n small width =
-    without_cons mark (kind_word n.kind) (decimal n.id ∷ []) (free_kind mark n.kind (omega arith)) (without_cons mark (decimal n.id) [] (free_number mark n.id small width) (without_none mark))
+    without_cons mark (kind_word n.kind) (decimal n.id ∷ []) (free_kind mark n.kind (omega arith))
+    (without_cons mark (decimal n.id) [] (free_number mark n.id small width) (without_none mark))
 
 pub without_vector : (mark : ℕ) (v : Vector) → mark < 33 → IsVectorOfWidth v → AreWithout mark (vector_words v)
 without_vector mark v small width =
@@ -109,7 +136,8 @@ without_vector mark v small width =
 
 pub without_feature : (mark : ℕ) (f : Feature) → mark < 33 → IsFeatureOfWidth f → AreWithout mark (feature_words f)
 without_feature mark f small width =
-    let numbers = λ (n : ℕ) (words : List (List ℕ)) (fits : n < 2 ^ 32) (others : AreWithout mark words). without_cons mark (decimal n) words (free_number mark n small fits) others in
+    let numbers = λ (n : ℕ) (words : List (List ℕ)) (fits : n < 2 ^ 32) (others : AreWithout mark words). without_cons mark
+    (decimal n) words (free_number mark n small fits) others in
     let items = feature_items f in
     let fids = decimal f.foid.fids ∷ items in
     let fidn = decimal f.foid.fidn ∷ fids in
@@ -131,4 +159,5 @@ without_record mark (H h) small width = without_none mark
 pub free_spaced : (mark : ℕ) (words : List (List ℕ)) → (32 ≡ mark → ⊥) → AreWithout mark words → IsFree mark (spaced_words words)
 free_spaced mark [] apart without = free_nothing mark
 free_spaced mark (word ∷ words) apart without =
-    free_part 32 apart (record { free = All-head (λ x. holds mark x ≡ false) word words without }) (free_spaced mark words apart (All-tail (λ x. holds mark x ≡ false) word words without))
+    free_part 32 apart (record { free = All-head (λ x. holds mark x ≡ false) word words without })
+    (free_spaced mark words apart (All-tail (λ x. holds mark x ≡ false) word words without))

@@ -1,5 +1,31 @@
 -- A text is read in one way.
-use Rattle.std.proofs.Common.{◌≡◌, ◌⊎◌, inl, inr, false, ℕ, ◌<◌, ◌≤◌, ◌+◌, List, [], ◌∷◌, ◌++◌, length, Result, Ok, Err, All, refl, sym, ap, ◌∙◌, arith, subst, append_assoc}
+use Rattle.std.proofs.Common.{
+  ◌≡◌,
+  ◌⊎◌,
+  inl,
+  inr,
+  false,
+  ℕ,
+  ◌<◌,
+  ◌≤◌,
+  ◌+◌,
+  List,
+  [],
+  ◌∷◌,
+  ◌++◌,
+  length,
+  Result,
+  Ok,
+  Err,
+  All,
+  refl,
+  sym,
+  ap,
+  ◌∙◌,
+  arith,
+  subst,
+  append_assoc,
+}
 use Rattle.std.specs.List.{flat_map, filter_map}
 use Rattle.std.proofs.lemmas.List.{length-append, append-nil}
 use Rattle.std.proofs.lemmas.List.Elements.{All-head, All-tail, filter_map-append}
@@ -27,23 +53,28 @@ record IsLonger (lines : List ScriptLine) (rest : List ℕ) (lines' : List Scrip
   lines_are : lines' ≡ lines ++ more
   rest_is : rest ≡ flat_map line_text more ++ rest'
 
-longer_cons : (l l' : ScriptLine) (lines lines' : List ScriptLine) (rest rest' : List ℕ) → l ≡ l' → IsLonger lines rest lines' rest' → IsLonger (l ∷ lines) rest (l' ∷ lines') rest'
+longer_cons : (l l' : ScriptLine) (lines lines' : List ScriptLine) (rest rest' : List ℕ) → l ≡ l' → IsLonger lines rest lines' rest'
+    → IsLonger (l ∷ lines) rest (l' ∷ lines') rest'
 longer_cons l l' lines lines' rest rest' same longer =
     record { more = longer.more; each = longer.each; lines_are = ap (λ x. x ∷ lines') (sym same) ∙ ap (λ t. l ∷ t) longer.lines_are; rest_is = longer.rest_is }
 
-either_cons : (l l' : ScriptLine) (lines lines' : List ScriptLine) (rest rest' : List ℕ) → l ≡ l' → IsLonger lines rest lines' rest' ⊎ IsLonger lines' rest' lines rest
+either_cons : (l l' : ScriptLine) (lines lines' : List ScriptLine) (rest rest' : List ℕ) → l ≡ l' → IsLonger lines rest lines' rest'
+    ⊎ IsLonger lines' rest' lines rest
     → IsLonger (l ∷ lines) rest (l' ∷ lines') rest' ⊎ IsLonger (l' ∷ lines') rest' (l ∷ lines) rest
 either_cons l l' lines lines' rest rest' same (inl longer) = inl (longer_cons l l' lines lines' rest rest' same longer)
 either_cons l l' lines lines' rest rest' same (inr longer) = inr (longer_cons l' l lines' lines rest' rest (sym same) longer)
 
-compare : (lines lines' : List ScriptLine) (rest rest' : List ℕ) → All IsLine lines → All IsLine lines' → flat_map line_text lines ++ rest ≡ flat_map line_text lines' ++ rest'
+compare : (lines lines' : List ScriptLine) (rest rest' : List ℕ) → All IsLine lines → All IsLine lines'
+    → flat_map line_text lines ++ rest ≡ flat_map line_text lines' ++ rest'
     → IsLonger lines rest lines' rest' ⊎ IsLonger lines' rest' lines rest
 compare [] lines' rest rest' each each' same = inl (record { more = lines'; each = each'; lines_are = refl; rest_is = same })
 compare (l ∷ lines) [] rest rest' each each' same = inr (record { more = l ∷ lines; each = each; lines_are = refl; rest_is = sym same })
 compare (l ∷ lines) (l' ∷ lines') rest rest' each each' same =
-    let cut = same_lines l l' (flat_map line_text lines ++ rest) (flat_map line_text lines' ++ rest') (All-head IsLine l lines each) (All-head IsLine l' lines' each')
+    let cut = same_lines l l' (flat_map line_text lines ++ rest) (flat_map line_text lines' ++ rest') (All-head IsLine l lines each)
+    (All-head IsLine l' lines' each')
     (sym (append_assoc (line_text l) (flat_map line_text lines) rest) ∙ same ∙ append_assoc (line_text l') (flat_map line_text lines') rest') in
-    either_cons l l' lines lines' rest rest' cut.line (compare lines lines' rest rest' (All-tail IsLine l lines each) (All-tail IsLine l' lines' each') cut.rest_is)
+    either_cons l l' lines lines' rest rest' cut.line (compare lines lines' rest rest' (All-tail IsLine l lines each)
+    (All-tail IsLine l' lines' each') cut.rest_is)
 
 -- no text is left
 line_some : (l : ScriptLine) (rest : List ℕ) → 0 < length (line_text l ++ rest)
@@ -51,13 +82,18 @@ line_some l rest = omega (arith, ap length (body_is l rest), length-append (body
 
 none_more : (more : List ScriptLine) (rest : List ℕ) → [] ≡ flat_map line_text more ++ rest → more ≡ []
 none_more [] rest same = refl
-none_more (l ∷ more) rest same = absurd (omega (arith, line_some l (flat_map line_text more ++ rest), ap length (same ∙ append_assoc (line_text l) (flat_map line_text more) rest)))
+none_more (l ∷ more) rest same = absurd (omega (
+  arith,
+  line_some l (flat_map line_text more ++ rest),
+  ap length (same ∙ append_assoc (line_text l) (flat_map line_text more) rest),
+))
 
 none_rest : (more : List ScriptLine) (rest : List ℕ) → [] ≡ flat_map line_text more ++ rest → length rest ≡ 0
 none_rest more rest same = omega (arith, ap length same, length-append (flat_map line_text more) rest)
 
 -- a line that is faulty is no good line, but where there is no room for its command
-no_line : (earlier : ℕ) (text : List ℕ) (fault : LineFault) → IsLineFault earlier text fault → (l : ScriptLine) (rest : List ℕ) → IsLine l → text ≡ line_text l ++ rest
+no_line : (earlier : ℕ) (text : List ℕ) (fault : LineFault) → IsLineFault earlier text fault → (l : ScriptLine) (rest : List ℕ)
+    → IsLine l → text ≡ line_text l ++ rest
     → command_limit < earlier + length (commands_of (l ∷ []))
 no_line earlier text NoLineFeed is l rest good same = absurd (no_feed text (body l) rest is.1 (free_body l good) (same ∙ body_is l rest))
 no_line earlier text UnknownWord is l rest good same =
@@ -81,7 +117,8 @@ fault_stops : (lines more : List ScriptLine) (text rest : List ℕ) (fault : Lin
     → text ≡ flat_map line_text more ++ rest → length (commands_of (lines ++ more)) ≤ command_limit → more ≡ []
 fault_stops lines [] text rest fault is each same few = refl
 fault_stops lines (l ∷ more) text rest fault is each same few =
-    let over = no_line (length (commands_of lines)) text fault is l (flat_map line_text more ++ rest) (All-head IsLine l more each) (same ∙ append_assoc (line_text l) (flat_map line_text more) rest) in
+    let over = no_line (length (commands_of lines)) text fault is l (flat_map line_text more ++ rest) (All-head IsLine l more each)
+    (same ∙ append_assoc (line_text l) (flat_map line_text more) rest) in
     absurd (omega (
       arith,
       over,
@@ -152,9 +189,14 @@ same_scripts bytes commands others s t =
 fault_either : (bytes : List ℕ) (line code : ℕ) (f : IsFirstFault bytes line code) (lines : List ScriptLine) → IsBegun bytes lines []
     → IsLonger f.lines f.rest lines [] ⊎ IsLonger lines [] f.lines f.rest → ⊥
 fault_either bytes line code f lines begun (inl longer) =
-    let stopped = fault_stops f.lines longer.more f.rest [] f.fault f.faulty longer.each longer.rest_is (subst (λ (t : List ScriptLine). length (commands_of t) ≤ command_limit) longer.lines_are begun.few) in
+    let stopped = fault_stops f.lines longer.more f.rest [] f.fault f.faulty longer.each longer.rest_is
+    (subst (λ (t : List ScriptLine). length (commands_of t) ≤ command_limit) longer.lines_are begun.few) in
     omega (arith, fault_some (length (commands_of f.lines)) f.rest f.fault f.faulty, ap length (longer.rest_is ∙ ap (λ t. flat_map line_text t ++ []) stopped))
-fault_either bytes line code f lines begun (inr longer) = omega (arith, fault_some (length (commands_of f.lines)) f.rest f.fault f.faulty, none_rest longer.more f.rest longer.rest_is)
+fault_either bytes line code f lines begun (inr longer) = omega (
+  arith,
+  fault_some (length (commands_of f.lines)) f.rest f.fault f.faulty,
+  none_rest longer.more f.rest longer.rest_is,
+)
 
 no_fault : (bytes : List ℕ) (commands : List Command) (line code : ℕ) → IsScript bytes commands → IsFirstFault bytes line code → ⊥
 no_fault bytes commands line code s f =
@@ -169,7 +211,8 @@ record AreSameFaults (line line' code code' : ℕ) : Type 0 where
 fault_longer : (bytes : List ℕ) (line code line' code' : ℕ) (f : IsFirstFault bytes line code) (g : IsFirstFault bytes line' code')
     → IsLonger f.lines f.rest g.lines g.rest → AreSameFaults line line' code code'
 fault_longer bytes line code line' code' f g longer =
-    let stopped = fault_stops f.lines longer.more f.rest g.rest f.fault f.faulty longer.each longer.rest_is (subst (λ (t : List ScriptLine). length (commands_of t) ≤ command_limit) longer.lines_are g.begun.few) in
+    let stopped = fault_stops f.lines longer.more f.rest g.rest f.fault f.faulty longer.each longer.rest_is
+    (subst (λ (t : List ScriptLine). length (commands_of t) ≤ command_limit) longer.lines_are g.begun.few) in
     let lines : g.lines ≡ f.lines = longer.lines_are ∙ ap (λ t. f.lines ++ t) stopped ∙ append-nil f.lines in
     let rest : f.rest ≡ g.rest = longer.rest_is ∙ ap (λ t. flat_map line_text t ++ g.rest) stopped in
     let faulty = subst (λ (t : List ℕ). IsLineFault (length (commands_of f.lines)) t g.fault) (sym rest)

@@ -1,5 +1,29 @@
 -- Reading a script line by line.
-use Rattle.std.proofs.Common.{◌≡◌, ℕ, ◌≤◌, ◌+◌, true, false, List, [], ◌∷◌, ◌++◌, length, Ok, Err, Option, Some, None, refl, sym, ap, ◌∙◌, arith, subst, append_assoc}
+use Rattle.std.proofs.Common.{
+  ◌≡◌,
+  ℕ,
+  ◌≤◌,
+  ◌+◌,
+  true,
+  false,
+  List,
+  [],
+  ◌∷◌,
+  ◌++◌,
+  length,
+  Ok,
+  Err,
+  Option,
+  Some,
+  None,
+  refl,
+  sym,
+  ap,
+  ◌∙◌,
+  arith,
+  subst,
+  append_assoc,
+}
 use Rattle.std.specs.List.{flat_map}
 use Rattle.std.proofs.lemmas.List.{length-append, append-nil}
 use Rattle.std.proofs.lemmas.List.Concat.{flat_map-append}
@@ -46,24 +70,32 @@ more_line l text rest earlier commands good text_is commands_are few = λ bytes 
       commands_are = same;
     }
 
-pub read_skipped : (text front line rest : List ℕ) (script : List Command) → IsParted text front line rest → is_skipped front ≡ true → IsLineRead text rest script script
+pub read_skipped : (text front line rest : List ℕ) (script : List Command) → IsParted text front line rest → is_skipped front ≡ true
+    → IsLineRead text rest script script
 read_skipped text front line rest script p passed =
-    more_line (skipped front) text rest script script (passed, p.free) (p.text_is ∙ sym (append_assoc front (10 ∷ []) rest)) (sym (append-nil script)) (λ few. few)
+    more_line (skipped front) text rest script script (passed, p.free) (p.text_is ∙ sym (append_assoc front (10 ∷ []) rest))
+    (sym (append-nil script)) (λ few. few)
 
-pub read_spoken : (text front line rest : List ℕ) (earlier commands : List Command) → IsParted text front line rest → IsTaken front earlier commands → IsLineRead text rest earlier commands
+pub read_spoken : (text front line rest : List ℕ) (earlier commands : List Command) → IsParted text front line rest
+    → IsTaken front earlier commands → IsLineRead text rest earlier commands
 read_spoken text front line rest earlier commands p t =
     more_line (spoken t.taken) text rest earlier commands t.is_of.0
     (p.text_is ∙ sym (append_assoc front (10 ∷ []) rest) ∙ ap (λ x. x ++ rest) (sym t.is_of.1))
     t.commands_are (λ few. omega (arith, t.room, ap length t.commands_are, length-append earlier (t.taken ∷ [])))
 
 -- a line that isn't taken
-spoken_fault : (text front line rest : List ℕ) (earlier : ℕ) → IsParted text front line rest → is_skipped front ≡ false → (fault : LineFault) → IsTextFault earlier front fault → IsLineFault earlier text fault
+spoken_fault : (text front line rest : List ℕ) (earlier : ℕ) → IsParted text front line rest → is_skipped front ≡ false → (fault : LineFault)
+    → IsTextFault earlier front fault → IsLineFault earlier text fault
 spoken_fault text front line rest earlier p not_passed NoLineFeed is = absurd is
-spoken_fault text front line rest earlier p not_passed UnknownWord is = record { line = front; rest = rest; text_is = p.text_is; free = p.free; not_skipped = not_passed; is_so = is }
-spoken_fault text front line rest earlier p not_passed WrongForm is = record { line = front; rest = rest; text_is = p.text_is; free = p.free; not_skipped = not_passed; is_so = is }
-spoken_fault text front line rest earlier p not_passed TooManyCommands is = record { line = front; rest = rest; text_is = p.text_is; free = p.free; not_skipped = not_passed; is_so = is }
+spoken_fault text front line rest earlier p not_passed UnknownWord is =
+    record { line = front; rest = rest; text_is = p.text_is; free = p.free; not_skipped = not_passed; is_so = is }
+spoken_fault text front line rest earlier p not_passed WrongForm is =
+    record { line = front; rest = rest; text_is = p.text_is; free = p.free; not_skipped = not_passed; is_so = is }
+spoken_fault text front line rest earlier p not_passed TooManyCommands is =
+    record { line = front; rest = rest; text_is = p.text_is; free = p.free; not_skipped = not_passed; is_so = is }
 
-pub stuck_spoken : (text front line rest : List ℕ) (earlier : List Command) → IsParted text front line rest → is_skipped front ≡ false → (refusal : LineRefusal) → IsNotTaken front earlier refusal
+pub stuck_spoken : (text front line rest : List ℕ) (earlier : List Command) → IsParted text front line rest → is_skipped front ≡ false
+    → (refusal : LineRefusal) → IsNotTaken front earlier refusal
     → IsLineRefusal (length earlier) text refusal
 stuck_spoken text front line rest earlier p not_passed (Fault fault) is = spoken_fault text front line rest (length earlier) p not_passed fault is
 stuck_spoken text front line rest earlier p not_passed NoMemory is = tt
@@ -73,14 +105,16 @@ pub none_of : (front line : List ℕ) → line ≡ front ++ 10 ∷ [] → (read 
 none_of front line line_is (Some d) is none c of = absurd (cc)
 none_of front line line_is None is none c of = absurd (let e = is.found c of.0 (of.1 ∙ sym line_is) in cc)
 
-pub form_not_taken : (earlier : ℕ) (front : List ℕ) (fault : LineFault) → IsFormFault front fault → ((c : Command) → IsOf front c → ⊥) → IsTextFault earlier front fault
+pub form_not_taken : (earlier : ℕ) (front : List ℕ) (fault : LineFault) → IsFormFault front fault → ((c : Command) → IsOf front c → ⊥)
+    → IsTextFault earlier front fault
 form_not_taken earlier front NoLineFeed is none = absurd is
 form_not_taken earlier front UnknownWord is none = is
 form_not_taken earlier front WrongForm is none = (is, none)
 form_not_taken earlier front TooManyCommands is none = absurd is
 
 -- the whole text is read
-pub whole_script : (bytes : List ℕ) (count : ℕ) (rest : List ℕ) (commands : List Command) → length rest ≡ 0 → IsReadTo bytes count rest commands → IsOnlyReading bytes (Ok commands)
+pub whole_script : (bytes : List ℕ) (count : ℕ) (rest : List ℕ) (commands : List Command) → length rest ≡ 0 → IsReadTo bytes count rest commands
+    → IsOnlyReading bytes (Ok commands)
 whole_script bytes count (b ∷ rest) commands none to = absurd (omega (arith, none))
 whole_script bytes count [] commands none to = only_reading bytes (Ok commands) (record {
   lines = to.lines;

@@ -1,6 +1,52 @@
 -- Texts as parts of words.
-use Rattle.std.proofs.Common.{◌≡◌, ℕ, ◌+◌, ◌-◌, ◌*◌, ◌/◌, ◌%◌, ◌<◌, ◌≤◌, ◌==◌, ◌&&◌, not, nat_le, nat_lt, cond, eqb, ltb, true, List, [], ◌∷◌, ◌++◌, length, get_or, drop, refl, sym, ap, ◌∙◌, arith, append_assoc}
-use Rattle.std.proofs.lemmas.Bool.{and_parts, leb-true, ltb-true, ltb-false, lt-ltb, le-ltb, eq-eqb, ne_eqb, not_from_true, false≢true, cond-true, cond-false, cond_both}
+use Rattle.std.proofs.Common.{
+  ◌≡◌,
+  ℕ,
+  ◌+◌,
+  ◌-◌,
+  ◌*◌,
+  ◌/◌,
+  ◌%◌,
+  ◌<◌,
+  ◌≤◌,
+  ◌==◌,
+  ◌&&◌,
+  not,
+  nat_le,
+  nat_lt,
+  cond,
+  eqb,
+  ltb,
+  true,
+  List,
+  [],
+  ◌∷◌,
+  ◌++◌,
+  length,
+  get_or,
+  drop,
+  refl,
+  sym,
+  ap,
+  ◌∙◌,
+  arith,
+  append_assoc,
+}
+use Rattle.std.proofs.lemmas.Bool.{
+  and_parts,
+  leb-true,
+  ltb-true,
+  ltb-false,
+  lt-ltb,
+  le-ltb,
+  eq-eqb,
+  ne_eqb,
+  not_from_true,
+  false≢true,
+  cond-true,
+  cond-false,
+  cond_both,
+}
 use Rattle.std.proofs.lemmas.List.{append-nil}
 use Rattle.std.proofs.lemmas.List.Elements.{All-head, All-tail, All-nil, All-cons, All-append}
 use Rattle.text_spec.specs.EditLine.{stands_for_itself, hexadecimal, text_byte, text_word}
@@ -27,8 +73,10 @@ value_of digit = cond (ltb digit 58) (digit - 48) (digit - 55)
 
 hex_back : (d : ℕ) → value_of (hexadecimal d) ≡ d
 hex_back d = cond_both (nat_lt d 10) (48 + d) (55 + d) (λ x. value_of x ≡ d)
-    (λ e. let low : 48 + d < 58 = omega (arith, ltb-true d 10 e) in cond-true (ltb (48 + d) 58) (48 + d - 48) (48 + d - 55) (lt-ltb (48 + d) 58 low) ∙ omega arith)
-    (λ e. let high : 58 ≤ 55 + d = omega (arith, ltb-false d 10 e) in cond-false (ltb (55 + d) 58) (55 + d - 48) (55 + d - 55) (le-ltb (55 + d) 58 high) ∙ omega arith)
+    (λ e. let low : 48 + d < 58 = omega (arith, ltb-true d 10 e) in
+    cond-true (ltb (48 + d) 58) (48 + d - 48) (48 + d - 55) (lt-ltb (48 + d) 58 low) ∙ omega arith)
+    (λ e. let high : 58 ≤ 55 + d = omega (arith, ltb-false d 10 e) in
+    cond-false (ltb (55 + d) 58) (55 + d - 48) (55 + d - 55) (le-ltb (55 + d) 58 high) ∙ omega arith)
 
 -- texts have no white space
 free_byte : (mark b : ℕ) → mark < 33 → IsFree mark (text_byte b)
@@ -73,7 +121,8 @@ same_byte b b' rest rest' small small' same =
     record { byte = sym one.first ∙ ap first_of same ∙ other.first; rest_is = sym one.behind ∙ ap behind_of same ∙ other.behind }
 
 byte_some : (b : ℕ) (rest : List ℕ) → 0 < length (text_byte b ++ rest)
-byte_some b rest = cond_both (stands_for_itself b) (b ∷ []) (37 ∷ hexadecimal (b / 16) ∷ hexadecimal (b % 16) ∷ []) (λ x. 0 < length (x ++ rest)) (λ e. omega arith) (λ e. omega arith)
+byte_some b rest = cond_both (stands_for_itself b) (b ∷ []) (37 ∷ hexadecimal (b / 16) ∷ hexadecimal (b % 16) ∷ []) (λ x. 0 < length (x ++ rest))
+    (λ e. omega arith) (λ e. omega arith)
 
 -- a text is written in one way
 pub same_text : (value value' : List ℕ) → IsTextOfWidth value → IsTextOfWidth value' → text_word value ≡ text_word value' → value ≡ value'
@@ -82,7 +131,8 @@ same_text [] (b' ∷ value') width width' same = absurd (omega (arith, ap length
 same_text (b ∷ value) [] width width' same = absurd (omega (arith, ap length same, byte_some b (text_word value)))
 same_text (b ∷ value) (b' ∷ value') width width' same =
     let first = same_byte b b' (text_word value) (text_word value') (All-head (λ x. x < 256) b value width) (All-head (λ x. x < 256) b' value' width') same in
-    ap (λ x. x ∷ value) first.byte ∙ ap (λ t. b' ∷ t) (same_text value value' (All-tail (λ x. x < 256) b value width) (All-tail (λ x. x < 256) b' value' width') first.rest_is)
+    ap (λ x. x ∷ value) first.byte ∙ ap (λ t. b' ∷ t) (same_text value value' (All-tail (λ x. x < 256) b value width)
+    (All-tail (λ x. x < 256) b' value' width') first.rest_is)
 
 -- a text that begins with a percent sign, and one that doesn't
 pub escaped_first : (b : ℕ) (behind rest : List ℕ) → 37 ∷ behind ≡ text_byte b ++ rest → behind ≡ hexadecimal (b / 16) ∷ hexadecimal (b % 16) ∷ rest
@@ -124,7 +174,8 @@ text_by value taken rest byte behind some next (b ∷ more) width value_is rest_
       rest_is = now.1;
     }
 
-pub text_step : (value taken rest : List ℕ) (byte : ℕ) (behind : List ℕ) → IsTextLeft value taken rest → 0 < length rest → IsNextByte rest byte behind → IsTextLeft value (taken ++ byte ∷ []) behind
+pub text_step : (value taken rest : List ℕ) (byte : ℕ) (behind : List ℕ) → IsTextLeft value taken rest → 0 < length rest
+    → IsNextByte rest byte behind → IsTextLeft value (taken ++ byte ∷ []) behind
 text_step value taken rest byte behind left some next = text_by value taken rest byte behind some next left.more left.width left.value_is left.rest_is
 
 text_end_by : (value taken rest : List ℕ) → length rest ≡ 0 → (more : List ℕ) → value ≡ taken ++ more → rest ≡ text_word more → taken ≡ value

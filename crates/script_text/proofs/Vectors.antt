@@ -37,13 +37,20 @@ sorted_vector v =
     let plane = map plane_item v.plane in
     let deep = map deep_item v.deep in
     record {
-      attrs = four 97 attrs ends plane deep attrs [] [] [] (each_begins 97 (attribute_item (codes "a")) (λ x. refl) v.attrs) (none_begins 97 end_item (λ x. refl) v.ends) (none_begins 97 plane_item (λ x. refl) v.plane) (none_begins 97 deep_item (λ x. refl) v.deep)
+      attrs = four 97 attrs ends plane deep attrs [] [] [] (each_begins 97 (attribute_item (codes "a")) (λ x. refl) v.attrs)
+          (none_begins 97 end_item (λ x. refl) v.ends) (none_begins 97 plane_item (λ x. refl) v.plane) (none_begins 97 deep_item (λ x. refl) v.deep)
           ∙ append-nil ((attrs ++ []) ++ []) ∙ append-nil (attrs ++ []) ∙ append-nil attrs;
-      ends = four 101 attrs ends plane deep [] ends [] [] (none_begins 101 (attribute_item (codes "a")) (λ x. refl) v.attrs) (each_begins 101 end_item (λ x. refl) v.ends) (none_begins 101 plane_item (λ x. refl) v.plane) (none_begins 101 deep_item (λ x. refl) v.deep)
+      ends = four 101 attrs ends plane deep [] ends [] [] (none_begins 101 (attribute_item (codes "a")) (λ x. refl) v.attrs)
+          (each_begins 101 end_item (λ x. refl) v.ends) (none_begins 101 plane_item (λ x. refl) v.plane)
+          (none_begins 101 deep_item (λ x. refl) v.deep)
           ∙ append-nil (ends ++ []) ∙ append-nil ends;
-      plane = four 112 attrs ends plane deep [] [] plane [] (none_begins 112 (attribute_item (codes "a")) (λ x. refl) v.attrs) (none_begins 112 end_item (λ x. refl) v.ends) (each_begins 112 plane_item (λ x. refl) v.plane) (none_begins 112 deep_item (λ x. refl) v.deep)
+      plane = four 112 attrs ends plane deep [] [] plane [] (none_begins 112 (attribute_item (codes "a")) (λ x. refl) v.attrs)
+          (none_begins 112 end_item (λ x. refl) v.ends) (each_begins 112 plane_item (λ x. refl) v.plane)
+          (none_begins 112 deep_item (λ x. refl) v.deep)
           ∙ append-nil plane;
-      deep = four 100 attrs ends plane deep [] [] [] deep (none_begins 100 (attribute_item (codes "a")) (λ x. refl) v.attrs) (none_begins 100 end_item (λ x. refl) v.ends) (none_begins 100 plane_item (λ x. refl) v.plane) (each_begins 100 deep_item (λ x. refl) v.deep);
+      deep = four 100 attrs ends plane deep [] [] [] deep (none_begins 100 (attribute_item (codes "a")) (λ x. refl) v.attrs)
+          (none_begins 100 end_item (λ x. refl) v.ends) (none_begins 100 plane_item (λ x. refl) v.plane)
+          (each_begins 100 deep_item (λ x. refl) v.deep);
     }
 
 -- the lists of items are those of the vector record
@@ -53,7 +60,8 @@ pub record AreOf (items : VectorItems) (v : Vector) : Type 0 where
   pub plane : items.plane ≡ v.plane
   pub deep : items.deep ≡ v.deep
 
-pub vector_items_are : (v : Vector) (text : List ℕ) (items : VectorItems) → IsVectorOfWidth v → AreVectorItemsOf text items → text ≡ spaced_words (vector_items v) → AreOf items v
+pub vector_items_are : (v : Vector) (text : List ℕ) (items : VectorItems) → IsVectorOfWidth v → AreVectorItemsOf text items
+    → text ≡ spaced_words (vector_items v) → AreOf items v
 vector_items_are v text items width of spelled =
     let words_are = of.are (vector_items v) (without_vector_items 32 v (omega arith) width) spelled in
     let sorted = subst (IsSorted v) words_are (sorted_vector v) in

@@ -17,7 +17,19 @@ use Rattle.s57_types.specs.declared.record.Feature.{Feature}
 use Rattle.s57_types.specs.declared.record.Rec.{Rec}
 use Rattle.s57_types.specs.declared.record.Rec.TheVariants.{V, F, H}
 use Rattle.text_spec.specs.ScriptLines.{IsOfWidth, vector_subfields, feature_subfields, record_subfields}
-use Rattle.script_text.specs.Widths.{IsNameOfWidth, IsIdentityOfWidth, IsAttributeOfWidth, IsEndOfWidth, IsPointOfWidth, IsSoundingOfWidth, IsPartnerOfWidth, IsPlaceOfWidth, IsVectorOfWidth, IsFeatureOfWidth, IsRecordOfWidth}
+use Rattle.script_text.specs.Widths.{
+  IsNameOfWidth,
+  IsIdentityOfWidth,
+  IsAttributeOfWidth,
+  IsEndOfWidth,
+  IsPointOfWidth,
+  IsSoundingOfWidth,
+  IsPartnerOfWidth,
+  IsPlaceOfWidth,
+  IsVectorOfWidth,
+  IsFeatureOfWidth,
+  IsRecordOfWidth,
+}
 
 -- what holds of each element of two lists
 pub all_front : {X : Type 0} (P : X → Type 0) (xs ys : List X) → All P (xs ++ ys) → All P xs
@@ -28,12 +40,14 @@ pub all_back : {X : Type 0} (P : X → Type 0) (xs ys : List X) → All P (xs ++
 all_back P [] ys all = all
 all_back P (x ∷ xs) ys all = all_back P xs ys (All-tail P x (xs ++ ys) all)
 
-all_of_rows : {X Y : Type 0} (P : Y → Type 0) (Q : X → Type 0) (row : X → List Y) → ((x : X) → All P (row x) → Q x) → (xs : List X) → All P (flat_map row xs) → All Q xs
+all_of_rows : {X Y : Type 0} (P : Y → Type 0) (Q : X → Type 0) (row : X → List Y) → ((x : X) → All P (row x) → Q x) → (xs : List X)
+    → All P (flat_map row xs) → All Q xs
 all_of_rows P Q row each [] all = All-nil Q
 all_of_rows P Q row each (x ∷ xs) all =
     All-cons Q x xs (each x (all_front P (row x) (flat_map row xs) all)) (all_of_rows P Q row each xs (all_back P (row x) (flat_map row xs) all))
 
-rows_of_all : {X Y : Type 0} (P : Y → Type 0) (Q : X → Type 0) (row : X → List Y) → ((x : X) → Q x → All P (row x)) → (xs : List X) → All Q xs → All P (flat_map row xs)
+rows_of_all : {X Y : Type 0} (P : Y → Type 0) (Q : X → Type 0) (row : X → List Y) → ((x : X) → Q x → All P (row x)) → (xs : List X)
+    → All Q xs → All P (flat_map row xs)
 rows_of_all P Q row each [] all = All-nil P
 rows_of_all P Q row each (x ∷ xs) all =
     All-append P (row x) (flat_map row xs) (each x (All-head Q x xs all)) (rows_of_all P Q row each xs (All-tail Q x xs all))
@@ -123,7 +137,8 @@ each_of a b c d e all =
 
 of_each : (a b c d e : List Subfield) → AreEach a b c d e → All IsOfWidth (a ++ b ++ c ++ d ++ e)
 of_each a b c d e each =
-    All-append IsOfWidth (a ++ b ++ c ++ d) e (All-append IsOfWidth (a ++ b ++ c) d (All-append IsOfWidth (a ++ b) c (All-append IsOfWidth a b each.first each.second) each.third) each.fourth) each.fifth
+    All-append IsOfWidth (a ++ b ++ c ++ d) e (All-append IsOfWidth (a ++ b ++ c) d
+    (All-append IsOfWidth (a ++ b) c (All-append IsOfWidth a b each.first each.second) each.third) each.fourth) each.fifth
 
 -- the widths of records
 vector_of_width : (v : Vector) → All IsOfWidth (vector_subfields v) → IsVectorOfWidth v
@@ -156,7 +171,8 @@ front_of f = frid_row (record { rcid = f.name.id; prim = f.prim; grup = f.grup; 
 
 feature_of_width : (f : Feature) → All IsOfWidth (feature_subfields f) → IsFeatureOfWidth f
 feature_of_width f all =
-    let each = each_of (front_of f) (flat_map (attribute_row 0) f.attf) (flat_map (attribute_row 0) f.natf) (flat_map partner_row f.partners) (flat_map place_row f.places) all in
+    let each = each_of (front_of f) (flat_map (attribute_row 0) f.attf) (flat_map (attribute_row 0) f.natf) (flat_map partner_row f.partners)
+    (flat_map place_row f.places) all in
     let head = recursion_from_All IsOfWidth (front_of f) each.first in
     record {
       name = head.1.0;
@@ -173,8 +189,24 @@ feature_of_width f all =
 
 width_of_feature : (f : Feature) → IsFeatureOfWidth f → All IsOfWidth (feature_subfields f)
 width_of_feature f width =
-    of_each (front_of f) (flat_map (attribute_row 0) f.attf) (flat_map (attribute_row 0) f.natf) (flat_map partner_row f.partners) (flat_map place_row f.places) (record {
-      first = All-from_recursion IsOfWidth (front_of f) (omega arith, (width.name, (width.prim, (width.grup, (width.objl, (width.rver, (omega arith, (width.foid.agen, (width.foid.fidn, (width.foid.fids, tt))))))))));
+    of_each (front_of f) (flat_map (attribute_row 0) f.attf) (flat_map (attribute_row 0) f.natf) (flat_map partner_row f.partners)
+    (flat_map place_row f.places) (record {
+      first = All-from_recursion IsOfWidth (front_of f) (
+        omega arith,
+        (
+          width.name,
+          (
+            width.prim,
+            (
+              width.grup,
+              (
+                width.objl,
+                (width.rver, (omega arith, (width.foid.agen, (width.foid.fidn, (width.foid.fids, tt))))),
+              ),
+            ),
+          ),
+        ),
+      );
       second = rows_of_all IsOfWidth IsAttributeOfWidth (attribute_row 0) width_of_attribute f.attf width.attf;
       third = rows_of_all IsOfWidth IsAttributeOfWidth (attribute_row 0) width_of_attribute f.natf width.natf;
       fourth = rows_of_all IsOfWidth IsPartnerOfWidth partner_row width_of_partner f.partners width.partners;

@@ -30,7 +30,10 @@ pub free_cons : {mark : ℕ} {text : List ℕ} (b : ℕ) → (b ≡ mark → ⊥
 free_cons {mark} {text} b other tail = record { free = or_from (b == mark) (holds mark text) (ne_eqb b mark other) tail.free }
 
 pub free_append : {mark : ℕ} {front rest : List ℕ} → IsFree mark front → IsFree mark rest → IsFree mark (front ++ rest)
-free_append {mark} {front} {rest} head tail = record { free = list_any-append (λ c. c == mark) front rest ∙ or_from (holds mark front) (holds mark rest) head.free tail.free }
+free_append {mark} {front} {rest} head tail = record {
+  free = list_any-append (λ c. c == mark) front rest
+      ∙ or_from (holds mark front) (holds mark rest) head.free tail.free;
+}
 
 -- the mark is no digit
 abbrev pub IsNoDigit : ℕ → Type 0
@@ -102,7 +105,8 @@ sounding_with latitude longitude depth = (latitude, longitude, depth)
 
 pub same_sounding : (latitude longitude depth : ℤ) (p : ℤ × ℤ × ℤ) → latitude ≡ p.0 → longitude ≡ p.1 → depth ≡ p.2 → sounding_with latitude longitude depth ≡ p
 same_sounding latitude longitude depth p latitude_is longitude_is depth_is =
-    ap (λ (z : ℤ). sounding_with z longitude depth) latitude_is ∙ ap (λ (z : ℤ). sounding_with p.0 z depth) longitude_is ∙ ap (λ (z : ℤ). sounding_with p.0 p.1 z) depth_is
+    ap (λ (z : ℤ). sounding_with z longitude depth) latitude_is ∙ ap (λ (z : ℤ). sounding_with p.0 z depth) longitude_is
+    ∙ ap (λ (z : ℤ). sounding_with p.0 p.1 z) depth_is
 
 abbrev pub attribute_with : ℕ → List ℕ → Attr
 attribute_with code value = record { code = code; value = value }
@@ -123,4 +127,5 @@ partner_with to rind comt = record { to = to; rind = rind; comt = comt }
 
 pub same_partner : (to : Lnam) (rind : ℕ) (comt : List ℕ) (p : Partner) → to ≡ p.to → rind ≡ p.rind → comt ≡ p.comt → partner_with to rind comt ≡ p
 same_partner to rind comt p to_is rind_is comt_is =
-    ap (λ (x : Lnam). partner_with x rind comt) to_is ∙ ap (λ (x : ℕ). partner_with p.to x comt) rind_is ∙ ap (λ (x : List ℕ). partner_with p.to p.rind x) comt_is
+    ap (λ (x : Lnam). partner_with x rind comt) to_is ∙ ap (λ (x : ℕ). partner_with p.to x comt) rind_is
+    ∙ ap (λ (x : List ℕ). partner_with p.to p.rind x) comt_is

@@ -22,7 +22,8 @@ pub record IsListOf {X : Type 0} (letter : ℕ) (item : X → List ℕ) (Fits : 
 
 -- one word more, which is a value more where it begins with the letter
 abbrev pub IsListTaken : {X : Type 0} (letter : ℕ) (item : X → List ℕ) (Fits : X → Type 0) (word : List ℕ) (earlier values : List X) → Type 0
-IsListTaken letter item Fits word earlier values = (words : List (List ℕ)) → IsListOf letter item Fits words earlier → IsListOf letter item Fits (words ++ word ∷ []) values
+IsListTaken letter item Fits word earlier values = (words : List (List ℕ)) → IsListOf letter item Fits words earlier
+    → IsListOf letter item Fits (words ++ word ∷ []) values
 
 pub record AreVectorItems (words : List (List ℕ)) (items : VectorItems) : Type 0 where
   pub attrs : IsListOf 97 (attribute_item (codes "a")) IsAttributeOfWidth words items.attrs

@@ -8,7 +8,8 @@ ghost use Rattle.s57_types.specs.declared.record.Spot.{Spot};
 ghost use Rattle.s57_types.specs.declared.record.Partner.{Partner};
 ghost use Rattle.text_spec.specs.EditLine.{attribute_item, deep_item, end_item, partner_item, place_item, plane_item, text_word};
 ghost use Rattle.script_text.specs.Items.{begins, IsListTaken};
-ghost use Rattle.script_text.specs.Widths.{IsAttributeOfWidth, IsEndOfWidth, IsPartnerOfWidth, IsPlaceOfWidth, IsPointOfWidth, IsSoundingOfWidth, IsTextOfWidth};
+ghost use Rattle.script_text.specs.Widths.{IsAttributeOfWidth, IsEndOfWidth, IsPartnerOfWidth, IsPlaceOfWidth, IsPointOfWidth, IsSoundingOfWidth};
+ghost use Rattle.script_text.specs.Widths.{IsTextOfWidth};
 
 use crate::cut::next_part;
 use crate::text::text_of;

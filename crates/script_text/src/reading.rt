@@ -96,7 +96,8 @@ fn set_of(alloc: Global, words: &[u8]) -> Result<Edit, AllocError>
 /// An `Err` means out of memory.
 fn record_of(alloc: Global, words: &[u8]) -> Result<Rec, AllocError>
     ensures width { IfOk result IsRecordOfWidth }
-    ensures found { (rec : Rec) → IsRecordOfWidth rec → record_has_line rec ≡ true → words.now ≡ spaced_words (record_words rec) → IfOk result (λ read. read ≡ rec) }
+    ensures found { (rec : Rec) → IsRecordOfWidth rec → record_has_line rec ≡ true → words.now ≡ spaced_words (record_words rec)
+        → IfOk result (λ read. read ≡ rec) }
 {
     if is_feature(kind_of_words(words)) {
         return Ok(Rec::F(feature_of(alloc, words)?));

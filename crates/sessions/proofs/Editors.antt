@@ -1,6 +1,37 @@
 -- An editor beside the log, while others are served and when it is served itself.
 use mathlib.Core.List.{IsPrefix}
-use Rattle.std.proofs.Common.{◌≡◌, ◌==◌, ℕ, ◌+◌, ◌<◌, ◌≤◌, Bool, true, false, List, [], ◌∷◌, ◌++◌, Option, Some, None, Result, Ok, Err, length, filter, count_by, cond, refl, sym, ap, ◌∙◌, subst, arith, append-nil}
+use Rattle.std.proofs.Common.{
+  ◌≡◌,
+  ◌==◌,
+  ℕ,
+  ◌+◌,
+  ◌<◌,
+  ◌≤◌,
+  Bool,
+  true,
+  false,
+  List,
+  [],
+  ◌∷◌,
+  ◌++◌,
+  Option,
+  Some,
+  None,
+  Result,
+  Ok,
+  Err,
+  length,
+  filter,
+  count_by,
+  cond,
+  refl,
+  sym,
+  ap,
+  ◌∙◌,
+  subst,
+  arith,
+  append-nil,
+}
 use Rattle.std.specs.Prelude.{OnOk}
 use Rattle.std.proofs.lemmas.List.Elements.{filter-append}
 use Rattle.std.proofs.lemmas.List.Sums.{sum_by-cons}
@@ -47,11 +78,13 @@ other_entry number entries e other =
     ∙ append-nil (entries_of number entries)
 
 -- an entry of another number changes nothing for an editor
-pub other_served : (c : Cell) (entries : List Entry) (number : ℕ) (e : Editor) (one : Entry) → IsEditor c entries number e → (one.desk == number) ≡ false → IsEditor c (entries ++ one ∷ []) number e
+pub other_served : (c : Cell) (entries : List Entry) (number : ℕ) (e : Editor) (one : Entry) → IsEditor c entries number e
+    → (one.desk == number) ≡ false → IsEditor c (entries ++ one ∷ []) number e
 other_served c entries number e one is other =
     let grown : IsPrefix entries (entries ++ one ∷ []) = (one ∷ [], refl) in
     record {
-      served = subst (λ (own : List Entry). IsServed c (entries ++ one ∷ []) own e.base e.session.done e.session.draft e.session.lines) (sym (other_entry number entries one other))
+      served = subst (λ (own : List Entry). IsServed c (entries ++ one ∷ []) own e.base e.session.done e.session.draft e.session.lines)
+          (sym (other_entry number entries one other))
           (served_later c entries (entries_of number entries) e.base e.session.done e.session.draft e.session.lines is.served (entries ++ one ∷ []) grown);
       within = base_stays c entries (entries ++ one ∷ []) e.base grown is.within;
       copy = is.copy ∙ sym (cell_stays c entries (entries ++ one ∷ []) e.base grown is.within);
@@ -67,7 +100,8 @@ pub asks : (what : Shared) (draft : Draft) → asked_by (shared_command what) dr
 asks shared.View draft = refl
 asks shared.Commit draft = refl
 
-module _ (old new : BookState) (number base : ℕ) (copy : Cell) (s : SessionState) (what : Shared) (reply : Reply) (e : Editor) (asked : IsAskedOf old number base s.draft what new reply) where
+module _ (old new : BookState) (number base : ℕ) (copy : Cell) (s : SessionState) (what : Shared) (reply : Reply) (e : Editor)
+    (asked : IsAskedOf old number base s.draft what new reply) where
   abbrev c : Cell
   c = old.opening
 
@@ -75,13 +109,17 @@ module _ (old new : BookState) (number base : ℕ) (copy : Cell) (s : SessionSta
   one = entry_of number asked.asked (brief_of reply)
 
   after_served : IsServed c old.entries (entries_of number old.entries) base s.done s.draft s.lines
-      → IsServed c new.entries (entries_of number old.entries ++ one ∷ []) (base_told (brief_of reply) base) (s.done ++ shared_command what ∷ []) (draft_after (shared_command what) s.draft) (s.lines ++ reply_line reply)
+      → IsServed c new.entries (entries_of number old.entries ++ one ∷ []) (base_told (brief_of reply) base) (s.done ++ shared_command what ∷ [])
+      (draft_after (shared_command what) s.draft) (s.lines ++ reply_line reply)
   after_served served =
-      shared_served c old.entries (entries_of number old.entries) base s.done s.draft s.lines served (shared_command what) (shared_is what) (request_of what s.draft) (asks what s.draft)
+      shared_served c old.entries (entries_of number old.entries) base s.done s.draft s.lines served (shared_command what)
+      (shared_is what) (request_of what s.draft) (asks what s.draft)
       new.entries one reply (one ∷ [], sym asked.entered.entries) asked.event refl
 
-  pub served_once : IsServed c old.entries (entries_of number old.entries) base s.done s.draft s.lines → base ≤ length (replayed c old.entries).commits → copy ≡ cell_told c old.entries base
-      → e.session.done ≡ s.done ++ shared_command what ∷ [] → e.session.draft ≡ draft_after (shared_command what) s.draft → e.session.lines ≡ s.lines ++ reply_line reply
+  pub served_once : IsServed c old.entries (entries_of number old.entries) base s.done s.draft s.lines
+      → base ≤ length (replayed c old.entries).commits → copy ≡ cell_told c old.entries base
+      → e.session.done ≡ s.done ++ shared_command what ∷ [] → e.session.draft ≡ draft_after (shared_command what) s.draft
+      → e.session.lines ≡ s.lines ++ reply_line reply
       → e.base ≡ base_after reply base → e.bench ≡ copy_after reply (history_of new).cell copy → IsServedOnce old number new e
   served_once served within copy_is done draft lines base_is bench_is =
       let moved = desk_moves c old.entries new.entries number asked.asked base copy within copy_is reply asked.entered.reply_is asked.entered.entries in
@@ -96,9 +134,12 @@ module _ (old new : BookState) (number base : ℕ) (copy : Cell) (s : SessionSta
         editor = record {
           served = subst (λ (own : List Entry). IsServed c new.entries own e.base e.session.done e.session.draft e.session.lines) own
               (subst (λ b. IsServed c new.entries (entries_of number old.entries ++ one ∷ []) b e.session.done e.session.draft e.session.lines) (sym told)
-              (subst (λ d. IsServed c new.entries (entries_of number old.entries ++ one ∷ []) (base_told (brief_of reply) base) d e.session.draft e.session.lines) (sym done)
-              (subst (λ d. IsServed c new.entries (entries_of number old.entries ++ one ∷ []) (base_told (brief_of reply) base) (s.done ++ shared_command what ∷ []) d e.session.lines) (sym draft)
-              (subst (λ l. IsServed c new.entries (entries_of number old.entries ++ one ∷ []) (base_told (brief_of reply) base) (s.done ++ shared_command what ∷ []) (draft_after (shared_command what) s.draft) l) (sym lines)
+              (subst (λ d. IsServed c new.entries (entries_of number old.entries ++ one ∷ [])
+              (base_told (brief_of reply) base) d e.session.draft e.session.lines) (sym done)
+              (subst (λ d. IsServed c new.entries (entries_of number old.entries ++ one ∷ []) (base_told (brief_of reply) base)
+              (s.done ++ shared_command what ∷ []) d e.session.lines) (sym draft)
+              (subst (λ l. IsServed c new.entries (entries_of number old.entries ++ one ∷ []) (base_told (brief_of reply) base)
+              (s.done ++ shared_command what ∷ []) (draft_after (shared_command what) s.draft) l) (sym lines)
               (after_served served)))));
           within = subst (λ b. b ≤ length (replayed c new.entries).commits) (sym base_is) moved.within;
           copy = bench_is ∙ newest ∙ moved.copy_is ∙ ap (cell_told c new.entries) (sym base_is);
@@ -108,7 +149,8 @@ module _ (old new : BookState) (number base : ℕ) (copy : Cell) (s : SessionSta
 -- ---- how many of its views and commits are answered
 
 -- as many entries as views and commits that are done
-pub served_count : (c : Cell) (seen entries : List Entry) (base : ℕ) (s : SessionState) → IsServed c seen entries base s.done s.draft s.lines → length entries ≡ count_by is_shared s.done
+pub served_count : (c : Cell) (seen entries : List Entry) (base : ℕ) (s : SessionState) → IsServed c seen entries base s.done s.draft s.lines
+    → length entries ≡ count_by is_shared s.done
 served_count c seen entries base s served = asked_length c.head.nall 0 (requests_of s.done) entries served.asked_are ∙ requests_count [] [] s.done
 
 pub count_append : (cs ds : List Command) → count_by is_shared (cs ++ ds) ≡ count_by is_shared cs + count_by is_shared ds
@@ -122,7 +164,8 @@ count_append (x ∷ cs) ds =
 one_is_left : (s : SessionState) (what : Shared) → StandsNext s (shared_command what) → count_by is_shared s.done < count_by is_shared s.script
 one_is_left s what next =
     let all = ap (count_by is_shared) next.script_is ∙ count_append s.done (shared_command what ∷ next.rest) in
-    let one = sum_by-cons (λ d. cond (is_shared d) 1 0) (shared_command what) next.rest ∙ ap (λ (b : Bool). cond b 1 0 + count_by is_shared next.rest) (shared_is what) in
+    let one = sum_by-cons (λ d. cond (is_shared d) 1 0) (shared_command what) next.rest
+    ∙ ap (λ (b : Bool). cond b 1 0 + count_by is_shared next.rest) (shared_is what) in
     omega (arith, all, one)
 
 -- where all are done, none stands next
@@ -135,11 +178,13 @@ pub not_at_end : (s : SessionState) → IsNext s None → count_by is_shared s.d
 not_at_end s next less = let same = ap (count_by is_shared) next in omega (arith, same, less)
 
 -- what was done of an editor's session since stays served
-pub advanced : (c : Cell) (entries : List Entry) (number : ℕ) (e : Editor) (s : SessionState) → IsEditor c entries number e → StaysServed e.base e.bench e.session s
+pub advanced : (c : Cell) (entries : List Entry) (number : ℕ) (e : Editor) (s : SessionState) → IsEditor c entries number e
+    → StaysServed e.base e.bench e.session s
     → IsServed c entries (entries_of number entries) e.base s.done s.draft s.lines
 advanced c entries number e s is stays = stays c entries (entries_of number entries) is.served (copy_stays c entries e.base e.bench is.within is.copy)
 
-pub has_next : (c : Cell) (entries : List Entry) (number : ℕ) (e : Editor) (s : SessionState) → IsEditor c entries number e → StaysServed e.base e.bench e.session s → s.script ≡ e.session.script
+pub has_next : (c : Cell) (entries : List Entry) (number : ℕ) (e : Editor) (s : SessionState) → IsEditor c entries number e
+    → StaysServed e.base e.bench e.session s → s.script ≡ e.session.script
     → length (entries_of number entries) < count_by is_shared e.session.script → IsNext s None → ⊥
 has_next c entries number e s is stays same left next =
     let count = served_count c entries (entries_of number entries) e.base s (advanced c entries number e s is stays) in
@@ -147,7 +192,8 @@ has_next c entries number e s is stays same left next =
     not_at_end s next (omega (arith, count, all, left))
 
 -- the lines of an editor whose session is at its end
-pub transcribed : (c : Cell) (entries : List Entry) (number : ℕ) (script : List Command) (base : ℕ) (s : SessionState) → IsServed c entries (entries_of number entries) base s.done s.draft s.lines → s.done ≡ script → (lines : List ℕ) → lines ≡ s.lines
+pub transcribed : (c : Cell) (entries : List Entry) (number : ℕ) (script : List Command) (base : ℕ) (s : SessionState)
+    → IsServed c entries (entries_of number entries) base s.done s.draft s.lines → s.done ≡ script → (lines : List ℕ) → lines ≡ s.lines
     → IsTranscript c entries number script lines
 transcribed c entries number script base s served done lines is = record {
   replies = served.replies;
@@ -156,8 +202,10 @@ transcribed c entries number script base s served done lines is = record {
 }
 
 -- all of them are done where its entries are all
-pub ended : (c : Cell) (entries : List Entry) (number : ℕ) (e : Editor) (s : SessionState) (what : Option Shared) (lines : List ℕ) → IsEditor c entries number e → StaysServed e.base e.bench e.session s → s.script ≡ e.session.script
-    → length (entries_of number entries) ≡ count_by is_shared e.session.script → IsNext s what → lines ≡ s.lines → IsEndedAs c entries number e.session.script lines
+pub ended : (c : Cell) (entries : List Entry) (number : ℕ) (e : Editor) (s : SessionState) (what : Option Shared) (lines : List ℕ)
+    → IsEditor c entries number e → StaysServed e.base e.bench e.session s → s.script ≡ e.session.script
+    → length (entries_of number entries) ≡ count_by is_shared e.session.script → IsNext s what → lines ≡ s.lines
+    → IsEndedAs c entries number e.session.script lines
 ended c entries number e s what lines is stays same all next lines_are =
     let served = advanced c entries number e s is stays in
     let count = sym (served_count c entries (entries_of number entries) e.base s served) ∙ all ∙ ap (count_by is_shared) (sym same) in

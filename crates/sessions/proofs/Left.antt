@@ -14,5 +14,6 @@ less_by old new Local same stops = (let all = ap length same in let more = stops
 less_by old new (Shared shared) same stops = omega arith
 less_by old new End same stops = omega arith
 
-pub less_is_left : (old new : SessionState) (before after : Stop) → before ≡ Local → new.script ≡ old.script → Stops old new after → left new after < left old before
+pub less_is_left : (old new : SessionState) (before after : Stop) → before ≡ Local → new.script ≡ old.script → Stops old new after
+    → left new after < left old before
 less_is_left old new before after is same stops = subst (λ stop. left new after < left old stop) (sym is) (less_by old new after same stops)

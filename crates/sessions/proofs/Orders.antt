@@ -1,5 +1,33 @@
 -- An order of sessions while it is gone through: which numbers are left, and how many entries there are.
-use Rattle.std.proofs.Common.{◌≡◌, ◌==◌, ℕ, zero, suc, ◌+◌, ◌-◌, ◌*◌, ◌<◌, ◌≤◌, Bool, true, false, List, [], ◌∷◌, ◌++◌, length, take, count_by, cond, All, sym, ap, ◌∙◌, subst, arith}
+use Rattle.std.proofs.Common.{
+  ◌≡◌,
+  ◌==◌,
+  ℕ,
+  zero,
+  suc,
+  ◌+◌,
+  ◌-◌,
+  ◌*◌,
+  ◌<◌,
+  ◌≤◌,
+  Bool,
+  true,
+  false,
+  List,
+  [],
+  ◌∷◌,
+  ◌++◌,
+  length,
+  take,
+  count_by,
+  cond,
+  All,
+  sym,
+  ap,
+  ◌∙◌,
+  subst,
+  arith,
+}
 use Rattle.std.specs.Prelude.{slice_index_or}
 use Rattle.std.proofs.lemmas.List.Sums.{sum_by-cons}
 use Rattle.std.proofs.lemmas.List.Elements.{All-cons, All-head, All-nil, All-tail, All-take}
@@ -16,10 +44,12 @@ use Rattle.room_laws.proofs.Orders.{few_entries, quota_there}
 use Rattle.sessions.specs.Replays.{IsShortScript, session_limit}
 
 -- a number stands less often before a place where it stands
-taken_below : (n : ℕ) (order : List ℕ) (j d : ℕ) → j < length order → slice_index_or order j d ≡ n → count_by (λ o. o == n) (take j order) < count_by (λ o. o == n) order
+taken_below : (n : ℕ) (order : List ℕ) (j d : ℕ) → j < length order → slice_index_or order j d ≡ n
+    → count_by (λ o. o == n) (take j order) < count_by (λ o. o == n) order
 taken_below n [] j d within is = absurd (omega (arith, within))
 taken_below n (x ∷ order) zero d within is =
-    let one = sum_by-cons (λ o. cond (o == n) 1 0) x order ∙ ap (λ (b : Bool). cond b 1 0 + count_by (λ o. o == n) order) (ap (λ o. o == n) is ∙ same_number n) in omega (arith, one)
+    let one = sum_by-cons (λ o. cond (o == n) 1 0) x order ∙ ap (λ (b : Bool). cond b 1 0 + count_by (λ o. o == n) order)
+    (ap (λ o. o == n) is ∙ same_number n) in omega (arith, one)
 taken_below n (x ∷ order) (suc j) d within is =
     let rest = taken_below n order j d (omega (arith, within)) is in
     let all = sum_by-cons (λ o. cond (o == n) 1 0) x order in
@@ -40,7 +70,8 @@ count_within (x ∷ cs) =
     let rest = count_within cs in
     let all = sum_by-cons (λ c. cond (is_shared c) 1 0) x cs in by_test (is_shared x) rest all
   where
-    by_test : (b : Bool) → count_by is_shared cs ≤ length cs → count_by is_shared (x ∷ cs) ≡ cond b 1 0 + count_by is_shared cs → count_by is_shared (x ∷ cs) ≤ suc (length cs)
+    by_test : (b : Bool) → count_by is_shared cs ≤ length cs → count_by is_shared (x ∷ cs) ≡ cond b 1 0 + count_by is_shared cs
+        → count_by is_shared (x ∷ cs) ≤ suc (length cs)
     by_test true rest all = omega (arith, rest, all)
     by_test false rest all = omega (arith, rest, all)
 
@@ -54,7 +85,8 @@ desks_within k [] all = All-nil (λ (e : Entry). (1 ≤ e.desk) × (e.desk ≤ k
 desks_within k (e ∷ es) all = All-cons (λ (e : Entry). (1 ≤ e.desk) × (e.desk ≤ k)) e es (All-head (λ i. (1 ≤ i) × (i ≤ k)) e.desk (order_of_entries es) all)
     (desks_within k es (All-tail (λ i. (1 ≤ i) × (i ≤ k)) e.desk (order_of_entries es) all))
 
-module _ (scripts : List (List Command)) (order : List ℕ) (o : IsOrder (quotas_of scripts) order) (j : ℕ) (entries : List Entry) (order_is : order_of_entries entries ≡ take j order) where
+module _ (scripts : List (List Command)) (order : List ℕ) (o : IsOrder (quotas_of scripts) order) (j : ℕ) (entries : List Entry)
+    (order_is : order_of_entries entries ≡ take j order) where
   abbrev script_at : ℕ → List Command
   script_at n = slice_index_or scripts (n - 1) []
 
@@ -65,7 +97,8 @@ module _ (scripts : List (List Command)) (order : List ℕ) (o : IsOrder (quotas
   quota_is n low high = o.each n low (subst (λ k. n ≤ k) (sym (length-map scripts (count_by is_shared))) high) ∙ quota_there scripts (n - 1)
 
   -- a session whose number stands next has views or commits left
-  pub one_left : (d n : ℕ) → j < length order → slice_index_or order j d ≡ n → 1 ≤ n → n ≤ length scripts → length (entries_of n entries) < count_by is_shared (script_at n)
+  pub one_left : (d n : ℕ) → j < length order → slice_index_or order j d ≡ n → 1 ≤ n → n ≤ length scripts
+      → length (entries_of n entries) < count_by is_shared (script_at n)
   one_left d n within is low high =
       let some = counted n in
       let less = taken_below n order j d within is in
@@ -76,7 +109,8 @@ module _ (scripts : List (List Command)) (order : List ℕ) (o : IsOrder (quotas
   room_left few short =
       let numbers = subst (λ k. All (λ i. (1 ≤ i) × (i ≤ k)) order) (length-map scripts (count_by is_shared)) o.sessions in
       let all = few_entries command_limit (length scripts) entries
-      (desks_within (length scripts) entries (subst (All (λ i. (1 ≤ i) × (i ≤ length scripts))) (sym order_is) (All-take (λ i. (1 ≤ i) × (i ≤ length scripts)) j order numbers)))
+      (desks_within (length scripts) entries (subst (All (λ i. (1 ≤ i) × (i ≤ length scripts))) (sym order_is)
+      (All-take (λ i. (1 ≤ i) × (i ≤ length scripts)) j order numbers)))
       (λ i low high.
       let some = counted i in
       let less = taken_within i order j in
@@ -86,7 +120,8 @@ module _ (scripts : List (List Command)) (order : List ℕ) (o : IsOrder (quotas
       omega (arith, all, few)
 
 -- at the end no session has any left
-pub none_left : (scripts : List (List Command)) (order : List ℕ) (entries : List Entry) → IsOrder (quotas_of scripts) order → order_of_entries entries ≡ order → (n : ℕ) → 1 ≤ n → n ≤ length scripts
+pub none_left : (scripts : List (List Command)) (order : List ℕ) (entries : List Entry) → IsOrder (quotas_of scripts) order
+    → order_of_entries entries ≡ order → (n : ℕ) → 1 ≤ n → n ≤ length scripts
     → length (entries_of n entries) ≡ count_by is_shared (slice_index_or scripts (n - 1) [])
 none_left scripts order entries o is n low high =
     sym (desk_count n entries)

@@ -24,8 +24,10 @@ taken [] c rest = refl
 taken (x ∷ done) c rest = ap (λ others. x ∷ others) (taken done c rest)
 
 -- with the one that stood next, one more is done
-pub one_done : (s : SessionState) (script : List Command) (k : ℕ) (c : Command) → s.script ≡ script → s.done ≡ take k script → k ≤ length script → StandsNext s c
+pub one_done : (s : SessionState) (script : List Command) (k : ℕ) (c : Command) → s.script ≡ script → s.done ≡ take k script
+    → k ≤ length script → StandsNext s c
     → take (k + 1) script ≡ s.done ++ c ∷ []
 one_done s script k c same done within next =
-    let counted : length s.done ≡ k = (let e : length (take k script) ≡ min k (length script) = length-take k script in omega (arith, e, ap length done, within)) in
+    let counted : length s.done ≡ k = (let e : length (take k script) ≡ min k (length script) = length-take k script in
+    omega (arith, e, ap length done, within)) in
     (let more : k + 1 ≡ suc (length s.done) = omega (arith, counted) in λ i. take (more i) ((sym same ∙ next.script_is) i)) ∙ taken s.done c next.rest

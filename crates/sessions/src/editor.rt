@@ -3,6 +3,7 @@
 ghost use Rattle.std.specs.Prelude.{◌≡◌, ◌≤◌, ◌<◌, [], IfErr, IfOk, List, OnOk, ℕ, count_by, length};
 ghost use Rattle.commit_book.specs.Books.{entry_limit, history_of};
 ghost use Rattle.history_spec.specs.Entries.{entries_of};
+ghost use Rattle.history_spec.specs.EntriesReport.{cell_told};
 ghost use Rattle.history_spec.specs.ReportText.{base_after};
 ghost use Rattle.history_spec.specs.declared.entry.Entry.{Entry};
 ghost use Rattle.s57_types.specs.declared.cell.Cell.{Cell};
@@ -11,17 +12,18 @@ ghost use Rattle.sessions.specs.Replays.{IsAskedOf, IsEditor, IsEndedAs, IsReply
 ghost use Rattle.text_spec.specs.ScriptLines.{is_shared};
 
 use crate::session::{Session, Shared};
-use cell_bench::{Bench, Prepared};
-use cell_spec::Rows;
+use cell_bench::Bench;
 use chain_topo::Steps;
 use commit_book::{Answered, Book, BookRefusal};
 use edit_sets::FormRefusal;
 use history_spec::Reply;
+use recheck::prepare;
 use report_text::Transcript;
 use s57_types::Duplicate;
 use script_text::Script;
 use std::alloc::{AllocError, Global};
 use std::sync::ledger::Ledger;
+use std::thread::Threads;
 
 /// A session with its copy of the cell, which is that after its base: the newest that an answer showed it.
 #[derive(Drop)]
@@ -56,9 +58,11 @@ impl Editor {
         })
     }
 
-    /// Commits the session's draft on its base, or tells the draft's fault of form.
-    fn commit<L: Ledger>(
+    /// Commits the session's draft on its base, or tells the draft's fault of form. What the draft changes is judged on the own copy of the
+    /// cell before the log is asked.
+    fn commit<R: Threads + Sync, L: Ledger>(
         &self,
+        rt: &R,
         alloc: Global,
         book: &mut Book,
         number: u32,
@@ -66,13 +70,13 @@ impl Editor {
     ) -> Result<Reply, AllocError>
         requires room { length book.old.entries < entry_limit }
         requires base { self.now.base ≤ length (history_of book.old).commits }
+        requires copy { self.now.bench ≡ cell_told book.old.opening book.old.entries self.now.base }
         ensures { IfOk result (IsAskedOf book.old number self.now.base self.now.session.draft Shared.Commit book.new) }
     {
-        book.known();
-        let nall = book.bench().head().nall;
+        let nall = self.bench.head().nall;
         match self.session.offer(alloc, nall) {
             Ok(set) => {
-                let prepared = Prepared::make(self.base, set, Rows::make(alloc));
+                let prepared = prepare(rt, alloc, &self.bench, self.base, set)?;
                 reply_of(book.answer_commit(alloc, number, &prepared, steps))
             }
             Err(FormRefusal::Fault(fault)) => reply_of(book.answer_faulty(number, fault)),
@@ -81,8 +85,9 @@ impl Editor {
     }
 
     /// Asks the log what the session's next command asks.
-    fn ask<L: Ledger>(
+    fn ask<R: Threads + Sync, L: Ledger>(
         &self,
+        rt: &R,
         alloc: Global,
         book: &mut Book,
         number: u32,
@@ -91,11 +96,12 @@ impl Editor {
     ) -> Result<Reply, AllocError>
         requires room { length book.old.entries < entry_limit }
         requires base { self.now.base ≤ length (history_of book.old).commits }
+        requires copy { self.now.bench ≡ cell_told book.old.opening book.old.entries self.now.base }
         ensures { IfOk result (IsAskedOf book.old number self.now.base self.now.session.draft shared book.new) }
     {
         match shared {
             Shared::View => reply_of(book.answer_view(number)),
-            Shared::Commit => self.commit(alloc, book, number, steps),
+            Shared::Commit => self.commit(rt, alloc, book, number, steps),
         }
     }
 
@@ -116,8 +122,9 @@ impl Editor {
     /// number, and its answer taken in.
     ///
     /// An `Err` means out of memory.
-    pub(crate) fn serve<L: Ledger>(
+    pub(crate) fn serve<R: Threads + Sync, L: Ledger>(
         &mut self,
+        rt: &R,
         alloc: Global,
         book: &mut Book,
         number: u32,
@@ -132,7 +139,7 @@ impl Editor {
         let Some(shared) = self.session.advance(alloc, &self.bench, self.base)? else {
             unreachable!()
         };
-        let reply = self.ask(alloc, book, number, shared, steps)?;
+        let reply = self.ask(rt, alloc, book, number, shared, steps)?;
         self.session.told(alloc, shared, &reply)?;
         self.follow(alloc, book, &reply)
     }

@@ -19,6 +19,7 @@ use script_text::Script;
 use std::alloc::{AllocError, Global};
 use std::marker::Brand;
 use std::sync::ledger::{Blank, Ledger};
+use std::thread::Threads;
 
 /// How many sessions may share a cell.
 pub const SESSION_LIMIT: usize = 16;
@@ -66,7 +67,8 @@ fn open_editors(alloc: Global, book: &Book, scripts: Vec<Script>) -> Result<Vec<
 }
 
 /// Serves one editor after the other, in an order of their numbers, which count from 1.
-fn serve_all<L: Ledger>(
+fn serve_all<R: Threads + Sync, L: Ledger>(
+    rt: &R,
     alloc: Global,
     book: &mut Book,
     editors: &mut Vec<Editor>,
@@ -86,7 +88,7 @@ fn serve_all<L: Ledger>(
     let mut steps = start_counter::<L>(blank);
     for number in order {
         let place = *number as usize - 1;
-        editors[place].serve(alloc, book, *number, &mut steps)?;
+        editors[place].serve(rt, alloc, book, *number, &mut steps)?;
     }
     Ok(())
 }
@@ -104,10 +106,12 @@ fn end_all(alloc: Global, editors: Vec<Editor>) -> Result<Vec<Transcript>, Alloc
 }
 
 /// Runs scripts on the cell of an opened log by one thread, in an order: each number is that of a script, counted from 1, and stands there
-/// as often as the script has views and commits. A session works on its own copy of the cell, which is that of its base.
+/// as often as the script has views and commits. A session works on its own copy of the cell, which is that of its base, and there several
+/// threads judge what a commit changes before the log is asked.
 ///
 /// An `Err` means out of memory.
-pub fn replay(
+pub fn replay<R: Threads + Sync>(
+    rt: &R,
     alloc: Global,
     book: Book,
     scripts: Vec<Script>,
@@ -121,7 +125,7 @@ pub fn replay(
 {
     let mut book = book;
     let mut editors = open_editors(alloc, &book, scripts)?;
-    serve_all::<Brand>(alloc, &mut book, &mut editors, order, Blank::new(1))?;
+    serve_all::<R, Brand>(rt, alloc, &mut book, &mut editors, order, Blank::new(1))?;
     book.known();
     let transcripts = end_all(alloc, editors)?;
     Ok(Replayed { book, transcripts })

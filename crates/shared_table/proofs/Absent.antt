@@ -7,7 +7,8 @@ use Rattle.row_table.specs.Rows.{value_of, without_key}
 pub without_absent : {K V : Type 0} (cmp : K → K → Ordering) (rows : List (K × V)) (key : K) → value_of cmp rows key ≡ None → without_key cmp rows key ≡ rows
 without_absent cmp [] key none = refl
 without_absent cmp (row ∷ rows) key none =
-    elim (is_eq (cmp row.0 key)) as (λ same. cond same (Some row.1) (value_of cmp rows key) ≡ None → cond same rows (row ∷ without_key cmp rows key) ≡ row ∷ rows) [
+    elim (is_eq (cmp row.0 key)) as (λ same. cond same (Some row.1) (value_of cmp rows key) ≡ None
+    → cond same rows (row ∷ without_key cmp rows key) ≡ row ∷ rows) [
       | true ↦ λ is. absurd (let n = ap is_some is in true≢false n)
       | false ↦ λ is. ap (λ rest. row ∷ rest) (without_absent cmp rows key is)
     ] none

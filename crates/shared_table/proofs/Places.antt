@@ -1,5 +1,26 @@
 -- The rows from a place on, piece by piece.
-use Rattle.std.proofs.Common.{◌≡◌, ℕ, suc, ◌+◌, ◌<◌, ◌≤◌, List, ◌++◌, length, take, drop, sym, ap, ◌∙◌, arith, append_assoc, length-append, length-drop, inl, inr}
+use Rattle.std.proofs.Common.{
+  ◌≡◌,
+  ℕ,
+  suc,
+  ◌+◌,
+  ◌<◌,
+  ◌≤◌,
+  List,
+  ◌++◌,
+  length,
+  take,
+  drop,
+  sym,
+  ap,
+  ◌∙◌,
+  arith,
+  append_assoc,
+  length-append,
+  length-drop,
+  inl,
+  inr,
+}
 use Rattle.std.proofs.Math.Seq.{drop-append-add}
 use Rattle.std.proofs.lemmas.Bool.{cases_lt}
 use Rattle.std.proofs.lemmas.List.{drop-append-le}
@@ -10,11 +31,19 @@ use Rattle.shared_table.specs.Pieces.{IsRunAt}
 module _ {X : Type 0} where
   -- a run ends with the rows at the latest
   run_within : (rows : List X) (place : ℕ) (run : List X) → IsRunAt rows place run → place + length run ≤ length rows
-  run_within rows place run runs = omega (arith, runs.some, ap length runs.from, length-drop place rows, length-append run (drop (place + length run) rows), length-drop (place + length run) rows)
+  run_within rows place run runs = omega (
+    arith,
+    runs.some,
+    ap length runs.from,
+    length-drop place rows,
+    length-append run (drop (place + length run) rows),
+    length-drop (place + length run) rows,
+  )
 
   module _ (blocks : List (List X)) (block : ℕ) (lt : block < length blocks) where
     -- the rows from a place of a block on
-    from_block : (n k : ℕ) → n ≡ rows_before blocks block + k → k ≤ length (block_at blocks block) → drop n (joined blocks) ≡ drop k (block_at blocks block) ++ joined (drop (suc block) blocks)
+    from_block : (n k : ℕ) → n ≡ rows_before blocks block + k → k ≤ length (block_at blocks block)
+        → drop n (joined blocks) ≡ drop k (block_at blocks block) ++ joined (drop (suc block) blocks)
     from_block n k is le =
         ap (drop n) (joined_parted blocks block lt)
         ∙ ap (λ m. drop m (joined (take block blocks) ++ (block_at blocks block ++ joined (drop (suc block) blocks)))) is
@@ -22,7 +51,8 @@ module _ {X : Type 0} where
         ∙ drop-append-le k (block_at blocks block) (joined (drop (suc block) blocks)) le
 
     -- a run of a block is one of all rows
-    pub run_in_block : (left place : ℕ) (run : List X) → rows_before blocks block + left ≡ place → IsRunAt (block_at blocks block) left run → IsRunAt (joined blocks) place run
+    pub run_in_block : (left place : ℕ) (run : List X) → rows_before blocks block + left ≡ place → IsRunAt (block_at blocks block) left run
+        → IsRunAt (joined blocks) place run
     run_in_block left place run is runs =
         let within = run_within (block_at blocks block) left run runs in
         record {
@@ -35,7 +65,8 @@ module _ {X : Type 0} where
         }
 
   -- some block has a row that is not among those before a place
-  pub block_left : (blocks : List (List X)) (block left place : ℕ) → rows_before blocks block + left ≡ place → place < length (joined blocks) → block < length blocks
+  pub block_left : (blocks : List (List X)) (block left place : ℕ) → rows_before blocks block + left ≡ place → place < length (joined blocks)
+      → block < length blocks
   block_left blocks block left place is lt = elim (cases_lt block (length blocks)) [
     | inl less ↦ less
     | inr more ↦ absurd (omega (arith, rows_before-length blocks block more, is, lt))

@@ -2,7 +2,8 @@
 
 ghost use Rattle.std.specs.Prelude.{◌≡◌, ◌++◌, ◌∷◌, [], codes, decimal, map, true, OnErr, OnOk};
 ghost use Rattle.text_spec.specs.CellText.{name_words};
-ghost use Rattle.text_spec.specs.EditLine.{attribute_item, edit_line, feature_words, has_line, head_words, partner_item, place_item, record_words, vector_words};
+ghost use Rattle.text_spec.specs.EditLine.{attribute_item, edit_line, feature_words, has_line, head_words, partner_item, place_item, record_words};
+ghost use Rattle.text_spec.specs.EditLine.{vector_words};
 ghost use Rattle.text_spec.specs.Lines.{spaced, spaced_words};
 
 use crate::item::{

@@ -4,7 +4,8 @@ ghost use Rattle.std.specs.Prelude.{◌≡◌, ◌++◌, ◌∷◌, [], ◌<◌,
 ghost use Rattle.std.specs.Fmt.{signed_decimal};
 ghost use Rattle.s57_types.specs.Heads.{level_number};
 ghost use Rattle.text_spec.specs.CellText.{kind_word};
-ghost use Rattle.text_spec.specs.EditLine.{attribute_item, deep_item, end_item, hexadecimal, item, partner_item, place_item, plane_item, stands_for_itself as stands_for_itself_lem, text_byte, text_word};
+ghost use Rattle.text_spec.specs.EditLine.{attribute_item, deep_item, end_item, hexadecimal, item, partner_item, place_item, plane_item};
+ghost use Rattle.text_spec.specs.EditLine.{stands_for_itself as stands_for_itself_lem, text_byte, text_word};
 ghost use Rattle.text_spec.specs.Lines.{spaced, spaced_words};
 
 use crate::words::{push_text, push_word, word_of_kind};

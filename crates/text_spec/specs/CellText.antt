@@ -48,7 +48,8 @@ abbrev pub row_lines : Subject × List Finding → List ℕ
 row_lines row = flat_map (finding_line row.0) row.1
 
 abbrev pub count_line : Cell → List ℕ
-count_line c = line (codes "cell") (codes "vi" ∷ decimal (length c.vi) ∷ codes "vc" ∷ decimal (length c.vc) ∷ codes "ve" ∷ decimal (length c.ve) ∷ codes "fe" ∷ decimal (length c.fe) ∷ [])
+count_line c = line (codes "cell") (codes "vi" ∷ decimal (length c.vi) ∷ codes "vc" ∷ decimal (length c.vc) ∷ codes "ve" ∷ decimal
+    (length c.ve) ∷ codes "fe" ∷ decimal (length c.fe) ∷ [])
 
 abbrev pub total_line : ℕ → List ℕ
 total_line total = line (codes "findings") (decimal total ∷ [])

@@ -69,7 +69,8 @@ place_item s = item (codes "s") 58 (kind_word s.to.kind) (decimal s.to.id ∷ de
 
 -- a vector record: its name, its version, then its items
 abbrev pub vector_words : Vector → List (List ℕ)
-vector_words v = name_words v.name ++ (decimal v.rver ∷ []) ++ map (attribute_item (codes "a")) v.attrs ++ map end_item v.ends ++ map plane_item v.plane ++ map deep_item v.deep
+vector_words v = name_words v.name ++ (decimal v.rver ∷ []) ++ map (attribute_item (codes "a")) v.attrs ++ map end_item v.ends
+    ++ map plane_item v.plane ++ map deep_item v.deep
 
 -- a feature record: its name, RVER, PRIM, GRUP, OBJL and FOID, then its items
 abbrev pub feature_words : Feature → List (List ℕ)
@@ -85,7 +86,8 @@ record_words (H h) = []
 -- new values of the head: EDTN, UPDN, UADT, ISDT, AALL and COMT
 abbrev pub head_words : HeadEdit → List (List ℕ)
 head_words e =
-    item (codes "edtn") 58 (text_word e.edtn) [] ∷ item (codes "updn") 58 (text_word e.updn) [] ∷ item (codes "uadt") 58 (text_word e.uadt) [] ∷ item (codes "isdt") 58 (text_word e.isdt) []
+    item (codes "edtn") 58 (text_word e.edtn) [] ∷ item (codes "updn") 58 (text_word e.updn) [] ∷ item (codes "uadt") 58
+    (text_word e.uadt) [] ∷ item (codes "isdt") 58 (text_word e.isdt) []
     ∷ item (codes "aall") 58 (decimal (level_number e.aall)) [] ∷ item (codes "comt") 58 (text_word e.comt) [] ∷ []
 
 -- an edit: what it does, and its record, its name, or the head and its values

@@ -1,5 +1,36 @@
 -- The order line of a report: of which session each shared command was. This project's own text.
-use Rattle.std.specs.Prelude.{◌≡◌, ℕ, ◌≤◌, ◌+◌, ◌-◌, ◌==◌, ◌&&◌, Bool, true, nat_eq, nat_le, List, [], ◌∷◌, map, length, take, drop, find, codes, count_by, slice_index_or, All, Option, None, Some, Result, Ok, Err, if◌then◌else◌}
+use Rattle.std.specs.Prelude.{
+  ◌≡◌,
+  ℕ,
+  ◌≤◌,
+  ◌+◌,
+  ◌-◌,
+  ◌==◌,
+  ◌&&◌,
+  Bool,
+  true,
+  nat_eq,
+  nat_le,
+  List,
+  [],
+  ◌∷◌,
+  map,
+  length,
+  take,
+  drop,
+  find,
+  codes,
+  count_by,
+  slice_index_or,
+  All,
+  Option,
+  None,
+  Some,
+  Result,
+  Ok,
+  Err,
+  if◌then◌else◌,
+}
 use Rattle.std.specs.Fmt.{decimal}
 use Rattle.std.specs.List.{range_with_len, filter_map, list_all, position_or_len}
 use Rattle.std.specs.Option.{option_map_or}
@@ -53,7 +84,8 @@ is_bad_session quotas earlier None = true
 is_bad_session quotas earlier (Some i) = nat_le (quota_of quotas i) (count_by (λ other. other == i) earlier)
 
 abbrev pub is_bad_item : List ℕ → List (List ℕ) → ℕ → Bool
-is_bad_item quotas items place = is_bad_session quotas (filter_map (session_of quotas) (take (place - 1) items)) (session_of quotas (slice_index_or items (place - 1) []))
+is_bad_item quotas items place = is_bad_session quotas (filter_map (session_of quotas) (take (place - 1) items))
+    (session_of quotas (slice_index_or items (place - 1) []))
 
 abbrev pub first_bad_item : List ℕ → List (List ℕ) → Option ℕ
 first_bad_item quotas items = find (is_bad_item quotas items) (range_with_len 1 (length items))

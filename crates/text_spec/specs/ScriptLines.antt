@@ -29,7 +29,8 @@ IsOfWidth (wide_text_of t) = All (λ b. b < 256) t
 IsOfWidth (fixed_of t) = All (λ b. b < 256) t
 
 abbrev pub vector_subfields : Vector → List Subfield
-vector_subfields v = name_row v.name ++ (unsigned_of 2 v.rver ∷ []) ++ flat_map (attribute_row 0) v.attrs ++ flat_map end_row v.ends ++ flat_map plane_row v.plane ++ flat_map deep_row v.deep
+vector_subfields v = name_row v.name ++ (unsigned_of 2 v.rver ∷ []) ++ flat_map (attribute_row 0) v.attrs ++ flat_map end_row v.ends
+    ++ flat_map plane_row v.plane ++ flat_map deep_row v.deep
 
 abbrev pub feature_subfields : Feature → List Subfield
 feature_subfields f = frid_row (record { rcid = f.name.id; prim = f.prim; grup = f.grup; objl = f.objl; rver = f.rver; ruin = 1 }) ++ foid_row f.foid

@@ -1,5 +1,29 @@
 -- The keys of the rows that pass a test.
-use Rattle.std.proofs.Common.{◌≡◌, ◌&&◌, ◌||◌, Bool, true, false, not, List, [], ◌∷◌, Option, Some, cond, is_some, map, filter, refl, sym, ap, ◌∙◌, Ordering, Less, is_eq}
+use Rattle.std.proofs.Common.{
+  ◌≡◌,
+  ◌&&◌,
+  ◌||◌,
+  Bool,
+  true,
+  false,
+  not,
+  List,
+  [],
+  ◌∷◌,
+  Option,
+  Some,
+  cond,
+  is_some,
+  map,
+  filter,
+  refl,
+  sym,
+  ap,
+  ◌∙◌,
+  Ordering,
+  Less,
+  is_eq,
+}
 use Rattle.std.specs.Cmp.{Equal-is, IsTotalOrder, eq_by_cmp_equiv}
 use Rattle.std.specs.List.{AllByRecursion}
 use Rattle.std.specs.List.Sorted.{IsStrictlySortedBy}
@@ -23,7 +47,8 @@ module _ {K V : Type 0} (order : K → K → Ordering) (total : IsTotalOrder ord
       (λ i. (eq_by_cmp_equiv total).symm q row.0 i || among_keys rows q i) ∙ sym (some_or (is_eq (order row.0 q)) row.1 (value_of order rows q))
 
 -- what stands among those that aren't one
-dropped_by : (tie same rest : Bool) (k : Bool) → (tie ≡ true → same ≡ k) → (not k || false) ≡ not k → cond (not same) (tie || (not k && rest)) (not k && rest) ≡ (not k && (tie || rest))
+dropped_by : (tie same rest : Bool) (k : Bool) → (tie ≡ true → same ≡ k) → (not k || false) ≡ not k
+    → cond (not same) (tie || (not k && rest)) (not k && rest) ≡ (not k && (tie || rest))
 dropped_by true same rest k f e = let is = f refl in by same k is rest
   where
     by : (same k : Bool) → same ≡ k → (rest : Bool) → cond (not same) (true || (not k && rest)) (not k && rest) ≡ (not k && (true || rest))
@@ -35,7 +60,8 @@ dropped_by false true rest k f e = refl
 dropped_by false false rest k f e = refl
 
 module _ {K : Type 0} (order : K → K → Ordering) (exact : CmpEqualImpliesEq order) (k : K) where
-  kept_by : (q x : K) (rest : List K) (same : Bool) → is_among order (cond (not same) (x ∷ rest) rest) q ≡ cond (not same) (is_eq (order q x) || is_among order rest q) (is_among order rest q)
+  kept_by : (q x : K) (rest : List K) (same : Bool) → is_among order (cond (not same) (x ∷ rest) rest) q ≡ cond (not same)
+      (is_eq (order q x) || is_among order rest q) (is_among order rest q)
   kept_by q x rest true = refl
   kept_by q x rest false = refl
 

@@ -70,7 +70,8 @@ sides_alike a b = four (int_cmp a.0 b.0) (int_cmp a.1 b.1) (int_cmp a.2 b.2) (in
 
 pub exact_sides : CmpEqualImpliesEq sides_order
 exact_sides a b e =
-    let first = both_equal (int_cmp a.0 b.0) (ordering_then (int_cmp a.1 b.1) (ordering_then (int_cmp a.2 b.2) (int_cmp a.3 b.3))) (sym (sides_alike a b) ∙ e) in
+    let first = both_equal (int_cmp a.0 b.0) (ordering_then (int_cmp a.1 b.1) (ordering_then (int_cmp a.2 b.2) (int_cmp a.3 b.3)))
+    (sym (sides_alike a b) ∙ e) in
     let second = both_equal (int_cmp a.1 b.1) (ordering_then (int_cmp a.2 b.2) (int_cmp a.3 b.3)) first.1 in
     let third = both_equal (int_cmp a.2 b.2) (int_cmp a.3 b.3) second.1 in
     λ i. (exact_signed a.0 b.0 first.0 i, exact_signed a.1 b.1 second.0 i, exact_signed a.2 b.2 third.0 i, exact_signed a.3 b.3 third.1 i)

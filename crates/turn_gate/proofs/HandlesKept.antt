@@ -5,7 +5,48 @@ use mathlib.Core.Option.{some, none, some-injective}
 use native.Mathlib.Decide.{ℕ_discrete}
 use lib.ListN.{get_elem?}
 use lib.Seq.{set-get_or}
-use Rattle.std.proofs.Common.{◌≡◌, ◌≢◌, ◌⊎◌, ℕ, ◌+◌, ◌%◌, ◌^◌, ◌<◌, ◌≤◌, ◌||◌, if◌then◌else◌, Bool, true, false, List, [], ◌∷◌, ◌++◌, length, replicate, get_or, set, All, Contains, Option, Some, None, sym, refl, ap, ◌∙◌, subst, inl, inr, ⊎_elim, arith, length-set, length-append, get_or-set_other, get_or-set_same}
+use Rattle.std.proofs.Common.{
+  ◌≡◌,
+  ◌≢◌,
+  ◌⊎◌,
+  ℕ,
+  ◌+◌,
+  ◌%◌,
+  ◌^◌,
+  ◌<◌,
+  ◌≤◌,
+  ◌||◌,
+  if◌then◌else◌,
+  Bool,
+  true,
+  false,
+  List,
+  [],
+  ◌∷◌,
+  ◌++◌,
+  length,
+  replicate,
+  get_or,
+  set,
+  All,
+  Contains,
+  Option,
+  Some,
+  None,
+  sym,
+  refl,
+  ap,
+  ◌∙◌,
+  subst,
+  inl,
+  inr,
+  ⊎_elim,
+  arith,
+  length-set,
+  length-append,
+  get_or-set_other,
+  get_or-set_same,
+}
 use Rattle.std.proofs.lemmas.Bool.{cases_Bool}
 use Rattle.std.proofs.lemmas.List.Elements.{Contains-append_left, Contains-append_right, All-weaker, All-nil, All-cons, All-append, All-same}
 use Rattle.atomic_table.specs.Table.{State, Me, step, Allows, Splits, Joins, Final, Seen, opening, keeps}
@@ -17,7 +58,23 @@ use Rattle.turn_gate.specs.TicketLockRule.{LockState, Keeps, IsSound, IsAt, Tick
 use Rattle.turn_gate.specs.Outcomes.{DrawsNumber, ComparesHistories, giving_view, new_view, joined_view, spent_view}
 use Rattle.turn_gate.proofs.Prefixes.{longer_prefix}
 use Rattle.turn_gate.proofs.Entries.{entries_by-unused, entries_by-none_before, exact_between}
-use Rattle.turn_gate.proofs.Views.{put, put_here, put_else, moved, moved_here, moved_else, set_at, at_end, only, each_stays, at_stays, at_stays_longer, none_marked, waiting_set, waiting_more}
+use Rattle.turn_gate.proofs.Views.{
+  put,
+  put_here,
+  put_else,
+  moved,
+  moved_here,
+  moved_else,
+  set_at,
+  at_end,
+  only,
+  each_stays,
+  at_stays,
+  at_stays_longer,
+  none_marked,
+  waiting_set,
+  waiting_more,
+}
 
 abbrev value_of : {O : Type 0} → O → Option O → O
 value_of d (Some o) = o
@@ -31,7 +88,16 @@ module _ {V E O : Type 0} (origin : V → O) (entries : V → List E) (number : 
   Mine = Me (Option V) (HandleView E O)
 
   pub starts : (x : V) → origin x ≡ start → entries x ≡ [] → Rule (opening (1 ∷ replicate 18 0) (Some x ∷ []) (opening_view start))
-  starts x from empty = let c : LockState E = record { published = []; given = 1; issued = 0; served = 0; keeper = λ _. 0; holder = λ _. 0; drawer = 0 } in record {
+  starts x from empty = let c : LockState E = record {
+    published = [];
+    given = 1;
+    issued = 0;
+    served = 0;
+    keeper = λ _. 0;
+    holder =
+        λ _. 0;
+    drawer = 0;
+  } in record {
     lock = c;
     wide = refl;
     deep = refl;
@@ -46,7 +112,8 @@ module _ {V E O : Type 0} (origin : V → O) (entries : V → List E) (number : 
       observed = ([], refl);
       joined = All-nil (λ (l : List E). IsPrefix l []);
       origin = λ o e. sym (ap (value_of start) e);
-      own = All-cons (Keeps number c 0 []) (record { number = 0; entries = [] }) [] (record { low = omega arith; keeper = refl; seen = refl; whole = refl }) (All-nil (Keeps number c 0 []));
+      own = All-cons (Keeps number c 0 []) (record { number = 0; entries = [] }) []
+          (record { low = omega arith; keeper = refl; seen = refl; whole = refl }) (All-nil (Keeps number c 0 []));
       ticket = λ t e. absurd (cc);
       mark = λ no. absurd (cc);
       draws = λ _. (refl, refl, refl);
@@ -54,10 +121,13 @@ module _ {V E O : Type 0} (origin : V → O) (entries : V → List E) (number : 
     home = λ _. (x, refl, empty, from);
   }
 
-  pub draws_number : (slots id : ℕ) (me : Mine) → me.0.draws ≡ true → me.0.drawn ≡ false → me.0.marked ≡ false → Allows Rule slots id me 0 (λ n. (n + 1) % 2 ^ 64) (DrawsNumber (step slots 0 1 0 none) me)
+  pub draws_number : (slots id : ℕ) (me : Mine) → me.0.draws ≡ true → me.0.drawn ≡ false → me.0.marked ≡ false
+      → Allows Rule slots id me 0 (λ n. (n + 1) % 2 ^ 64) (DrawsNumber (step slots 0 1 0 none) me)
   draws_number slots id me root nothing unmarked s h deep at small =
-      let c : LockState E = h.lock in let v : HandleView E O = me.0 in let n : ℕ = (get_or s.words 0 0 + 1) % 2 ^ 64 in let w : HandleView E O = record v { drawn = true } in
-      let k = h.each id v at in let wide = h.wide in let r = k.draws root in let r₂ = r.2 in let none' : count_if v.drawn ≡ 0 = ap count_if nothing in let bounded₁ = h.bounded.1 in
+      let c : LockState E = h.lock in let v : HandleView E O = me.0 in let n : ℕ = (get_or s.words 0 0 + 1) % 2 ^ 64 in let w : HandleView E O =
+      record v { drawn = true } in
+      let k = h.each id v at in let wide = h.wide in let r = k.draws root in let r₂ = r.2 in let none' : count_if v.drawn ≡ 0 =
+      ap count_if nothing in let bounded₁ = h.bounded.1 in
       let next : get_or (set s.words 0 n) 0 0 ≡ c.given + 1 = get_or-set_same s.words 0 n 0 (omega arith) ∙ (let g : n ≡ c.given + 1 = omega arith in g) in
       let K : ℕ → HandleView E O → Type 0 = IsSound {V = V} {E = E} {O = O} number start c (get_or (set s.words 0 n) 0 0) s.homes in (
         w,
@@ -123,7 +193,8 @@ module _ {V E O : Type 0} (origin : V → O) (entries : V → List E) (number : 
             mark = k.mark;
             draws = k.draws;
           } (λ j u _ e. h.each j u e);
-          home = λ all. h.home (λ j u e. ⊎_elim (λ (t : (j ≡ id)). ap (λ (z : HandleView E O). z.marked) (some-injective u v (sym e ∙ (ap (get_elem? s.views) t ∙ at))) ∙ all id w (set_at s.views id v w at))
+          home = λ all. h.home (λ j u e. ⊎_elim (λ (t : (j ≡ id)). ap (λ (z : HandleView E O). z.marked)
+              (some-injective u v (sym e ∙ (ap (get_elem? s.views) t ∙ at))) ∙ all id w (set_at s.views id v w at))
               (λ (t : (j ≢ id)). all j u (set_else s.views id j w t ∙ e)) (same_or_not j id));
         },
         (refl, (All-weaker (Keeps number c id v.observed) (IsExact number v.observed) (λ o p. p.seen) v.own k.own, k.joined)),
@@ -132,14 +203,17 @@ module _ {V E O : Type 0} (origin : V → O) (entries : V → List E) (number : 
       same_or_not : (a b : ℕ) → (a ≡ b) ⊎ (a ≢ b)
       same_or_not a b = dite (ℕ_discrete a b) (λ e. inl e) (λ e. inr e)
 
-  pub splits_handle : (id : ℕ) (v : HandleView E O) → v.draws ≡ true → v.drawn ≡ true → v.given < 2 ^ 32 → v.ticket ≡ None → v.marked ≡ false → Splits Rule id v (giving_view v) (new_view v)
+  pub splits_handle : (id : ℕ) (v : HandleView E O) → v.draws ≡ true → v.drawn ≡ true → v.given < 2 ^ 32 → v.ticket ≡ None
+      → v.marked ≡ false → Splits Rule id v (giving_view v) (new_view v)
   splits_handle id v root drawn low free unmarked s h at =
-      let c : LockState E = h.lock in let w : HandleView E O = giving_view v in let o : HandleView E O = new_view v in let k = h.each id v at in let r = k.draws root in let r₁ = r.1 in let r₂ = r.2 in
+      let c : LockState E = h.lock in let w : HandleView E O = giving_view v in let o : HandleView E O = new_view v in let k =
+      h.each id v at in let r = k.draws root in let r₁ = r.1 in let r₂ = r.2 in
       let one : count_if v.drawn ≡ 1 = ap count_if drawn in let bounded₀ = h.bounded.0 in
       let n : ℕ = length s.views in let vs : List (HandleView E O) = set s.views id w in let long : length vs ≡ n = length-set s.views id w in
       let c' : LockState E = record c { given = c.given + 1; keeper = put c.keeper c.given n } in
       let K : ℕ → HandleView E O → Type 0 = IsSound {V = V} {E = E} {O = O} number start c' (get_or s.words 0 0) s.homes in
-      let none' : entries_by number v.given c.published ≡ [] = ap (λ (z : ℕ). entries_by number z c.published) r.1 ∙ entries_by-unused number c.given c.published h.numbered in
+      let none' : entries_by number v.given c.published ≡ [] = ap (λ (z : ℕ). entries_by number z c.published) r.1
+      ∙ entries_by-unused number c.given c.published h.numbered in
       let stay : (j : ℕ) (u : HandleView E O) → All (Keeps number c j u.observed) u.own → All (Keeps number c' j u.observed) u.own =
       (λ j u all. All-weaker (Keeps number c j u.observed) (Keeps number c' j u.observed) (λ a p. let low' = p.low in record {
         low = let g : a.number < c.given + 1 = omega arith in g;
@@ -184,31 +258,60 @@ module _ {V E O : Type 0} (origin : V → O) (entries : V → List E) (number : 
         tickets = h.tickets;
         turns = h.turns;
         queue = let more = waiting_set s.views id v w at in let last = waiting_more vs o in let queue = h.queue in omega arith;
-        queued = λ t low' high. at_stays_longer (λ u. u.ticket ≡ Some t) vs o (c.holder t) (at_stays (λ u. u.ticket ≡ Some t) s.views id v w (c.holder t) at (λ _ e. e) (h.queued t low' high));
-        bounded = (let more = length-append vs (o ∷ []) in (let g : length (vs ++ o ∷ []) ≤ c.given + 1 = omega arith in g), (let g : c.given + 1 ≤ 2 ^ 32 = omega arith in g));
+        queued = λ t low' high. at_stays_longer (λ u. u.ticket ≡ Some t) vs o (c.holder t)
+            (at_stays (λ u. u.ticket ≡ Some t) s.views id v w (c.holder t) at (λ _ e. e) (h.queued t low' high));
+        bounded = (
+          let more = length-append vs (o ∷ []) in (let g : length (vs ++ o ∷ []) ≤ c.given + 1 = omega arith in g),
+          (let g : c.given + 1 ≤ 2 ^ 32 = omega arith in g),
+        );
         numbered = All-weaker (λ (e : E). number e < c.given) (λ (e : E). number e < c.given + 1) (λ e l. omega arith) c.published h.numbered;
         keepers = λ m l. dite (ℕ_discrete m c.given)
-            (λ last. (o, ap (get_elem? (vs ++ o ∷ [])) (ap (put c.keeper c.given n) last ∙ put_here c.keeper c.given n) ∙ at_last vs o n long, (let same : v.given ≡ m = r.1 ∙ sym last in subst (λ (z : ℕ). Contains (v.given ∷ []) z) same (0, omega arith, refl))))
-            (λ before. let P : HandleView E O → Type 0 = (λ u. Contains (numbers_of u.own) m) in subst (λ (z : ℕ). IsAt (vs ++ o ∷ []) z P) (sym (put_else c.keeper c.given n m before)) (at_stays_longer P vs o (c.keeper m) (at_stays P s.views id v w (c.keeper m) at (λ _ p. p) (h.keepers m (omega arith)))));
-        each = λ j u e. ⊎_elim (olds j u) (λ (t : (j ≡ length vs) × (o ≡ u)). subst (λ (z : ℕ × HandleView E O). K z.0 z.1) (λ i. (sym (t.0 ∙ long) i, t.1 i)) new) (at_end vs o u j e);
+            (λ last. (
+              o,
+              ap (get_elem? (vs ++ o ∷ [])) (ap (put c.keeper c.given n) last ∙ put_here c.keeper c.given n) ∙ at_last vs o n long,
+              (let same : v.given ≡ m = r.1 ∙ sym last in subst (λ (z : ℕ). Contains (v.given ∷ []) z) same (0, omega arith, refl)),
+            ))
+            (λ before. let P : HandleView E O → Type 0 = (λ u. Contains (numbers_of u.own) m) in
+            subst (λ (z : ℕ). IsAt (vs ++ o ∷ []) z P) (sym (put_else c.keeper c.given n m before))
+            (at_stays_longer P vs o (c.keeper m) (at_stays P s.views id v w (c.keeper m) at (λ _ p. p) (h.keepers m (omega arith)))));
+        each = λ j u e. ⊎_elim (olds j u) (λ (t : (j ≡ length vs) × (o ≡ u)). subst (λ (z : ℕ × HandleView E O). K z.0 z.1)
+            (λ i. (sym (t.0 ∙ long) i, t.1 i)) new) (at_end vs o u j e);
         home = λ all. h.home (none_marked s.views id v w at unmarked (λ j u e. all j u (at_longer vs (o ∷ []) j u e)));
       }
 
-  pub joins_handles : (id : ℕ) (v : HandleView E O) (other : ℕ) (w : HandleView E O) → v.ticket ≡ None → v.marked ≡ false → w.ticket ≡ None → w.marked ≡ false → Joins Rule id v other w (joined_view v w) spent_view
+  pub joins_handles : (id : ℕ) (v : HandleView E O) (other : ℕ) (w : HandleView E O) → v.ticket ≡ None → v.marked ≡ false
+      → w.ticket ≡ None → w.marked ≡ false → Joins Rule id v other w (joined_view v w) spent_view
   joins_handles id v other w free unmarked free' unmarked' s h at apart there =
-      let c : LockState E = h.lock in let b : HandleView E O = joined_view v w in let o : HandleView E O = spent_view in let vs : List (HandleView E O) = set s.views id b in
+      let c : LockState E = h.lock in let b : HandleView E O = joined_view v w in let o : HandleView E O = spent_view in
+      let vs : List (HandleView E O) = set s.views id b in
       let at' : get_elem? s.views other ≡ some w = sym (set_else s.views id other b apart) ∙ there in let k = h.each id v at in let k' = h.each other w at' in
       let c' : LockState E = record c { keeper = moved c.keeper other id; drawer = moved (λ _. c.drawer) other id 0 } in
       let K : ℕ → HandleView E O → Type 0 = IsSound {V = V} {E = E} {O = O} number start c' (get_or s.words 0 0) s.homes in
       let L : List E = longer v.observed w.observed in
-      let over : IsPrefix L c.published × IsPrefix v.observed L × IsPrefix w.observed L = longer_prefix v.observed w.observed c.published k.observed k'.observed in
+      let over : IsPrefix L c.published × IsPrefix v.observed L × IsPrefix w.observed L =
+      longer_prefix v.observed w.observed c.published k.observed k'.observed in
       let mine : K id b = record {
         observed = over.0;
-        joined = All-cons (λ (l : List E). IsPrefix l L) v.observed (w.observed ∷ []) over.1 (All-cons (λ (l : List E). IsPrefix l L) w.observed [] over.2 (All-nil (λ (l : List E). IsPrefix l L)));
+        joined = All-cons (λ (l : List E). IsPrefix l L) v.observed (w.observed ∷ []) over.1
+            (All-cons (λ (l : List E). IsPrefix l L) w.observed [] over.2 (All-nil (λ (l : List E). IsPrefix l L)));
         origin = k.origin;
         own = All-append (Keeps number c' id L) v.own w.own
-            (All-weaker (Keeps number c id v.observed) (Keeps number c' id L) (λ a p. record { low = p.low; keeper = moved_else c.keeper other id a.number (λ e. apart (sym e ∙ p.keeper)) ∙ p.keeper; seen = exact_between number v.observed L c.published a over.1 over.0 p.seen p.whole; whole = p.whole }) v.own k.own)
-            (All-weaker (Keeps number c other w.observed) (Keeps number c' id L) (λ a p. record { low = p.low; keeper = moved_here c.keeper other id a.number p.keeper; seen = exact_between number w.observed L c.published a over.2 over.0 p.seen p.whole; whole = p.whole }) w.own k'.own);
+            (All-weaker (Keeps number c id v.observed) (Keeps number c' id L)
+            (λ a p. record {
+              low = p.low;
+              keeper = moved_else c.keeper other id a.number (λ e. apart (sym e ∙ p.keeper)) ∙ p.keeper;
+              seen =
+                  exact_between number v.observed L c.published a over.1 over.0 p.seen p.whole;
+              whole = p.whole;
+            }) v.own k.own)
+            (All-weaker (Keeps number c other w.observed) (Keeps number c' id L)
+            (λ a p. record {
+              low = p.low;
+              keeper = moved_here c.keeper other id a.number p.keeper;
+              seen =
+                  exact_between number w.observed L c.published a over.2 over.0 p.seen p.whole;
+              whole = p.whole;
+            }) w.own k'.own);
         ticket = k.ticket;
         mark = λ m. let no : true ≡ false = sym m ∙ unmarked in absurd (cc);
         draws = ⊎_elim
@@ -232,11 +335,19 @@ module _ {V E O : Type 0} (origin : V → O) (entries : V → List E) (number : 
         mark = λ no. absurd (cc);
         draws = λ no. absurd (cc);
       } in
-      let rest : (j : ℕ) (u : HandleView E O) → get_elem? vs j ≡ some u → j ≢ other → K j u = each_stays (λ j u. j ≢ other → K j u) s.views id b (λ _. mine) (λ j u far e not. let y = h.each j u e in record {
+      let rest : (j : ℕ) (u : HandleView E O) → get_elem? vs j ≡ some u → j ≢ other → K j u =
+      each_stays (λ j u. j ≢ other → K j u) s.views id b (λ _. mine) (λ j u far e not. let y = h.each j u e in record {
         observed = y.observed;
         joined = y.joined;
         origin = y.origin;
-        own = All-weaker (Keeps number c j u.observed) (Keeps number c' j u.observed) (λ a p. record { low = p.low; keeper = moved_else c.keeper other id a.number (λ z. not (sym p.keeper ∙ z)) ∙ p.keeper; seen = p.seen; whole = p.whole }) u.own y.own;
+        own = All-weaker (Keeps number c j u.observed) (Keeps number c' j u.observed)
+            (λ a p. record {
+              low = p.low;
+              keeper = moved_else c.keeper other id a.number (λ z. not (sym p.keeper ∙ z)) ∙ p.keeper;
+              seen =
+                  p.seen;
+              whole = p.whole;
+            }) u.own y.own;
         ticket = y.ticket;
         mark = y.mark;
         draws = λ has. let r = y.draws has in (moved_else (λ _. c.drawer) other id 0 (λ z. not (sym r.0 ∙ z)) ∙ r.0, r.1, r.2);
@@ -245,17 +356,25 @@ module _ {V E O : Type 0} (origin : V → O) (entries : V → List E) (number : 
       let numbers_b : numbers_of b.own ≡ numbers_of v.own ++ numbers_of w.own = map-append (λ (a : OwnList E). a.number) v.own w.own in
       let P : ℕ → HandleView E O → Type 0 = (λ m u. Contains (numbers_of u.own) m) in
       let keeps_on : (m : ℕ) → IsAt s.views (c.keeper m) (P m) → IsAt (set vs other o) (c'.keeper m) (P m) = (λ m a. dite (ℕ_discrete (c.keeper m) other)
-      (λ e. let same : a.0 ≡ w = some-injective a.0 w (sym a.1 ∙ (ap (get_elem? s.views) e ∙ at')) in
-      (b, ap (get_elem? (set vs other o)) (moved_here c.keeper other id m e) ∙ at_b, subst (λ (l : List ℕ). Contains l m) (sym numbers_b) (Contains-append_right (numbers_of v.own) (numbers_of w.own) m (subst (P m) same a.2))))
-      (λ ne. subst (λ (z : ℕ). IsAt (set vs other o) z (P m)) (sym (moved_else c.keeper other id m ne)) (at_stays (P m) vs other w o (c.keeper m) there (λ e. absurd (ne e))
-      (at_stays (P m) s.views id v b (c.keeper m) at (λ _ p. subst (λ (l : List ℕ). Contains l m) (sym numbers_b) (Contains-append_left (numbers_of v.own) (numbers_of w.own) m p)) a)))) in record {
+      (λ e. let same : a.0 ≡ w = some-injective a.0 w (sym a.1 ∙ (ap (get_elem? s.views) e ∙ at')) in (
+        b,
+        ap (get_elem? (set vs other o)) (moved_here c.keeper other id m e) ∙ at_b,
+        subst (λ (l : List ℕ). Contains l m) (sym numbers_b)
+            (Contains-append_right (numbers_of v.own) (numbers_of w.own) m (subst (P m) same a.2)),
+      ))
+      (λ ne. subst (λ (z : ℕ). IsAt (set vs other o) z (P m)) (sym (moved_else c.keeper other id m ne))
+      (at_stays (P m) vs other w o (c.keeper m) there (λ e. absurd (ne e))
+      (at_stays (P m) s.views id v b (c.keeper m) at (λ _ p. subst (λ (l : List ℕ). Contains l m) (sym numbers_b)
+      (Contains-append_left (numbers_of v.own) (numbers_of w.own) m p)) a)))) in record {
         lock = c';
         wide = h.wide;
         deep = h.deep;
         tickets = h.tickets;
         turns = h.turns;
-        queue = let one = waiting_set s.views id v b at in let two = waiting_set vs other w o there in let queue = h.queue in let z : count_some w.ticket ≡ 0 = ap count_some free' in omega arith;
-        queued = λ t low high. at_stays (λ u. u.ticket ≡ Some t) vs other w o (c.holder t) there (λ _ e. let no : None ≡ Some t = sym free' ∙ e in absurd (cc)) (at_stays (λ u. u.ticket ≡ Some t) s.views id v b (c.holder t) at (λ _ e. e) (h.queued t low high));
+        queue = let one = waiting_set s.views id v b at in let two = waiting_set vs other w o there in let queue = h.queue in
+            let z : count_some w.ticket ≡ 0 = ap count_some free' in omega arith;
+        queued = λ t low high. at_stays (λ u. u.ticket ≡ Some t) vs other w o (c.holder t) there (λ _ e. let no : None ≡ Some t =
+            sym free' ∙ e in absurd (cc)) (at_stays (λ u. u.ticket ≡ Some t) s.views id v b (c.holder t) at (λ _ e. e) (h.queued t low high));
         bounded = (rw (length-set vs other o, length-set s.views id b) h.bounded.0, h.bounded.1);
         numbered = h.numbered;
         keepers = λ m l. keeps_on m (h.keepers m l);
@@ -264,6 +383,8 @@ module _ {V E O : Type 0} (origin : V → O) (entries : V → List E) (number : 
       }
 
   -- at the end a handle whose turn has come knows the numbers of all entries
-  pub ends : (words : List ℕ) (slots : List (Option V)) (id n : ℕ) (v : HandleView E O) → v.marked ≡ true → v.draws ≡ true → v.given ≡ n + 1 → Final (Seen Rule id v) words slots → All (λ e. number e ≤ n) v.observed
+  pub ends : (words : List ℕ) (slots : List (Option V)) (id n : ℕ) (v : HandleView E O) → v.marked ≡ true → v.draws ≡ true
+      → v.given ≡ n + 1 → Final (Seen Rule id v) words slots → All (λ e. number e ≤ n) v.observed
   ends words slots id n v marked root given f = let h = f.1.0 in let k = h.each id v f.1.1 in let r = (k.draws root).1 in
-      All-same (λ e. number e ≤ n) v.observed h.lock.published (k.mark marked).1 (All-weaker (λ (e : E). number e < h.lock.given) (λ (e : E). number e ≤ n) (λ e l. omega arith) h.lock.published h.numbered)
+      All-same (λ e. number e ≤ n) v.observed h.lock.published (k.mark marked).1
+      (All-weaker (λ (e : E). number e < h.lock.given) (λ (e : E). number e ≤ n) (λ e l. omega arith) h.lock.published h.numbered)

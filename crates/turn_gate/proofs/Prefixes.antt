@@ -1,6 +1,34 @@
 -- Beginnings of one history.
 use mathlib.Core.List.{IsPrefix}
-use Rattle.std.proofs.Common.{◌≡◌, ◌⊎◌, ℕ, ◌≤◌, Bool, true, false, List, [], ◌∷◌, ◌++◌, length, leb, leb-true, leb-false, if◌then◌else◌, refl, ap, sym, ◌∙◌, subst, inl, inr, ⊎_elim, arith, append-nil, append_assoc}
+use Rattle.std.proofs.Common.{
+  ◌≡◌,
+  ◌⊎◌,
+  ℕ,
+  ◌≤◌,
+  Bool,
+  true,
+  false,
+  List,
+  [],
+  ◌∷◌,
+  ◌++◌,
+  length,
+  leb,
+  leb-true,
+  leb-false,
+  if◌then◌else◌,
+  refl,
+  ap,
+  sym,
+  ◌∙◌,
+  subst,
+  inl,
+  inr,
+  ⊎_elim,
+  arith,
+  append-nil,
+  append_assoc,
+}
 use Rattle.std.proofs.lemmas.Bool.{cases_Bool}
 use Rattle.turn_gate.specs.Histories.{longer}
 
@@ -39,8 +67,11 @@ module _ {A : Type 0} where
       above a b e = let less = leb-false a b e in omega arith
 
   -- the longer of two beginnings begins the whole, and each of the two begins it
-  pub longer_prefix : (xs ys zs : List A) → IsPrefix xs zs → IsPrefix ys zs → IsPrefix (longer xs ys) zs × IsPrefix xs (longer xs ys) × IsPrefix ys (longer xs ys)
+  pub longer_prefix : (xs ys zs : List A) → IsPrefix xs zs → IsPrefix ys zs → IsPrefix (longer xs ys) zs × IsPrefix xs (longer xs ys)
+      × IsPrefix ys (longer xs ys)
   longer_prefix xs ys zs p q = ⊎_elim
-      (λ (t : (length xs ≤ length ys) × (longer xs ys ≡ ys)). subst (λ (l : List A). IsPrefix l zs × IsPrefix xs l × IsPrefix ys l) (sym t.1) (q, shorter_prefix xs ys zs p q t.0, prefix_refl ys))
-      (λ (t : (length ys ≤ length xs) × (longer xs ys ≡ xs)). subst (λ (l : List A). IsPrefix l zs × IsPrefix xs l × IsPrefix ys l) (sym t.1) (p, prefix_refl xs, shorter_prefix ys xs zs q p t.0))
+      (λ (t : (length xs ≤ length ys) × (longer xs ys ≡ ys)). subst (λ (l : List A). IsPrefix l zs × IsPrefix xs l × IsPrefix ys l)
+      (sym t.1) (q, shorter_prefix xs ys zs p q t.0, prefix_refl ys))
+      (λ (t : (length ys ≤ length xs) × (longer xs ys ≡ xs)). subst (λ (l : List A). IsPrefix l zs × IsPrefix xs l × IsPrefix ys l)
+      (sym t.1) (p, prefix_refl xs, shorter_prefix ys xs zs q p t.0))
       (longer_cases xs ys)

@@ -3,7 +3,35 @@ use mathlib.Core.Logic.{dite}
 use mathlib.Core.Option.{some, some-injective, some-ne-none}
 use native.Mathlib.Decide.{ℕ_discrete}
 use lib.ListN.{get_elem?}
-use Rattle.std.proofs.Common.{◌≡◌, ◌≢◌, ◌⊎◌, ℕ, zero, suc, ◌+◌, ◌≤◌, false, List, [], ◌∷◌, ◌++◌, length, set, Option, Some, None, sym, refl, ap, ◌∙◌, subst, inl, inr, ⊎_elim, arith}
+use Rattle.std.proofs.Common.{
+  ◌≡◌,
+  ◌≢◌,
+  ◌⊎◌,
+  ℕ,
+  zero,
+  suc,
+  ◌+◌,
+  ◌≤◌,
+  false,
+  List,
+  [],
+  ◌∷◌,
+  ◌++◌,
+  length,
+  set,
+  Option,
+  Some,
+  None,
+  sym,
+  refl,
+  ap,
+  ◌∙◌,
+  subst,
+  inl,
+  inr,
+  ⊎_elim,
+  arith,
+}
 use Rattle.atomic_table.proofs.Lists.{at_set, set_else, at_longer}
 use Rattle.turn_gate.specs.declared.view.HandleView.{HandleView}
 use Rattle.turn_gate.specs.TicketLockRule.{IsAt, count_some, waiting}
@@ -78,7 +106,11 @@ module _ {A : Type 0} where
   -- what is true at a place stays true there, if the new one has it where the old one had
   pub at_stays : (P : A → Type 0) (l : List A) (me : ℕ) (v w : A) (j : ℕ) → get_elem? l me ≡ some v → (j ≡ me → P v → P w) → IsAt l j P → IsAt (set l me w) j P
   at_stays P l me v w j at keeps k = dite (ℕ_discrete j me)
-      (λ here. (w, ap (get_elem? (set l me w)) here ∙ set_at l me v w at, keeps here (subst P (some-injective k.0 v (sym k.1 ∙ (ap (get_elem? l) here ∙ at))) k.2)))
+      (λ here. (
+        w,
+        ap (get_elem? (set l me w)) here ∙ set_at l me v w at,
+        keeps here (subst P (some-injective k.0 v (sym k.1 ∙ (ap (get_elem? l) here ∙ at))) k.2),
+      ))
       (λ there. (k.0, set_else l me j w there ∙ k.1, k.2))
 
   pub at_stays_longer : (P : A → Type 0) (l : List A) (w : A) (j : ℕ) → IsAt l j P → IsAt (l ++ w ∷ []) j P
@@ -93,9 +125,11 @@ module _ {E O : Type 0} where
   waiting_more [] w = omega arith
   waiting_more (v ∷ vs) w = let more = waiting_more vs w in omega arith
 
-  pub waiting_set : (vs : List (HandleView E O)) (me : ℕ) (v w : HandleView E O) → get_elem? vs me ≡ some v → waiting (set vs me w) + count_some v.ticket ≡ waiting vs + count_some w.ticket
+  pub waiting_set : (vs : List (HandleView E O)) (me : ℕ) (v w : HandleView E O) → get_elem? vs me ≡ some v
+      → waiting (set vs me w) + count_some v.ticket ≡ waiting vs + count_some w.ticket
   waiting_set [] me v w e = absurd (some-ne-none v (sym e))
-  waiting_set (x ∷ xs) zero v w e = let same : count_some x.ticket ≡ count_some v.ticket = ap (λ (z : HandleView E O). count_some z.ticket) (some-injective x v e) in omega arith
+  waiting_set (x ∷ xs) zero v w e = let same : count_some x.ticket ≡ count_some v.ticket =
+      ap (λ (z : HandleView E O). count_some z.ticket) (some-injective x v e) in omega arith
   waiting_set (x ∷ xs) (suc i) v w e = let more = waiting_set xs i v w e in omega arith
 
   pub waiting_fits : (vs : List (HandleView E O)) → waiting vs ≤ length vs
@@ -107,5 +141,6 @@ module _ {E O : Type 0} where
       → ((j : ℕ) (u : HandleView E O) → get_elem? (set vs me w) j ≡ some u → u.marked ≡ false)
       → (j : ℕ) (u : HandleView E O) → get_elem? vs j ≡ some u → u.marked ≡ false
   none_marked vs me v w at unmarked all j u e = dite (ℕ_discrete j me)
-      (λ same. let r : some v ≡ some u = sym at ∙ (ap (get_elem? vs) (sym same) ∙ e) in ap (λ (x : HandleView E O). x.marked) (sym (some-injective v u r)) ∙ unmarked)
+      (λ same. let r : some v ≡ some u = sym at ∙ (ap (get_elem? vs) (sym same) ∙ e) in
+      ap (λ (x : HandleView E O). x.marked) (sym (some-injective v u r)) ∙ unmarked)
       (λ other. all j u (set_else vs me j w other ∙ e))

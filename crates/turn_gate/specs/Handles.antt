@@ -36,7 +36,15 @@ module _ {E O : Type 0} where
 
   -- the handle that the root gives out next
   abbrev pub new_handle : HandleState E O → HandleState E O
-  new_handle root = record { gate = root.gate; number = root.given + 1; given = 0; origin = root.origin; observed = root.observed; own = no_operations (root.given + 1) ∷ [] }
+  new_handle root = record {
+    gate = root.gate;
+    number = root.given + 1;
+    given = 0;
+    origin = root.origin;
+    observed = root.observed;
+    own =
+        no_operations (root.given + 1) ∷ [];
+  }
 
 -- One turn of a handle: the history when it came begins with what the handle had observed, and the handle has observed it with what the operation added.
 pub record TakesTurn {E O : Type 0} (number : E → ℕ) (relates : List E → List E → Type 0) (old new : HandleState E O) : Type 0 where
@@ -61,7 +69,15 @@ module _ {V E O : Type 0} where
   IsIdle place = IsFree place × (place.me.0.joined ≡ []) × IsSome place.me.0.origin
 
   abbrev pub state_of : (place : Seat (Option V) (HandleView E O)) → ℕ → ℕ → IsIdle place → HandleState E O
-  state_of place number given idle = record { gate = place.table_id; number = number; given = given; origin = told_origin place.me.0.origin idle.2; observed = place.me.0.observed; own = place.me.0.own }
+  state_of place number given idle = record {
+    gate = place.table_id;
+    number = number;
+    given = given;
+    origin =
+        told_origin place.me.0.origin idle.2;
+    observed = place.me.0.observed;
+    own = place.me.0.own;
+  }
 
 module _ {E O : Type 0} where
   abbrev pub KeepsNumber : HandleView E O → ℕ → Type 0

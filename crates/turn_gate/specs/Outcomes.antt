@@ -27,11 +27,30 @@ module _ {E O : Type 0} where
 
   -- the view of that new handle
   abbrev pub new_view : HandleView E O → HandleView E O
-  new_view v = record { observed = v.observed; joined = []; own = record { number = v.given; entries = [] } ∷ []; ticket = None; marked = false; draws = false; given = 0; drawn = false; origin = v.origin }
+  new_view v = record {
+    observed = v.observed;
+    joined = [];
+    own = record { number = v.given; entries = [] } ∷ [];
+    ticket =
+        None;
+    marked = false;
+    draws = false;
+    given = 0;
+    drawn = false;
+    origin = v.origin;
+  }
 
   -- two views made one: the longer history, the own lists of both, and the right to draw if either had it
   abbrev pub joined_view : HandleView E O → HandleView E O → HandleView E O
-  joined_view v w = record v { observed = longer v.observed w.observed; joined = v.observed ∷ w.observed ∷ []; own = v.own ++ w.own; draws = v.draws || w.draws; given = if v.draws then v.given else w.given; drawn = if v.draws then v.drawn else w.drawn }
+  joined_view v w = record v {
+    observed = longer v.observed w.observed;
+    joined = v.observed ∷ w.observed ∷ [];
+    own = v.own ++ w.own;
+    draws =
+        v.draws || w.draws;
+    given = if v.draws then v.given else w.given;
+    drawn = if v.draws then v.drawn else w.drawn;
+  }
 
   -- the other view, which keeps nothing
   abbrev pub spent_view : HandleView E O

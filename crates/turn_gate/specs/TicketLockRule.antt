@@ -1,5 +1,6 @@
 -- The rule of the ticket lock: what is true of its words, its slot and the views of its handles between any two steps. This project's own rule.
--- Word 0 counts the numbers drawn, word 1 the tickets taken and word 2 the turns that are over, each modulo 2 ^ 64. Of the other words, on which those who wait sleep, the rule says nothing. The slot holds the value, or is out with the handle whose turn it is.
+-- Word 0 counts the numbers drawn, word 1 the tickets taken and word 2 the turns that are over, each modulo 2 ^ 64. Of the other words, on
+-- which those who wait sleep, the rule says nothing. The slot holds the value, or is out with the handle whose turn it is.
 use mathlib.Core.List.{IsPrefix}
 use mathlib.Core.Option.{some, none}
 use mathlib.Core.Option as maybe
@@ -47,7 +48,18 @@ count_some (Some a) = 1
 module _ {E O : Type 0} where
   -- the view of the first handle
   abbrev pub opening_view : O → HandleView E O
-  opening_view start = record { observed = []; joined = []; own = record { number = 0; entries = [] } ∷ []; ticket = None; marked = false; draws = true; given = 1; drawn = false; origin = Some start }
+  opening_view start = record {
+    observed = [];
+    joined = [];
+    own = record { number = 0; entries = [] } ∷ [];
+    ticket = None;
+    marked =
+        false;
+    draws = true;
+    given = 1;
+    drawn = false;
+    origin = Some start;
+  }
 
   -- how many views hold a ticket
   abbrev pub waiting : List (HandleView E O) → ℕ
@@ -62,7 +74,8 @@ pub record Keeps {E : Type 0} (number : E → ℕ) (lock : LockState E) (id : �
   pub whole : IsExact number lock.published o
 
 -- What is true of each view. `drawn` is the word 0.
-pub record IsSound {V E O : Type 0} (number : E → ℕ) (start : O) (lock : LockState E) (drawn : ℕ) (homes : List (maybe.Option (Option V))) (id : ℕ) (v : HandleView E O) : Type 0 where
+pub record IsSound {V E O : Type 0} (number : E → ℕ) (start : O) (lock : LockState E) (drawn : ℕ) (homes : List (maybe.Option (Option V)))
+    (id : ℕ) (v : HandleView E O) : Type 0 where
   pub observed : IsPrefix v.observed lock.published
   pub joined : All (λ front. IsPrefix front v.observed) v.joined
   pub origin : (o : O) → v.origin ≡ Some o → o ≡ start
@@ -91,7 +104,8 @@ module _ {V E O : Type 0} (origin : V → O) (entries : V → List E) (number : 
     pub keepers : (n : ℕ) → n < lock.given → IsAt s.views (lock.keeper n) (λ v. Contains (numbers_of v.own) n)
     pub each : (id : ℕ) (v : HandleView E O) → get_elem? s.views id ≡ some v → IsSound number start lock (slice_index s.words 0) s.homes id v
     -- while no view is marked the slot is at home, with the whole history
-    pub home : ((id : ℕ) (v : HandleView E O) → get_elem? s.views id ≡ some v → v.marked ≡ false) → (x : V) × (get_elem? s.homes 0 ≡ some (some (Some x))) × (entries x ≡ lock.published) × (origin x ≡ start)
+    pub home : ((id : ℕ) (v : HandleView E O) → get_elem? s.views id ≡ some v → v.marked ≡ false) → (x : V)
+        × (get_elem? s.homes 0 ≡ some (some (Some x))) × (entries x ≡ lock.published) × (origin x ≡ start)
 
 -- a place at a lock that is so sized
 abbrev pub IsPlaceOf : {S V : Type 0} → TableId → Seat S V → Type 0

@@ -36,7 +36,15 @@ pub record DeskState : Type 0 where
 
 -- the desk of a handle
 abbrev pub desk_of_handle : HandleState Entry Cell → Cell → ℕ → DeskState
-desk_of_handle seat cell base = record { room = record { gate = seat.gate; opening = seat.origin }; number = seat.number; seen = seat.observed; own = seat.own; base = base; cell = cell }
+desk_of_handle seat cell base = record {
+  room = record { gate = seat.gate; opening = seat.origin };
+  number = seat.number;
+  seen =
+      seat.observed;
+  own = seat.own;
+  base = base;
+  cell = cell;
+}
 
 -- what a desk has observed are answers at their points, and its copy is the cell after its base
 pub record IsDesk (c : Cell) (seen : List Entry) (base : ℕ) (cell : Cell) : Type 0 where

@@ -9,6 +9,7 @@ use Rattle.history_spec.specs.Steps.{answer}
 use Rattle.cell_bench.specs.Benches.{PreparedCommit}
 use Rattle.commit_book.specs.declared.refusal.BookRefusal.{BookRefusal}
 use Rattle.commit_book.specs.Books.{IsBookRefusal, entry_of}
+use Rattle.commit_book.specs.Prepared.{AreRight}
 use Rattle.workroom.specs.declared.turn.Ask.{Ask}
 use Rattle.workroom.specs.declared.turn.Ask.TheVariants.{View, Faulty, Commit}
 use Rattle.workroom.specs.declared.turn.Turned.{Turned}
@@ -23,11 +24,12 @@ asked_of View = asked.View
 asked_of (Faulty fault) = asked.Faulty fault
 asked_of (Commit prepared) = asked.Commit prepared.base prepared.edits
 
--- a commit that can be put to a history: its base is that of an accepted commit, it is at the opening's level of national texts, and no rows are ready
+-- a commit that can be put to a history: its base is that of an accepted commit, it is at the opening's level of national texts, and what was
+-- prepared is right on the cell of its base
 pub record IsReady (c : Cell) (entries : List Entry) (prepared : PreparedCommit) : Type 0 where
   pub base : prepared.base ≤ length (replayed c entries).commits
   pub level : prepared.edits.nall ≡ c.head.nall
-  pub rows : prepared.rows ≡ []
+  pub rows : AreRight c entries prepared
 
 abbrev pub CanAsk : Cell → List Entry → Ask → Type 0
 CanAsk c entries View = Unit {0}

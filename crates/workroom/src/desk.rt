@@ -5,19 +5,24 @@ ghost use mathlib.Core.List.{IsPrefix};
 ghost use Rattle.history_spec.specs.declared.entry.Entry.{Entry as SpecEntry};
 ghost use Rattle.history_spec.specs.Entries.{AreTold, base_told, brief_of, replayed};
 ghost use Rattle.history_spec.specs.EntriesReport.{cell_told};
+ghost use Rattle.recheck.specs.Preparing.{prepared_rows};
+ghost use Rattle.rule_spec.specs.Affected.{RowsAreExact};
 ghost use Rattle.rule_spec.specs.Findings.{all_findings};
 ghost use Rattle.turn_gate.specs.Histories.{IsExact, numbers_of};
 ghost use Rattle.workroom.specs.Desks.{IsRoomRefusal, IsSameDesk, IsTurned, desk_of_handle, merged_desk};
 ghost use Rattle.workroom.specs.Turns.{CanAsk, asked_of, desk_of};
 
 use crate::refusal::RoomRefusal;
-use crate::turn::{Ask, Turned, base_after, take_turn};
+use crate::turn::{Ask, base_after, take_turn};
 use cell_spec::{Findings, Subject};
-use commit_book::{Bench, Book, BookRefusal, Reply};
+use commit_book::{Bench, Book, BookRefusal, Prepared, Reply};
+use edit_sets::EditSet;
+use recheck::prepare;
 use shared_table::{Shared, SharedTable};
-use std::alloc::Global;
+use std::alloc::{AllocError, Global};
 use std::marker::Model;
 use std::sync::Wait;
+use std::thread::Threads;
 use turn_gate::{Gate, GateSeat};
 
 /// A compiler's desk in a workroom: a copy of the cell as it is after so many accepted commits, its base. It is seen with what it has
@@ -90,6 +95,25 @@ impl Desk {
         self.bench.findings()
     }
 
+    /// Prepares edits on its copy of the cell for a commit: the row of each affected subject of the edited cell is judged, before a turn is
+    /// asked for and without waiting. Where the copy doesn't take the edits there are no rows.
+    ///
+    /// An `Err` means out of memory.
+    pub fn prepare<R: Threads + Sync>(
+        &self,
+        rt: &R,
+        alloc: Global,
+        edits: EditSet,
+    ) -> Result<Prepared, AllocError>
+        requires level { edits.nall ≡ self.now.cell.head.nall }
+        ensures base { IfOk result (λ prepared. prepared.base ≡ self.now.base) }
+        ensures edits { IfOk result (λ prepared. prepared.edits ≡ edits) }
+        ensures rows { IfOk result (λ prepared. prepared.rows ≡ prepared_rows edits.edits self.now.cell) }
+        ensures right { IfOk result (λ prepared. RowsAreExact edits.edits self.now.cell prepared.rows) }
+    {
+        prepare(rt, alloc, &self.bench, self.base, edits)
+    }
+
     /// What every desk keeps: its copy is the cell after its base, however the history goes on.
     pub fn stands(&self)
         ensures { (later : List SpecEntry) → IsPrefix self.now.seen later → cell_told self.now.room.opening later self.now.base ≡ self.now.cell }
@@ -128,12 +152,8 @@ impl Desk {
     {
         match take_turn(rt, gate, &mut self.seat, alloc, self.base, ask) {
             Ok(turned) => {
-                let Turned {
-                    reply,
-                    bench,
-                    replaced: _,
-                } = turned;
-                let base = base_after(self.base, &reply);
+                let base = base_after(self.base, &turned.reply);
+                let (reply, bench) = turned.into_parts();
                 if base == self.base {
                     return Ok(reply);
                 }

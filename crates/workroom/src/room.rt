@@ -1,9 +1,10 @@
 //! A workroom: the log behind its lock, and its desks.
 
-ghost use Rattle.std.specs.Prelude.{◌≡◌, ◌↔◌, ◌+◌, ◌≤◌, ◌<◌, [], All, Err, IfOk, IfErr, OnOk, OnErr, MatchResult};
+ghost use Rattle.std.specs.Prelude.{◌≡◌, ◌↔◌, ◌+◌, ◌≤◌, ◌<◌, All, Err, IfOk, IfErr, OnOk, OnErr, MatchResult};
 ghost use mathlib.Core.List.{IsPrefix};
 ghost use Rattle.cell_spec.specs.Writable.{IsWritable};
 ghost use Rattle.history_spec.specs.Entries.{base_told, brief_of};
+ghost use Rattle.rule_spec.specs.Affected.{RowsAreExact};
 ghost use Rattle.turn_gate.specs.Histories.{IsExact};
 ghost use Rattle.cell_bench.specs.Benches.{IsLoadRefusal};
 ghost use Rattle.workroom.specs.Desks.{IsRoomRefusal, IsSameDesk, IsTurned, IsUnentered, merged_desk};
@@ -131,7 +132,7 @@ impl Workroom {
     }
 
     /// Commits what was prepared on a desk's copy, in its turn. An accepted commit moves the desk's base to its number, and the copy to
-    /// the cell after it. No rows can be ready yet.
+    /// the cell after it. What no newer commit has touched since isn't judged again in the turn.
     ///
     /// An `Err` is as that of a view.
     pub fn commit<R: Wait>(
@@ -144,7 +145,7 @@ impl Workroom {
         requires room { desk.old.room ≡ self.now.room }
         requires base { prepared.base ≡ desk.old.base }
         requires level { prepared.edits.nall ≡ desk.old.cell.head.nall }
-        requires rows { prepared.rows ≡ [] }
+        requires rows { RowsAreExact prepared.edits.edits desk.old.cell prepared.rows }
         ensures same { IsSameDesk desk.old desk.new }
         ensures ok { IfOk result (λ reply. IsTurned desk.old (Asked.Commit desk.old.base prepared.edits) reply desk.new) }
         ensures base { IfOk result (λ reply. desk.new.base ≡ base_told (brief_of reply) desk.old.base) }

@@ -34,6 +34,21 @@ pub(crate) struct Turned {
     pub(crate) replaced: Option<Bench>,
 }
 
+impl Turned {
+    /// The answer, and the copy of the log's bench. What a commit replaced is dropped.
+    pub(crate) fn into_parts(self) -> (Reply, Option<Bench>)
+        ensures reply { result.0 ≡ self.reply }
+        ensures bench { result.1 ≡ self.bench }
+    {
+        let Turned {
+            reply,
+            bench,
+            replaced: _,
+        } = self;
+        (reply, bench)
+    }
+}
+
 /// What a desk with this base asks in its turn.
 #[derive(Drop)]
 pub(crate) struct Turn {

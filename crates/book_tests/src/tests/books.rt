@@ -1,123 +1,84 @@
-//! A book of a small cell, and deletions offered to it.
+//! A book of the cell of one square, which has the nodes 1 to 4, and commits on it.
 
-ghost use Rattle.std.specs.Prelude.{◌≡◌, [], IfOk};
-ghost use Rattle.cell_spec.specs.Writable.{IsWritable};
+ghost use Rattle.std.specs.Prelude.{◌≡◌, [], IfOk, length};
+ghost use Rattle.rule_spec.specs.Affected.{RowsAreExact};
+ghost use Rattle.commit_book.specs.Books.{history_of};
+ghost use Rattle.commit_book.specs.Prepared.{AreRight};
 
+use super::edits::{deletions, set_for};
+use cell_bench::Bench;
 use cell_make::make_cell;
-use cell_spec::{Edit, Rows};
 use chain_topo::Steps;
-use commit_book::{Book, Prepared, Told};
-use edit_sets::EditSet;
-use s57_types::{Cell, Kind, RecName};
+use commit_book::{Book, LoadRefusal, Prepared};
+use recheck::prepare;
 use std::alloc::{AllocError, Global};
 use std::process::Abort;
 use std::sync::ledger::Ledger;
+use std::thread::Threads;
 
-/// The name of a record.
-pub(crate) type Name = (Kind, u32);
-
-/// What a desk offers on a base: to delete records, and the names that guard this.
-#[derive(Clone, Copy)]
-pub(crate) struct Offer {
-    pub(crate) desk: u32,
-    pub(crate) base: u32,
-    pub(crate) deleted: &'static [Name],
-    pub(crate) guards: &'static [Name],
-}
-
-fn named(name: Name) -> RecName {
-    RecName {
-        kind: name.0,
-        id: name.1,
-    }
-}
-
-/// The cell of one square: nodes 1 to 4, edges 1 to 4, features 1 and 2.
-fn one_square(alloc: Global) -> Result<Cell, AllocError>
-    ensures { IfOk result IsWritable }
-{
-    make_cell(alloc, 1)
-}
-
-/// The book of that cell.
+/// A book without entries.
 pub(crate) fn open_book<L: Ledger>(
     rt: &impl Abort,
     alloc: Global,
     steps: &mut Steps<L>,
-) -> Result<Book, AllocError> {
-    match Book::make(alloc, one_square(alloc)?, steps) {
+) -> Result<Book, AllocError>
+    ensures { IfOk result (λ book. book.entries ≡ []) }
+{
+    match Book::make(alloc, make_cell(alloc, 1)?, steps) {
         Ok(book) => Ok(book),
+        Err(LoadRefusal::NoMemory) => Err(AllocError),
         Err(_) => panic!(rt; "the cell isn't loaded"),
     }
 }
 
-fn deletions(alloc: Global, names: &[Name]) -> Result<Vec<Edit>, AllocError> {
-    let mut edits = Vec::new(alloc);
-    for name in names {
-        edits.push(Edit::Del(named(*name)))?;
-    }
-    Ok(edits)
+/// The deletions of nodes, prepared on a cell after so many accepted commits.
+fn prepared_on<R: Threads + Abort + Sync>(
+    rt: &R,
+    alloc: Global,
+    bench: &Bench,
+    base: u32,
+    nodes: &[u32],
+) -> Result<Prepared, AllocError>
+    ensures base { IfOk result (λ prepared. prepared.base ≡ base) }
+    ensures level { IfOk result (λ prepared. prepared.edits.nall ≡ bench.now.head.nall) }
+    ensures rows { IfOk result (λ prepared. RowsAreExact prepared.edits.edits bench.now prepared.rows) }
+{
+    let edits = deletions(alloc, nodes)?;
+    let set = set_for(rt, alloc, bench, &edits);
+    let prepared = prepare(rt, alloc, bench, base, set)?;
+    Ok(prepared)
 }
 
-fn names_of(alloc: Global, names: &[Name]) -> Result<Vec<RecName>, AllocError> {
-    let mut made = Vec::new(alloc);
-    for name in names {
-        made.push(named(*name))?;
-    }
-    Ok(made)
-}
-
-/// The edit set of an offer, at the level of a book.
-fn set_for(
-    rt: &impl Abort,
+/// The deletions of nodes, prepared on the newest cell of a book.
+pub(crate) fn prepared_late<R: Threads + Abort + Sync>(
+    rt: &R,
     alloc: Global,
     book: &Book,
-    edits: &[Edit],
-    guards: &[RecName],
-) -> EditSet
-    ensures { result.nall ≡ book.now.opening.head.nall }
+    nodes: &[u32],
+) -> Result<Prepared, AllocError>
+    ensures base { IfOk result (λ prepared. prepared.base ≡ length (history_of book.now).commits) }
+    ensures level { IfOk result (λ prepared. prepared.edits.nall ≡ book.now.opening.head.nall) }
+    ensures rows { IfOk result (AreRight book.now.opening book.now.entries) }
 {
     book.known();
-    if edits.len() > 99 || guards.len() > 99 {
-        panic!(rt; "too much is offered");
-    }
-    match EditSet::make(alloc, edits, guards, book.bench().head().nall) {
-        Ok(set) => set,
-        Err(_) => panic!(rt; "the form is wrong"),
-    }
+    let prepared = prepared_on(rt, alloc, book.bench(), book.commits(), nodes)?;
+    Ok(prepared)
 }
 
-/// An offer as it is prepared for a book.
-pub(crate) fn prepared(
-    rt: &impl Abort,
+/// The deletions of nodes, prepared on the opening cell of a book.
+pub(crate) fn prepared_early<R: Threads + Abort + Sync>(
+    rt: &R,
     alloc: Global,
     book: &Book,
-    offer: &Offer,
+    opening: &Bench,
+    nodes: &[u32],
 ) -> Result<Prepared, AllocError>
-    ensures base { IfOk result (λ prepared. prepared.base ≡ offer.now.base) }
+    requires { opening.now ≡ book.now.opening }
+    ensures base { IfOk result (λ prepared. prepared.base ≡ 0) }
     ensures level { IfOk result (λ prepared. prepared.edits.nall ≡ book.now.opening.head.nall) }
-    ensures rows { IfOk result (λ prepared. prepared.rows ≡ []) }
+    ensures rows { IfOk result (AreRight book.now.opening book.now.entries) }
 {
-    let edits = deletions(alloc, offer.deleted)?;
-    let guards = names_of(alloc, offer.guards)?;
-    let set = set_for(rt, alloc, book, &edits, &guards);
-    Ok(Prepared::make(offer.base, set, Rows::make(alloc)))
-}
-
-/// The answer to an offer.
-pub(crate) fn told<L: Ledger>(
-    rt: &impl Abort,
-    alloc: Global,
-    book: &mut Book,
-    offer: &Offer,
-    steps: &mut Steps<L>,
-) -> Result<Told, AllocError> {
-    if book.commits() < offer.base {
-        panic!(rt; "there is no such base");
-    }
-    let prepared = prepared(rt, alloc, book, offer)?;
-    match book.commit(alloc, offer.desk, &prepared, steps) {
-        Ok(told) => Ok(told),
-        Err(_) => panic!(rt; "nothing is entered"),
-    }
+    let _ = book;
+    let prepared = prepared_on(rt, alloc, opening, 0, nodes)?;
+    Ok(prepared)
 }

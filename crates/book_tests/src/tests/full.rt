@@ -2,23 +2,17 @@
 
 ghost use Rattle.std.specs.Prelude.{◌≡◌, ◌<◌};
 
-use super::books::{Offer, open_book, prepared};
+use super::books::{open_book, prepared_late};
+use chain_topo::Steps;
 use commit_book::{Book, BookRefusal, Told};
 use edit_sets::FormFault;
 use look_counter::start_counter;
-use s57_types::Kind::Vc;
 use std::alloc::{AllocError, Global};
 use std::marker::Brand;
 use std::process::Abort;
 use std::sync::ledger::{Blank, Ledger};
 use std::test::Fail;
-
-const OFFER: Offer = Offer {
-    desk: 1,
-    base: 0,
-    deleted: &[(Vc, 1)],
-    guards: &[],
-};
+use std::thread::Threads;
 
 fn need_full(rt: &impl Abort, told: Result<Told, BookRefusal>) {
     match told {
@@ -33,7 +27,24 @@ fn fill(rt: &impl Abort, alloc: Global, book: &mut Book) {
     }
 }
 
-fn check_full<L: Ledger>(rt: &impl Abort, alloc: Global, blank: Blank) -> Result<(), AllocError>
+/// A commit isn't entered.
+fn check_commit<L: Ledger>(
+    rt: &(impl Threads + Abort + Sync),
+    alloc: Global,
+    book: &mut Book,
+    steps: &mut Steps<L>,
+) {
+    match prepared_late(rt, alloc, book, &[1]) {
+        Ok(prepared) => need_full(rt, book.commit(alloc, 1, &prepared, steps)),
+        Err(_) => panic!(rt; "there is no memory"),
+    }
+}
+
+fn check_full<L: Ledger>(
+    rt: &(impl Threads + Abort + Sync),
+    alloc: Global,
+    blank: Blank,
+) -> Result<(), AllocError>
     requires name { blank.name ≡ L.name }
     requires parts { blank.parts ≡ L.parts }
     requires some_part { 0 < L.parts }
@@ -43,8 +54,7 @@ fn check_full<L: Ledger>(rt: &impl Abort, alloc: Global, blank: Blank) -> Result
     fill(rt, alloc, &mut book);
     need_full(rt, book.view(alloc, 1, 0));
     need_full(rt, book.faulty(alloc, 1, FormFault::Empty));
-    let prepared = prepared(rt, alloc, &book, &OFFER)?;
-    need_full(rt, book.commit(alloc, 1, &prepared, &mut steps));
+    check_commit(rt, alloc, &mut book, &mut steps);
     assert_eq!(rt; book.entries().len(), 1_000_000);
     Ok(())
 }

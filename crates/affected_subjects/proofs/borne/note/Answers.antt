@@ -17,7 +17,8 @@ returns-in_ok-stays-in-Foid-clause-known g c =
     (λ i a b. c.orders_are_by_parts.ensures.identities a b i) c.put.ensures.ok in
     on_ok_weaker c.put.result
     (λ is keys known.
-    subst (λ rows. KnowsBearers (keys ++ c.args.key ∷ []) edits store rows) (sym (is ∙ ap (with_row identity_order c.args.borne.now l) c.in_ok-stays-in-Foid.ensures.borne))
+    subst (λ rows. KnowsBearers (keys ++ c.args.key ∷ []) edits store rows)
+    (sym (is ∙ ap (with_row identity_order c.args.borne.now l) c.in_ok-stays-in-Foid.ensures.borne))
     (subst (λ key. KnowsBearers (keys ++ key ∷ []) edits store (with_row identity_order c.args.borne.now l (is_borne_after edits store l))) (sym c.in-Foid.is)
     (with_foid edits store keys c.args.borne.now known l)))
     put

@@ -12,9 +12,12 @@ returns-clause-tiles g c =
     let edits = c.args.edits.now.edits in
     let formed = subst (λ nall. IsFormed nall edits c.args.edits.now.guards) c.requires.level c.known.ensures.parts in
     let found : FindTheirRecords edits store =
-    c.formed_edits_find_their_records.ensures store edits c.args.edits.now.guards (c.writable_cells_are_readable.ensures store c.known-2.ensures) formed c.requires.found in
-    tiles_are edits store c.in_ok-edited.edited c.in_ok-edited.ensures.edited c.as_slice-keys.result.now (c.as_slice-keys.ensures ∙ c.in_ok-touched.ensures.keys)
-    c.args.map.now c.args.tiles.now c.in_ok-rounds.rounds.tiles c.requires.reads c.requires.tiles c.in_ok-rounds.ensures.tiles c.changes_give_the_tiles.ensures found
+    c.formed_edits_find_their_records.ensures store edits c.args.edits.now.guards
+    (c.writable_cells_are_readable.ensures store c.known-2.ensures) formed c.requires.found in
+    tiles_are edits store c.in_ok-edited.edited c.in_ok-edited.ensures.edited c.as_slice-keys.result.now
+    (c.as_slice-keys.ensures ∙ c.in_ok-touched.ensures.keys)
+    c.args.map.now c.args.tiles.now c.in_ok-rounds.rounds.tiles c.requires.reads c.requires.tiles c.in_ok-rounds.ensures.tiles
+    c.changes_give_the_tiles.ensures found
 
 pub returns-clause-judged : goal.returns-clause-judged
 returns-clause-judged g c =
@@ -22,8 +25,10 @@ returns-clause-judged g c =
     let edits = c.args.edits.now.edits in
     let formed = subst (λ nall. IsFormed nall edits c.args.edits.now.guards) c.requires.level c.known.ensures.parts in
     let found : FindTheirRecords edits store =
-    c.formed_edits_find_their_records.ensures store edits c.args.edits.now.guards (c.writable_cells_are_readable.ensures store c.known-2.ensures) formed c.requires.found in
-    judged_is edits store c.in_ok-edited.edited c.in_ok-edited.ensures.edited c.as_slice-keys.result.now (c.as_slice-keys.ensures ∙ c.in_ok-touched.ensures.keys)
+    c.formed_edits_find_their_records.ensures store edits c.args.edits.now.guards
+    (c.writable_cells_are_readable.ensures store c.known-2.ensures) formed c.requires.found in
+    judged_is edits store c.in_ok-edited.edited c.in_ok-edited.ensures.edited c.as_slice-keys.result.now
+    (c.as_slice-keys.ensures ∙ c.in_ok-touched.ensures.keys)
     c.args.map.now c.args.tiles.now c.in_ok-rounds.rounds.tiles c.requires.reads c.requires.tiles c.in_ok-rounds.ensures.tiles
     c.changes_give_the_tiles.ensures c.rounds_are_considered.ensures found c.in_ok-rounds.rounds.considered.keys c.in_ok-rounds.ensures.considered
     c.in_ok-parts.parts.judged (c.in_ok-parts.ensures.judged ∙ ap (λ ss. filter (is_subject c.in_ok-edited.edited) ss) c.as_slice.ensures.keys)
@@ -34,7 +39,8 @@ returns-clause-gone g c =
     let edits = c.args.edits.now.edits in
     let formed = subst (λ nall. IsFormed nall edits c.args.edits.now.guards) c.requires.level c.known.ensures.parts in
     let found : FindTheirRecords edits store =
-    c.formed_edits_find_their_records.ensures store edits c.args.edits.now.guards (c.writable_cells_are_readable.ensures store c.known-2.ensures) formed c.requires.found in
+    c.formed_edits_find_their_records.ensures store edits c.args.edits.now.guards
+    (c.writable_cells_are_readable.ensures store c.known-2.ensures) formed c.requires.found in
     gone_is edits store c.in_ok-edited.edited c.in_ok-edited.ensures.edited c.as_slice-keys.result.now (c.as_slice-keys.ensures ∙ c.in_ok-touched.ensures.keys)
     c.args.map.now c.args.tiles.now c.in_ok-rounds.rounds.tiles c.requires.reads c.requires.tiles c.in_ok-rounds.ensures.tiles
     c.changes_give_the_tiles.ensures c.rounds_are_considered.ensures found c.in_ok-rounds.rounds.considered.keys c.in_ok-rounds.ensures.considered

@@ -36,7 +36,8 @@ returns-in_err-push_records_and_sides g c =
     (over_more c.args.limit [] (flat_map findings first) (flat_map findings second) (flat_map findings (first ++ second)) refusal
     (sym (flat_map-append findings first second))
     (subst (λ all. IsOver c.args.limit all refusal)
-    (λ i. c.new-gathered.ensures.items i ++ flat_map (subject_findings (c.in_ok-look.ensures i)) (records_and_sides ((c.as_slice-names.ensures ∙ c.in_ok-names.ensures) i)))
+    (λ i. c.new-gathered.ensures.items i ++ flat_map (subject_findings (c.in_ok-look.ensures i))
+    (records_and_sides ((c.as_slice-names.ensures ∙ c.in_ok-names.ensures) i)))
     c.in_err-push_records_and_sides.ensures))
 
 pub returns-in_err-push_pairs_and_identities : goal.returns-in_err-push_pairs_and_identities
@@ -45,10 +46,12 @@ returns-in_err-push_pairs_and_identities g c =
     let first = records_and_sides (names_in c.args.cell.now) in
     let second = part_pairs (names_in c.args.cell.now) ++ map Ident (identities_in c.args.cell.now) in
     let is_first = c.in_ok-push_records_and_sides.ensures.same
-    ∙ (λ i. c.new-gathered.ensures.items i ++ flat_map (subject_findings (c.in_ok-look.ensures i)) (records_and_sides ((c.as_slice-names.ensures ∙ c.in_ok-names.ensures) i))) in
+    ∙ (λ i. c.new-gathered.ensures.items i ++ flat_map (subject_findings (c.in_ok-look.ensures i))
+    (records_and_sides ((c.as_slice-names.ensures ∙ c.in_ok-names.ensures) i))) in
     let refused = err_from_is_err_and c.from_residual-in_err-push_pairs_and_identities.result c.from_residual-in_err-push_pairs_and_identities.ensures.1 in
     rw (refused.1, refused.2)
     (subst (λ all. IsOver c.args.limit all c.in_err-push_pairs_and_identities.field-0.0)
-    ((λ i. is_first i ++ flat_map (subject_findings (c.in_ok-look.ensures i)) (part_pairs ((c.as_slice-names.ensures ∙ c.in_ok-names.ensures) i) ++ map Ident ((c.deref.ensures.value ∙ c.in_ok-identities.ensures) i)))
+    ((λ i. is_first i ++ flat_map (subject_findings (c.in_ok-look.ensures i)) (part_pairs ((c.as_slice-names.ensures ∙ c.in_ok-names.ensures) i)
+    ++ map Ident ((c.deref.ensures.value ∙ c.in_ok-identities.ensures) i)))
     ∙ sym (flat_map-append findings first second))
     c.in_err-push_pairs_and_identities.ensures)

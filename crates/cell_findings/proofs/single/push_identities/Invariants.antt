@@ -6,5 +6,6 @@ use Rattle.cell_findings.proofs.single.push_identities.Given as goal
 
 abbrev pub invariant-loop-identity : goal.invariant-loop-identity
 invariant-loop-identity g l =
-    (l.gathered.items ++ flat_map (subject_findings l.look) (map Ident (drop l.identity-index l.identities)) ≡ l.initial.gathered.items ++ flat_map (subject_findings l.look) (map Ident l.identities))
+    (l.gathered.items ++ flat_map (subject_findings l.look) (map Ident (drop l.identity-index l.identities)) ≡ l.initial.gathered.items
+    ++ flat_map (subject_findings l.look) (map Ident l.identities))
     × (length l.gathered.items ≤ l.limit)

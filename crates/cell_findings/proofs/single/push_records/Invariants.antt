@@ -6,5 +6,6 @@ use Rattle.cell_findings.proofs.single.push_records.Given as goal
 
 abbrev pub invariant-loop-name : goal.invariant-loop-name
 invariant-loop-name g l =
-    (l.gathered.items ++ flat_map (subject_findings l.look) (map Rec (drop l.name-index l.names)) ≡ l.initial.gathered.items ++ flat_map (subject_findings l.look) (map Rec l.names))
+    (l.gathered.items ++ flat_map (subject_findings l.look) (map Rec (drop l.name-index l.names)) ≡ l.initial.gathered.items
+    ++ flat_map (subject_findings l.look) (map Rec l.names))
     × (length l.gathered.items ≤ l.limit)

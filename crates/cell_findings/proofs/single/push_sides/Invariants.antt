@@ -6,5 +6,6 @@ use Rattle.cell_findings.proofs.single.push_sides.Given as goal
 
 abbrev pub invariant-loop-edge : goal.invariant-loop-edge
 invariant-loop-edge g l =
-    (l.gathered.items ++ flat_map (subject_findings l.look) (map Side (drop l.edge-index l.edges)) ≡ l.initial.gathered.items ++ flat_map (subject_findings l.look) (map Side l.edges))
+    (l.gathered.items ++ flat_map (subject_findings l.look) (map Side (drop l.edge-index l.edges)) ≡ l.initial.gathered.items
+    ++ flat_map (subject_findings l.look) (map Side l.edges))
     × (length l.gathered.items ≤ l.limit)

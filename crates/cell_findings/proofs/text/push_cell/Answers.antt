@@ -7,4 +7,5 @@ pub returns-clause-ok : goal.returns-clause-ok
 returns-clause-ok c = λ rows is.
     let out = c.args.out.now.items in
     let part = c.deref.ensures.value ∙ c.in_ok-push_part.ensures rows is ∙ ap (λ text. text ++ text_with c.args.cell.now rows) c.new-part.ensures.items in
-    on_ok_weaker c.push_bytes.result (λ (written : c.push_bytes.new.out.items ≡ out ++ c.deref.result.now). written ∙ ap (λ text. out ++ text) part) c.push_bytes.ensures.ok
+    on_ok_weaker c.push_bytes.result (λ (written : c.push_bytes.new.out.items ≡ out ++ c.deref.result.now). written
+    ∙ ap (λ text. out ++ text) part) c.push_bytes.ensures.ok

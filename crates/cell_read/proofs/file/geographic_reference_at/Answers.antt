@@ -6,7 +6,8 @@ use Rattle.cell_read.proofs.file.geographic_reference_at.Goals as goal
 
 pub returns-in-Err-clause-next : goal.returns-in-Err-clause-next
 returns-in-Err-clause-next c number =
-    next-frame_fault number geographic_reference c.args.bytes.now c.args.at false c.in-Err.fault c.of_frame.result c.of_frame.ensures c.requires (sym c.in-Err.ensures.exact)
+    next-frame_fault number geographic_reference c.args.bytes.now c.args.at false c.in-Err.fault c.of_frame.result c.of_frame.ensures c.requires
+    (sym c.in-Err.ensures.exact)
 
 pub returns-in-Ok-read_geographic_reference-clause-next : goal.returns-in-Ok-read_geographic_reference-clause-next
 returns-in-Ok-read_geographic_reference-clause-next c number = let read = c.in-Ok-read_geographic_reference in
@@ -15,4 +16,5 @@ returns-in-Ok-read_geographic_reference-clause-next c number = let read = c.in-O
 
 pub returns-in-Err-read_geographic_reference-clause-next : goal.returns-in-Err-read_geographic_reference-clause-next
 returns-in-Err-read_geographic_reference-clause-next c number =
-    next-refused number geographic_reference c.args.bytes.now c.args.at false c.in-Ok.frame c.in-Err-read_geographic_reference.refusal (sym c.in-Ok.ensures.exact) c.in-Err-read_geographic_reference.ensures
+    next-refused number geographic_reference c.args.bytes.now c.args.at false c.in-Ok.frame c.in-Err-read_geographic_reference.refusal
+    (sym c.in-Ok.ensures.exact) c.in-Err-read_geographic_reference.ensures

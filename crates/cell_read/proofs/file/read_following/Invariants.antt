@@ -12,7 +12,8 @@ invariant-loop-at l = record {
   within : l.at ≤ length l.bytes;
   small : length l.bytes ≤ 16777216;
   counted : l.number ≤ l.at + 4;
-  walk : with_following l.number l.reading.cell (records_after l.bytes l.at false) ≡ with_following 4 (empty_cell l.fn.head) (records_after l.bytes l.start false);
+  walk : with_following l.number l.reading.cell (records_after l.bytes l.at false) ≡ with_following 4 (empty_cell l.fn.head)
+      (records_after l.bytes l.start false);
 }
 
 abbrev pub decreases-loop-at : goal.decreases-loop-at

@@ -6,23 +6,28 @@ use Rattle.cell_read.proofs.ListedRecords.{read_record_is_listed}
 use Rattle.cell_read.proofs.file.read_next.Goals as goal
 
 pub add_record-requires-clause-listed : goal.add_record-requires-clause-listed
-add_record-requires-clause-listed c = read_record_is_listed c.args.reading.now.cell.head.nall c.in-Ok.frame.fields c.in-Ok-read_record.rec c.in-Ok-read_record.ensures
+add_record-requires-clause-listed c = read_record_is_listed c.args.reading.now.cell.head.nall c.in-Ok.frame.fields c.in-Ok-read_record.rec
+    c.in-Ok-read_record.ensures
 
 pub returns-in-Err-clause-fault : goal.returns-in-Err-clause-fault
 returns-in-Err-clause-fault c number =
-    following-frame_fault number c.args.reading.now.cell c.args.bytes.now c.args.at c.in-Err.fault c.of_frame.result c.of_frame.ensures c.requires.before_end (sym c.in-Err.ensures.exact)
+    following-frame_fault number c.args.reading.now.cell c.args.bytes.now c.args.at c.in-Err.fault c.of_frame.result c.of_frame.ensures
+    c.requires.before_end (sym c.in-Err.ensures.exact)
 
 pub returns-in-Err-read_record-clause-fault : goal.returns-in-Err-read_record-clause-fault
 returns-in-Err-read_record-clause-fault c number =
-    following-refused number c.args.reading.now.cell c.args.bytes.now c.args.at c.in-Ok.frame c.in-Err-read_record.refusal c.requires.before_end (sym c.in-Ok.ensures.exact) c.in-Err-read_record.ensures
+    following-refused number c.args.reading.now.cell c.args.bytes.now c.args.at c.in-Ok.frame c.in-Err-read_record.refusal c.requires.before_end
+    (sym c.in-Ok.ensures.exact) c.in-Err-read_record.ensures
 
 pub returns-in-Err-add_record-clause-fault : goal.returns-in-Err-add_record-clause-fault
 returns-in-Err-add_record-clause-fault c number =
-    following-not_added number c.args.reading.now.cell c.args.bytes.now c.args.at c.in-Ok.frame c.in-Ok-read_record.rec c.in-Err-add_record.refusal c.requires.before_end
+    following-not_added number c.args.reading.now.cell c.args.bytes.now c.args.at c.in-Ok.frame c.in-Ok-read_record.rec
+    c.in-Err-add_record.refusal c.requires.before_end
     (sym c.in-Ok.ensures.exact) c.in-Ok-read_record.ensures c.in-Err-add_record.ensures.fault
 
 pub returns-in-Ok-add_record-clause-step : goal.returns-in-Ok-add_record-clause-step
 returns-in-Ok-add_record-clause-step c number = let bytes = c.args.bytes.now in let at = c.args.at in let frame = c.in-Ok.frame in
-    following-added number c.args.reading.now.cell bytes at frame c.in-Ok-read_record.rec c.requires.before_end (sym c.in-Ok.ensures.exact) c.in-Ok-read_record.ensures c.in-Ok-add_record.ensures.good
+    following-added number c.args.reading.now.cell bytes at frame c.in-Ok-read_record.rec c.requires.before_end
+    (sym c.in-Ok.ensures.exact) c.in-Ok-read_record.ensures c.in-Ok-add_record.ensures.good
     ∙ ap (λ cell. with_following (number + 1) cell (records_after bytes (at + frame.length) false)) (sym c.in-Ok-add_record.ensures.cell)
     ∙ ap (λ n. with_following (number + 1) c.add_record.new.reading.cell (records_after bytes (at + n) false)) (sym c.length.ensures)

@@ -6,7 +6,9 @@ pub returns-in-Err : goal.returns-in-Err
 returns-in-Err c = general_fails c.args.frame.now.fields c.in-Err.fault (sym c.in-Err.ensures)
 
 pub returns-then-not-is_general_information : goal.returns-then-not-is_general_information
-returns-then-not-is_general_information c = general_order c.args.frame.now.fields c.in-Ok.kind (sym c.in-Ok.ensures) (sym c.if-not-is_general_information.ensures)
+returns-then-not-is_general_information c = general_order c.args.frame.now.fields c.in-Ok.kind (sym c.in-Ok.ensures)
+    (sym c.if-not-is_general_information.ensures)
 
 pub returns : goal.returns
-returns c = rw (general_is c.args.frame.now.fields c.in-Ok.kind (sym c.in-Ok.ensures) (sym c.if-not-is_general_information.ensures)) c.read_general_information_fields.ensures
+returns c = rw (general_is c.args.frame.now.fields c.in-Ok.kind (sym c.in-Ok.ensures) (sym c.if-not-is_general_information.ensures))
+    c.read_general_information_fields.ensures

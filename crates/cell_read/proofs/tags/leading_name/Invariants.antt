@@ -4,4 +4,5 @@ use Rattle.file_spec.specs.declared.tag.FieldTag.TheVariants as tags
 use Rattle.cell_read.proofs.tags.leading_name.Given as goal
 
 abbrev pub invariant-loop-k : goal.invariant-loop-k
-invariant-loop-k l = find (λ field. not (is_tagged tags.RecordNumber field)) (drop l.k l.frame.fields) ≡ find (λ field. not (is_tagged tags.RecordNumber field)) l.frame.fields
+invariant-loop-k l = find (λ field. not (is_tagged tags.RecordNumber field)) (drop l.k l.frame.fields) ≡ find
+    (λ field. not (is_tagged tags.RecordNumber field)) l.frame.fields

@@ -4,4 +4,5 @@ use Rattle.file_spec.specs.FieldTags.{tag_text}
 use Rattle.cell_read.proofs.tags.tag_among.Given as goal
 
 abbrev pub invariant-loop-tag : goal.invariant-loop-tag
-invariant-loop-tag l = find (λ tag. pointwise nat_eq l.name (tag_text tag)) (drop l.tag-index l.tags) ≡ find (λ tag. pointwise nat_eq l.name (tag_text tag)) l.tags
+invariant-loop-tag l = find (λ tag. pointwise nat_eq l.name (tag_text tag)) (drop l.tag-index l.tags) ≡ find
+    (λ tag. pointwise nat_eq l.name (tag_text tag)) l.tags

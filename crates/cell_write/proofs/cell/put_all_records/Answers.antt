@@ -24,6 +24,7 @@ returns c =
     let two : c.put_records-2.new.out.items ≡ out ++ records_bytes nall 3 (cell.vi ++ cell.vc) =
     next_records nall 3 _ cell.vi cell.vc _ out _ _ c.as_slice-2.ensures (omega arith) one c.in_ok-put_records-2.ensures in
     let three : c.put_records-3.new.out.items ≡ out ++ records_bytes nall 3 (cell.vi ++ cell.vc ++ cell.ve) =
-    next_records nall 3 _ (cell.vi ++ cell.vc) cell.ve _ out _ _ c.as_slice-3.ensures (omega (arith, length-append cell.vi cell.vc)) two c.in_ok-put_records-3.ensures in
+    next_records nall 3 _ (cell.vi ++ cell.vc) cell.ve _ out _ _ c.as_slice-3.ensures
+    (omega (arith, length-append cell.vi cell.vc)) two c.in_ok-put_records-3.ensures in
     next_records nall 3 _ (cell.vi ++ cell.vc ++ cell.ve) cell.fe _ out _ _ c.as_slice-4.ensures
     (omega (arith, length-append (cell.vi ++ cell.vc) cell.ve, length-append cell.vi cell.vc)) three c.in_ok-put_records-4.ensures

@@ -21,8 +21,10 @@ loop-rec-preserved c =
     let out : List ℕ = c.loop-rec.out.items in
     let rest : List ℕ = records_bytes nall (number + 1) (drop (i + 1) records) in
     let more : records_bytes nall number (drop i records) ≡ record_bytes nall number rec ++ rest =
-    at_drop_more (records_bytes nall number) records i rec (omega arith) ∙ ap (λ (r : Rec). records_bytes nall number (r ∷ drop (i + 1) records)) (sym c.rec-item.is) in
+    at_drop_more (records_bytes nall number) records i rec (omega arith) ∙ ap (λ (r : Rec). records_bytes nall number (r ∷ drop (i + 1) records))
+    (sym c.rec-item.is) in
     record {
       number = omega arith;
-      rest = ap (λ (x : List ℕ). x ++ rest) c.in_ok-put_record.ensures ∙ append_assoc out (record_bytes nall number rec) rest ∙ ap (λ (x : List ℕ). out ++ x) (sym more) ∙ c.loop-rec.invariant.rest;
+      rest = ap (λ (x : List ℕ). x ++ rest) c.in_ok-put_record.ensures ∙ append_assoc out (record_bytes nall number rec) rest
+          ∙ ap (λ (x : List ℕ). out ++ x) (sym more) ∙ c.loop-rec.invariant.rest;
     }

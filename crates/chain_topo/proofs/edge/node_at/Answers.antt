@@ -6,7 +6,8 @@ use Rattle.chain_topo.proofs.edge.node_at.Goals as goal
 pub returns-then-count_at-ne1 : goal.returns-then-count_at-ne1
 returns-then-count_at-ne1 c =
     let test : End → Bool = λ e. e.topi == c.args.topi in
-    sym (ap (option_map (λ (e : End). e.to)) (only_counted test c.args.edge.now.ends (λ one. c.if-count_at-ne1.true (rw (c.count_at.ensures, c.as_slice-ends.ensures) one))))
+    sym (ap (option_map (λ (e : End). e.to)) (only_counted test c.args.edge.now.ends
+    (λ one. c.if-count_at-ne1.true (rw (c.count_at.ensures, c.as_slice-ends.ensures) one))))
 
 pub returns : goal.returns
 returns c =

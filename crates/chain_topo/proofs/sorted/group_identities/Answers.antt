@@ -20,7 +20,8 @@ pub make-requires-clause-exact_values : goal.make-requires-clause-exact_values
 make-requires-clause-exact_values c = λ a b e. exact_names a b (sym (c.orders_are_by_parts.ensures.names a b) ∙ e)
 
 -- pairs grouped by orders that are those of identifiers and names
-grouped : (by_key : Lnam → Lnam → Ordering) (by_value : RecName → RecName → Ordering) → ((a b : Lnam) → by_key a b ≡ order_by identity_parts a b) → ((a b : RecName) → by_value a b ≡ name_order a b)
+grouped : (by_key : Lnam → Lnam → Ordering) (by_value : RecName → RecName → Ordering) → ((a b : Lnam) → by_key a b ≡ order_by identity_parts a b)
+    → ((a b : RecName) → by_value a b ≡ name_order a b)
     → (rs : List Rec) (list groups : List (Lnam × RecName)) → list ≡ identities_listed rs → groups ≡ ascending (pair_order by_key by_value) list
     → (l : Lnam) → values_at (order_by identity_parts) groups l ≡ ascending name_order (map name_of (filter (bears l) rs))
 grouped by_key by_value identities names rs list groups listed made l =
@@ -30,5 +31,6 @@ grouped by_key by_value identities names rs list groups listed made l =
 
 pub returns : goal.returns
 returns c =
-    IfOk-weaker _ _ _ (λ groups made. grouped _ _ c.orders_are_by_parts.ensures.identities c.orders_are_by_parts.ensures.names (map (λ r. r.now) c.args.records.now) c.in_ok-list.list.items groups c.in_ok-list.ensures made)
+    IfOk-weaker _ _ _ (λ groups made. grouped _ _ c.orders_are_by_parts.ensures.identities c.orders_are_by_parts.ensures.names
+    (map (λ r. r.now) c.args.records.now) c.in_ok-list.list.items groups c.in_ok-list.ensures made)
     c.make.ensures

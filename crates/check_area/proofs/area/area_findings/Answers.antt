@@ -10,7 +10,8 @@ use Rattle.check_area.proofs.area.area_findings.Goals as goal
 pub returns-in-Some : goal.returns-in-Some
 returns-in-Some c = λ cell n keys near is_set found area fits there coded.
     let f = c.args.feature.now in
-    let asks = subst (λ (places : List Spot). All (λ (s : Spot). AsksForLine cell keys s.to) places) (sym c.as_slice.ensures) (all_asked cell n f keys is_set found area) in
+    let asks = subst (λ (places : List Spot). All (λ (s : Spot). AsksForLine cell keys s.to) places) (sym c.as_slice.ensures)
+    (all_asked cell n f keys is_set found area) in
     let parts : Some c.in-Some.parts.items ≡ parts_of cell f.places =
     ap (option_map (λ list. list.items)) (sym c.in-Some.is) ∙ c.in_ok-parts.ensures cell keys near asks ∙ ap (parts_of cell) c.as_slice.ensures in
     subst (λ (fs : List Finding). IfOk c.ring_findings.result (λ findings. findings.items ≡ fs))
@@ -19,7 +20,8 @@ returns-in-Some c = λ cell n keys near is_set found area fits there coded.
 pub returns-in-None : goal.returns-in-None
 returns-in-None c = λ cell n keys near is_set found area fits there coded.
     let f = c.args.feature.now in
-    let asks = subst (λ (places : List Spot). All (λ (s : Spot). AsksForLine cell keys s.to) places) (sym c.as_slice.ensures) (all_asked cell n f keys is_set found area) in
+    let asks = subst (λ (places : List Spot). All (λ (s : Spot). AsksForLine cell keys s.to) places) (sym c.as_slice.ensures)
+    (all_asked cell n f keys is_set found area) in
     let none : None ≡ parts_of cell f.places =
     ap (option_map (λ list. list.items)) (sym c.in-None.is) ∙ c.in_ok-parts.ensures cell keys near asks ∙ ap (parts_of cell) c.as_slice.ensures in
     c.new.ensures.items ∙ none_found cell f area fits there coded none

@@ -9,4 +9,5 @@ use Rattle.check_area.proofs.Places.{IsSoFar}
 use Rattle.check_area.proofs.area.parts_of.Given as goal
 
 abbrev pub invariant-loop-k : goal.invariant-loop-k
-invariant-loop-k l = (c : Cell) (keys : List Key) → IsNear c keys l.near → All (λ (s : Spot). AsksForLine c keys s.to) l.places → IsSoFar c l.known l.parts.items l.k l.places
+invariant-loop-k l = (c : Cell) (keys : List Key) → IsNear c keys l.near → All (λ (s : Spot). AsksForLine c keys s.to) l.places
+    → IsSoFar c l.known l.parts.items l.k l.places

@@ -11,4 +11,5 @@ returns c =
     let whole = c.in_ok-whole.whole.swept in
     let kept : to_z w128 (of_z w128 whole) ≡ whole = omega (arith, ints) in
     let inner = c.in_ok-inner.ensures in
-    sym (between_is c.args.begins c.args.ends c.args.points.now _ (kept ∙ c.in_ok-whole.ensures.swept ∙ (λ i. inner.swept i +ℤ twice_area_step (inner.at i) c.args.ends.at)))
+    sym (between_is c.args.begins c.args.ends c.args.points.now _
+    (kept ∙ c.in_ok-whole.ensures.swept ∙ (λ i. inner.swept i +ℤ twice_area_step (inner.at i) c.args.ends.at)))

@@ -6,4 +6,5 @@ use Rattle.check_area.specs.Parts.{wrong_loops}
 use Rattle.check_area.proofs.ring.push_wrong_turns.Given as goal
 
 abbrev pub invariant-loop-n : goal.invariant-loop-n
-invariant-loop-n l = l.findings.items ++ map (finding WRONG_TURN) (wrong_loops (blocks_of (drop l.n-index l.lengths) l.rest)) ≡ l.fn.findings.items ++ map (finding WRONG_TURN) (wrong_loops (blocks_of l.lengths l.fn.parts))
+invariant-loop-n l = l.findings.items ++ map (finding WRONG_TURN) (wrong_loops (blocks_of (drop l.n-index l.lengths) l.rest)) ≡
+    l.fn.findings.items ++ map (finding WRONG_TURN) (wrong_loops (blocks_of l.lengths l.fn.parts))

@@ -10,12 +10,14 @@ pub returns-in-OpenAt : goal.returns-in-OpenAt
 returns-in-OpenAt c =
     let found : OpenAt c.in-OpenAt.place ≡ cut_of (map arc_of_part c.args.parts.now) =
     sym c.in-OpenAt.is ∙ c.in_ok-place.ensures.computed ∙ ap cut_of (c.deref.ensures.value ∙ c.in_ok-arcs.ensures) in
-    subst (λ (fs : List Finding). IfOk c.open_ring.result (λ findings. findings.items ≡ fs)) (open_found c.args.parts.now c.in-OpenAt.place found) c.open_ring.ensures
+    subst (λ (fs : List Finding). IfOk c.open_ring.result (λ findings. findings.items ≡ fs))
+    (open_found c.args.parts.now c.in-OpenAt.place found) c.open_ring.ensures
 
 pub returns : goal.returns
 returns c =
     let found : Whole c.in-Whole.blocks ≡ cut_of (map arc_of_part c.args.parts.now) =
     sym c.in-Whole.is ∙ c.in_ok-place.ensures.computed ∙ ap cut_of (c.deref.ensures.value ∙ c.in_ok-arcs.ensures) in
     subst (λ (fs : List Finding). IfOk c.loop_findings.result (λ findings. findings.items ≡ fs))
-    (whole_found c.args.parts.now c.in-Whole.blocks c.deref-in-Whole.result.now found (c.deref-in-Whole.ensures.value ∙ c.in_ok-lengths-in-Whole.ensures ∙ ap (map length_of_block) c.as_slice.ensures))
+    (whole_found c.args.parts.now c.in-Whole.blocks c.deref-in-Whole.result.now found
+    (c.deref-in-Whole.ensures.value ∙ c.in_ok-lengths-in-Whole.ensures ∙ ap (map length_of_block) c.as_slice.ensures))
     c.loop_findings.ensures

@@ -7,7 +7,8 @@ use Rattle.check_feature.proofs.boundary.push_boundary_findings.Goals as goal
 pub returns-then-not-may_be_judged : goal.returns-then-not-may_be_judged
 returns-then-not-may_be_judged c = λ cell n keys near is_set found pointers.
     let held = c.args.findings.now.items in
-    let none = not_judged cell c.args.feature.now c.as_slice.result.now (c.as_slice.ensures.value ∙ pointers) (sym c.may_be_judged.ensures ∙ c.if-not-may_be_judged.true) in
+    let none = not_judged cell c.args.feature.now c.as_slice.result.now (c.as_slice.ensures.value ∙ pointers)
+    (sym c.may_be_judged.ensures ∙ c.if-not-may_be_judged.true) in
     sym (append-nil held) ∙ ap (λ xs. held ++ xs) (sym none)
 
 pub returns : goal.returns
@@ -19,4 +20,5 @@ returns c = λ cell n keys near is_set found pointers.
     let judged = sym c.may_be_judged.ensures ∙ c.if-not-may_be_judged.false in
     c.in_ok-extend_from_slice.ensures.items
     ∙ ap (λ xs. c.args.findings.now.items ++ xs) (c.deref.ensures.value ∙ c.in_ok-found.ensures cell n keys near is_set found
-    (judged_prim cell area held is judged) (judged_refs cell area held is judged) (judged_targets cell area held is judged) (judged_codes cell area held is judged))
+    (judged_prim cell area held is judged) (judged_refs cell area held is judged) (judged_targets cell area held is judged)
+    (judged_codes cell area held is judged))

@@ -15,5 +15,6 @@ use Rattle.check_feature.proofs.partners.push_dangling_features.Given as goal
 abbrev pub invariant-loop-k : goal.invariant-loop-k
 invariant-loop-k l =
     (c : Cell) (keys : List Key) → IsNear c keys l.near → All (λ (p : Partner). has_key keys (Foid p.to) ≡ true) l.feature.partners
-    → l.findings.items ++ map (finding DANGLING_FEATURE) (places_from (λ (p : Partner). length (lookup_identity c p.to) == 0) (l.k + 1) (drop l.k l.feature.partners))
+    → l.findings.items ++ map (finding DANGLING_FEATURE) (places_from (λ (p : Partner). length (lookup_identity c p.to) == 0)
+    (l.k + 1) (drop l.k l.feature.partners))
     ≡ l.fn.findings.items ++ map (finding DANGLING_FEATURE) (dangling_feature c l.feature)

@@ -15,5 +15,6 @@ use Rattle.check_feature.proofs.places.push_dangling_refs.Given as goal
 abbrev pub invariant-loop-k : goal.invariant-loop-k
 invariant-loop-k l =
     (c : Cell) (keys : List Key) → IsNear c keys l.near → All (λ (s : Spot). has_key keys (Name s.to) ≡ true) l.feature.places
-    → l.findings.items ++ map (finding DANGLING_REF) (places_from (λ (s : Spot). not (is_some (lookup_record c (target s)))) (l.k + 1) (drop l.k l.feature.places))
+    → l.findings.items ++ map (finding DANGLING_REF) (places_from (λ (s : Spot). not (is_some (lookup_record c (target s))))
+    (l.k + 1) (drop l.k l.feature.places))
     ≡ l.fn.findings.items ++ map (finding DANGLING_REF) (dangling_ref c l.feature)

@@ -16,7 +16,8 @@ no_pointer = record { from = record { kind = Vi; id = 0 }; place = 0 }
 pub feature_at-feature-requires-clause-asked : goal.feature_at-feature-requires-clause-asked
 unfolding no_pointer
 feature_at-feature-requires-clause-asked g c =
-    referrer_is_read (g.B.Look.cell c.args.look.now) c.args.name c.args.keys.now c.args.pointers.now c.loop-pointer.pointer-index no_pointer c.requires.keys c.requires.pointers c.loop-pointer-test.true
+    referrer_is_read (g.B.Look.cell c.args.look.now) c.args.name c.args.keys.now c.args.pointers.now c.loop-pointer.pointer-index
+    no_pointer c.requires.keys c.requires.pointers c.loop-pointer-test.true
 
 pub loop-pointer-preserved : goal.loop-pointer-preserved
 unfolding no_pointer
@@ -25,7 +26,8 @@ loop-pointer-preserved g c =
     let pointer = get_or c.args.pointers.now c.loop-pointer.pointer-index no_pointer in
     let all = ap (map (λ (f : Option (Bor Feature)). option_copied f)) c.deref.ensures.value ∙ c.in_ok-features.ensures.features in
     let found = c.feature_at-feature.ensures cell all in
-    let use_is : c.use_by.result ≡ use_by cell pointer = c.use_by.ensures ∙ ap (option_and_then (λ (f : Feature). option_map (use_of_row pointer f) (slice_get f.places (pointer.place - 1)))) found in
+    let use_is : c.use_by.result ≡ use_by cell pointer = c.use_by.ensures
+    ∙ ap (option_and_then (λ (f : Feature). option_map (use_of_row pointer f) (slice_get f.places (pointer.place - 1)))) found in
     c.in_ok-push_use.ensures
     ∙ (λ i. c.loop-pointer.invariant i ++ option_to_list (use_is i))
     ∙ sym (use_more (use_by cell) c.args.pointers.now c.loop-pointer.pointer-index no_pointer c.loop-pointer-test.true)

@@ -18,6 +18,7 @@ returns-clause-found g c =
     let cell = g.B.Look.cell c.args.look.now in
     let first : edge_line_of cell c.args.a ≡ Some c.in-Some.first = cc (c.in_ok-first.ensures.line) in
     let second : edge_line_of cell c.args.b ≡ Some c.in-Some-2.second = cc (c.in_ok-second.ensures.line) in
-    let contact : first_contact (shared_places c.in-Some.first c.in-Some-2.second) c.in-Some.first c.in-Some-2.second ≡ Some (c.in-Some-3.s, c.in-Some-3.t) = cc (c.in_ok-s.ensures) in
+    let contact : first_contact (shared_places c.in-Some.first c.in-Some-2.second) c.in-Some.first c.in-Some-2.second ≡ Some
+    (c.in-Some-3.s, c.in-Some-3.t) = cc (c.in_ok-s.ensures) in
     let found = contacts_found cell c.args.a c.args.b c.in-Some.first c.in-Some-2.second first second ∙ ap contact_findings contact in
     c.in_ok-push_contact.ensures ∙ ap (λ before. before ++ contact_findings (Some (c.in-Some-3.s, c.in-Some-3.t))) c.new-findings.ensures.items ∙ sym found

@@ -10,4 +10,5 @@ returns c = λ cell first second.
     let before = c.new-keys.ensures.items in
     let one = c.in_ok-push_vector_keys.ensures cell first in
     let two = c.in_ok-push_vector_keys-2.ensures cell second in
-    c.ascending_keys.ensures ∙ ap (ascending key_order) (two ∙ ap (λ keys. keys ++ record_keys cell c.args.b) (one ∙ ap (λ keys. keys ++ record_keys cell c.args.a) before))
+    c.ascending_keys.ensures ∙ ap (ascending key_order) (two ∙ ap (λ keys. keys ++ record_keys cell c.args.b)
+    (one ∙ ap (λ keys. keys ++ record_keys cell c.args.a) before))

@@ -7,4 +7,5 @@ use Rattle.check_record.proofs.reads.vector_reads.Goals as goal
 pub returns : goal.returns
 unfolding read_set
 returns c = λ cell found.
-    c.ascending_keys.ensures ∙ ap (ascending key_order) (c.in_ok-push_vector_keys.ensures cell found ∙ ap (λ xs. xs ++ record_keys cell c.args.name) c.new-keys.ensures.items)
+    c.ascending_keys.ensures ∙ ap (ascending key_order) (c.in_ok-push_vector_keys.ensures cell found
+    ∙ ap (λ xs. xs ++ record_keys cell c.args.name) c.new-keys.ensures.items)

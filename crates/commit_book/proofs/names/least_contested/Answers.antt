@@ -11,10 +11,12 @@ use Rattle.commit_book.proofs.names.least_contested.Goals as goal
 
 pub first_common-requires-clause-names : goal.first_common-requires-clause-names
 first_common-requires-clause-names c =
-    subst (IsStrictlySortedBy name_order) (sym c.claims.ensures) (sorted-ascending name_order total_names (map name_of_edit c.args.set.now.edits ++ c.args.set.now.guards))
+    subst (IsStrictlySortedBy name_order) (sym c.claims.ensures)
+    (sorted-ascending name_order total_names (map name_of_edit c.args.set.now.edits ++ c.args.set.now.guards))
 
 pub first_common-requires-clause-others : goal.first_common-requires-clause-others
-first_common-requires-clause-others c = subst (IsStrictlySortedBy name_order) (sym c.names.ensures) (sorted-ascending name_order total_names (map name_of_edit c.args.other.now.edits))
+first_common-requires-clause-others c = subst (IsStrictlySortedBy name_order) (sym c.names.ensures)
+    (sorted-ascending name_order total_names (map name_of_edit c.args.other.now.edits))
 
 pub returns : goal.returns
 returns c =

@@ -7,5 +7,7 @@ use Rattle.drill_run.proofs.counts.counts_of.Goals as goal
 
 pub returns : goal.returns
 returns c = λ scripts interleaved.
-    counts_of_log c.args.book.now.opening scripts c.args.book.now.entries c.commits.result c.count_refusals.result c.finding_count.result c.commits.ensures (c.count_refusals.ensures ∙ ap (count_by is_refused_entry) c.entries.ensures)
-    (c.finding_count.ensures ∙ ap finding_total c.bench.ensures) (c.entries_are_a_run.ensures c.args.book.now.opening scripts c.args.book.now.entries interleaved)
+    counts_of_log c.args.book.now.opening scripts c.args.book.now.entries c.commits.result c.count_refusals.result c.finding_count.result
+    c.commits.ensures (c.count_refusals.ensures ∙ ap (count_by is_refused_entry) c.entries.ensures)
+    (c.finding_count.ensures ∙ ap finding_total c.bench.ensures)
+    (c.entries_are_a_run.ensures c.args.book.now.opening scripts c.args.book.now.entries interleaved)

@@ -11,18 +11,21 @@ use Rattle.drill_run.proofs.Orders.{are_short, is_order, many_scripts}
 use Rattle.drill_run.proofs.run.run_in_turns.Goals as goal
 
 pub replay-requires-clause-few : goal.replay-requires-clause-few
-replay-requires-clause-few c =
-    subst (λ (scripts : List (List Command)). length scripts ≤ session_limit) (sym c.in_ok-scripts.ensures) (let many = many_scripts c.args.size c.args.sessions in omega (arith, many))
+replay-requires-clause-few g c κs within =
+    subst (λ (scripts : List (List Command)). length scripts ≤ session_limit) (sym c.in_ok-scripts.ensures) (let many =
+    many_scripts c.args.size c.args.sessions in omega (arith, many))
 
 pub replay-requires-clause-short : goal.replay-requires-clause-short
-replay-requires-clause-short c = subst (All IsShortScript) (sym c.in_ok-scripts.ensures) (are_short c.args.size c.args.sessions)
+replay-requires-clause-short g c κs within = subst (All IsShortScript) (sym c.in_ok-scripts.ensures) (are_short c.args.size c.args.sessions)
 
 pub replay-requires-clause-order : goal.replay-requires-clause-order
-replay-requires-clause-order c =
+replay-requires-clause-order g c κs within =
     subst (IsOrder (quotas_of c.in_ok-scripts.scripts.items)) (sym (c.deref.ensures.value ∙ c.in_ok-order.ensures))
-    (subst (λ (scripts : List (List Command)). IsOrder (quotas_of scripts) (round_robin c.args.sessions)) (sym c.in_ok-scripts.ensures) (is_order c.args.size c.args.sessions))
+    (subst (λ (scripts : List (List Command)). IsOrder (quotas_of scripts) (round_robin c.args.sessions)) (sym c.in_ok-scripts.ensures)
+    (is_order c.args.size c.args.sessions))
 
 pub returns : goal.returns
-returns c =
-    counts_of_replay c.args.book.opening c.in_ok-scripts.scripts.items (generated_scripts c.args.size c.args.sessions) c.deref.result.now (round_robin c.args.sessions) c.in_ok-replayed.replayed c.counts_of.result
+returns g c =
+    counts_of_replay c.args.book.opening c.in_ok-scripts.scripts.items (generated_scripts c.args.size c.args.sessions) c.deref.result.now
+    (round_robin c.args.sessions) c.in_ok-replayed.replayed c.counts_of.result
     c.in_ok-replayed.ensures c.counts_of.ensures c.in_ok-scripts.ensures (c.deref.ensures.value ∙ c.in_ok-order.ensures)

@@ -20,7 +20,8 @@ pub make-requires-clause-exact_values : goal.make-requires-clause-exact_values
 make-requires-clause-exact_values c = λ a b e. exact_refs a b (sym (c.orders_are_by_parts.ensures.refs a b) ∙ e)
 
 -- pairs grouped by orders that are those of names and pointers
-grouped : (by_key : RecName → RecName → Ordering) (by_value : Ref → Ref → Ordering) → ((a b : RecName) → by_key a b ≡ name_order a b) → ((a b : Ref) → by_value a b ≡ ref_order a b)
+grouped : (by_key : RecName → RecName → Ordering) (by_value : Ref → Ref → Ordering) → ((a b : RecName) → by_key a b ≡ name_order a b)
+    → ((a b : Ref) → by_value a b ≡ ref_order a b)
     → (rs : List Rec) (list groups : List (RecName × Ref)) → list ≡ pointers_listed rs → groups ≡ ascending (pair_order by_key by_value) list
     → (n : RecName) → values_at name_order groups n ≡ ascending ref_order (flat_map (pointers_in n) rs)
 grouped by_key by_value names refs rs list groups listed made n =
@@ -30,5 +31,6 @@ grouped by_key by_value names refs rs list groups listed made n =
 
 pub returns : goal.returns
 returns c =
-    IfOk-weaker _ _ _ (λ groups made. grouped _ _ c.orders_are_by_parts.ensures.names c.orders_are_by_parts.ensures.refs (map (λ r. r.now) c.args.records.now) c.in_ok-list.list.items groups c.in_ok-list.ensures made)
+    IfOk-weaker _ _ _ (λ groups made. grouped _ _ c.orders_are_by_parts.ensures.names c.orders_are_by_parts.ensures.refs
+    (map (λ r. r.now) c.args.records.now) c.in_ok-list.list.items groups c.in_ok-list.ensures made)
     c.make.ensures

@@ -1,4 +1,26 @@
-use Rattle.std.proofs.Common.{◌≡◌, ℕ, ◌+◌, ◌<◌, ◌++◌, [], ◌∷◌, None, Option, length, take, get_or, take_all, below_more, refl, sym, ap, subst, ◌∙◌, arith, zero-add}
+use Rattle.std.proofs.Common.{
+  ◌≡◌,
+  ℕ,
+  ◌+◌,
+  ◌<◌,
+  ◌++◌,
+  [],
+  ◌∷◌,
+  None,
+  Option,
+  length,
+  take,
+  get_or,
+  take_all,
+  below_more,
+  refl,
+  sym,
+  ap,
+  subst,
+  ◌∙◌,
+  arith,
+  zero-add,
+}
 use Rattle.std.proofs.lemmas.List.{length-take, take_more}
 use Rattle.cell_spec.specs.Edits.{name_of_edit}
 use Rattle.edit_sets.specs.FormFault.{edit_fault, fault_at}
@@ -21,9 +43,11 @@ loop-k-preserved c =
     let within : k < length edits = c.loop-k-test.true in
     let counted : length (take k edits) ≡ k = (let short = length-take k edits in omega (arith, short, within)) in
     let noted = c.in_default.ensures.noted (take k edits) c.loop-k.invariant.1 counted in
-    let more : take k edits ++ (c.index-edits-k.result ∷ []) ≡ take (k + 1) edits = ap (λ edit. take k edits ++ (edit ∷ [])) c.index-edits-k.is ∙ sym (take_more edits k c.index-edits-k.result within) in
+    let more : take k edits ++ (c.index-edits-k.result ∷ []) ≡ take (k + 1) edits =
+    ap (λ edit. take k edits ++ (edit ∷ [])) c.index-edits-k.is ∙ sym (take_more edits k c.index-edits-k.result within) in
     let none : fault_at c.args.nall edits k ≡ None =
-    edit_fault_there c.args.nall edits k c.index-edits-k.result (take k edits) c.edit_fault.result within c.index-edits-k.is refl (c.edit_fault.ensures.fault (take k edits) c.loop-k.invariant.1 counted) ∙ c.in_default.is in (
+    edit_fault_there c.args.nall edits k c.index-edits-k.result (take k edits) c.edit_fault.result within c.index-edits-k.is refl
+    (c.edit_fault.ensures.fault (take k edits) c.loop-k.invariant.1 counted) ∙ c.in_default.is in (
       c.edit_fault.ensures.names ∙ c.loop-k.invariant.0,
       subst (λ earlier. ArePlaces earlier c.edit_fault.new.places.names c.edit_fault.new.places.places.items) more noted,
       below_more _ _ c.loop-k.invariant.2 none,
@@ -36,7 +60,8 @@ returns-in-Some c =
     let within : k < length edits = c.loop-k-test.true in
     let counted : length (take k edits) ≡ k = (let short = length-take k edits in omega (arith, short, within)) in
     let faults : ℕ → Option _ = fault_at c.args.nall edits in
-    let here = edit_fault_there c.args.nall edits k c.index-edits-k.result (take k edits) c.edit_fault.result within c.index-edits-k.is refl (c.edit_fault.ensures.fault (take k edits) c.loop-k.invariant.1 counted) ∙ c.in-Some.is in
+    let here = edit_fault_there c.args.nall edits k c.index-edits-k.result (take k edits) c.edit_fault.result within c.index-edits-k.is refl
+    (c.edit_fault.ensures.fault (take k edits) c.loop-k.invariant.1 counted) ∙ c.in-Some.is in
     first_at faults 0 (length edits) k c.in-Some.fault within (λ j below. ap faults (zero-add j) ∙ c.loop-k.invariant.2 j below) (ap faults (zero-add k) ∙ here)
 
 pub returns : goal.returns
@@ -48,6 +73,7 @@ returns c =
       none = none_at faults 0 (length edits) (λ j below. ap faults (zero-add j) ∙ c.loop-k.invariant.2 j (omega (arith, past, below)));
       places_are = record {
         names_are = c.loop-k.invariant.0;
-        places_are = subst (λ earlier. ArePlaces earlier c.loop-k.places.names c.loop-k.places.places.items) (take_all c.loop-k.k edits (omega (arith, past))) c.loop-k.invariant.1;
+        places_are = subst (λ earlier. ArePlaces earlier c.loop-k.places.names c.loop-k.places.places.items)
+            (take_all c.loop-k.k edits (omega (arith, past))) c.loop-k.invariant.1;
       };
     }

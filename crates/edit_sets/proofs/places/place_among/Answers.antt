@@ -12,5 +12,6 @@ returns-in-Ok c =
 
 pub returns-in-Err : goal.returns-in-Err
 returns-in-Err c =
-    let point = subst (λ (order : RecName → RecName → Ordering). IsBinarySearchResult (λ (n : RecName). order n c.args.name) c.args.names.now (Err c.in-Err.field-0)) (λ i a b. c.orders_are_by_parts.ensures.names a b i) c.in-Err.ensures.position in
+    let point = subst (λ (order : RecName → RecName → Ordering). IsBinarySearchResult (λ (n : RecName). order n c.args.name) c.args.names.now
+    (Err c.in-Err.field-0)) (λ i a b. c.orders_are_by_parts.ensures.names a b i) c.in-Err.ensures.position in
     none_there c.args.names.now c.args.name c.in-Err.field-0 c.requires point

@@ -15,13 +15,20 @@ returns-in-Err-clause-tells g c =
     let names = map string_bytes c.args.names.now in
     let before = c.loop-k.invariant in
     let within = c.loop-k-test.true in
-    let there = ap (λ k. slice_index_or names k []) before.many ∙ name_there c.args.names.now c.loop-k.k c.index-names-k.result within c.index-names-k.is ∙ sym c.as_str.ensures.value in
-    let inside : length c.loop-k.scripts.items < length names = (let many = before.many in let all = length-map c.args.names.now string_bytes in omega (arith, within, many, all)) in
-    tells_later (λ script. script) (λ (scripts : Vec Script Global). scripts.items) (ScriptIs (c.loop-k.k + 1) c.as_str.result.now) (ScriptsAre names) (IsFile c.as_str.result.now) (λ fs n. IsReachedScript names fs n) (λ fs. AreScripts names fs c.loop-k.scripts.items)
-    (g.H.Shelf.files c.args.shelf.now) (g.H.Shelf.read_faults c.args.shelf.now) (g.H.Shelf.read_faults c.loop-k.shelf) (g.H.Shelf.read_faults c.read_session.new.shelf) c.in-Err.status
-    before.read_faults before.good (λ fs good bad. first_bad names fs c.loop-k.scripts.items c.as_str.result.now c.in-Err.status inside there good (subst (λ n. ScriptIs (n + 1) c.as_str.result.now fs (Err c.in-Err.status)) (sym before.many) bad))
+    let there = ap (λ k. slice_index_or names k []) before.many
+    ∙ name_there c.args.names.now c.loop-k.k c.index-names-k.result within c.index-names-k.is ∙ sym c.as_str.ensures.value in
+    let inside : length c.loop-k.scripts.items < length names =
+    (let many = before.many in let all = length-map c.args.names.now string_bytes in omega (arith, within, many, all)) in
+    tells_later (λ script. script) (λ (scripts : Vec Script Global). scripts.items) (ScriptIs (c.loop-k.k + 1) c.as_str.result.now)
+    (ScriptsAre names) (IsFile c.as_str.result.now) (λ fs n. IsReachedScript names fs n) (λ fs. AreScripts names fs c.loop-k.scripts.items)
+    (g.H.Shelf.files c.args.shelf.now) (g.H.Shelf.read_faults c.args.shelf.now) (g.H.Shelf.read_faults c.loop-k.shelf)
+    (g.H.Shelf.read_faults c.read_session.new.shelf) c.in-Err.status
+    before.read_faults before.good (λ fs good bad. first_bad names fs c.loop-k.scripts.items c.as_str.result.now c.in-Err.status
+    inside there good (subst (λ n. ScriptIs (n + 1) c.as_str.result.now fs (Err c.in-Err.status)) (sym before.many) bad))
     (λ fs other good is. reached_script names fs c.loop-k.scripts.items c.as_str.result.now other inside there good is)
-    (subst (λ files. Tells (λ script. script) (ScriptIs (c.loop-k.k + 1) c.as_str.result.now) (IsFile c.as_str.result.now) files (g.H.Shelf.read_faults c.loop-k.shelf) (g.H.Shelf.read_faults c.read_session.new.shelf) (Err c.in-Err.status)) before.files c.in-Err.ensures.tells)
+    (subst (λ files. Tells (λ script. script) (ScriptIs (c.loop-k.k + 1) c.as_str.result.now) (IsFile c.as_str.result.now) files
+    (g.H.Shelf.read_faults c.loop-k.shelf) (g.H.Shelf.read_faults c.read_session.new.shelf) (Err c.in-Err.status)) before.files
+    c.in-Err.ensures.tells)
 
 pub returns-in-Err-clause-status : goal.returns-in-Err-clause-status
 returns-in-Err-clause-status g c =
@@ -37,13 +44,18 @@ loop-k-preserved g c =
     let before = c.loop-k.invariant in
     let within = c.loop-k-test.true in
     let scripts = c.loop-k.scripts.items in
-    let there = ap (λ k. slice_index_or names k []) before.many ∙ name_there c.args.names.now c.loop-k.k c.index-names-k.result within c.index-names-k.is ∙ sym c.as_str.ensures.value in
-    let tells = subst (λ files. Tells (λ script. script) (ScriptIs (c.loop-k.k + 1) c.as_str.result.now) (IsFile c.as_str.result.now) files (g.H.Shelf.read_faults c.loop-k.shelf) (g.H.Shelf.read_faults c.read_session.new.shelf) (Ok c.in-Ok.script)) before.files c.in-Ok.ensures.tells in
+    let there = ap (λ k. slice_index_or names k []) before.many
+    ∙ name_there c.args.names.now c.loop-k.k c.index-names-k.result within c.index-names-k.is ∙ sym c.as_str.ensures.value in
+    let tells = subst (λ files. Tells (λ script. script) (ScriptIs (c.loop-k.k + 1) c.as_str.result.now) (IsFile c.as_str.result.now) files
+    (g.H.Shelf.read_faults c.loop-k.shelf) (g.H.Shelf.read_faults c.read_session.new.shelf) (Ok c.in-Ok.script)) before.files
+    c.in-Ok.ensures.tells in
     let pushed = c.in_ok-push_script.ensures in
     record {
       many = (let one = ap length pushed in let more = length-append scripts (c.in-Ok.script ∷ []) in let many = before.many in omega (arith, one, more, many));
       good = subst (λ all. IfSome (g.H.Shelf.files c.args.shelf.now) (λ fs. AreScripts names fs all)) (sym pushed)
-          (both_told (g.H.Shelf.files c.args.shelf.now) before.good tells (λ fs good next. scripts_more names fs scripts c.as_str.result.now c.in-Ok.script there good (subst (λ n. ScriptIs (n + 1) c.as_str.result.now fs (Ok c.in-Ok.script)) (sym before.many) next)));
+          (both_told (g.H.Shelf.files c.args.shelf.now) before.good tells
+          (λ fs good next. scripts_more names fs scripts c.as_str.result.now c.in-Ok.script there good
+          (subst (λ n. ScriptIs (n + 1) c.as_str.result.now fs (Ok c.in-Ok.script)) (sym before.many) next)));
       short = subst (All IsShortScript) (sym pushed) (All-push IsShortScript scripts c.in-Ok.script before.short c.in-Ok.ensures.short);
       of_texts = subst (All IsScriptOfText) (sym pushed) (All-push IsScriptOfText scripts c.in-Ok.script before.of_texts c.in-Ok.ensures.of_text);
       files = c.in-Ok.ensures.files ∙ before.files;

@@ -6,16 +6,16 @@ use Rattle.enc_top.proofs.GeneratedWork.{drilled_is, too_full}
 use Rattle.enc_top.proofs.made.drilled_work.Goals as goal
 
 pub returns-in-Err-TooManyFindings : goal.returns-in-Err-TooManyFindings
-returns-in-Err-TooManyFindings c =
+returns-in-Err-TooManyFindings g c =
     inl (too_full c.args.size c.args.sessions (subst (IsDrillRefusal c.args.size) c.in-Err-TooManyFindings.field-0-is c.in-Err-TooManyFindings.ensures.err))
 
 pub returns-in_err-push_drill : goal.returns-in_err-push_drill
-returns-in_err-push_drill c =
+returns-in_err-push_drill g c =
     let refused = err_from_is_err_and c.from_residual.result c.from_residual.ensures.1 in
     rw (refused.1, refused.2) (inr refl)
 
 pub returns : goal.returns
-returns c =
+returns g c =
     let n = c.args.size in
     let sessions = c.args.sessions in
     let counts = c.in-Ok.drilled in

@@ -10,4 +10,5 @@ returns c =
     let read = c.as_slice-size.result.now in
     let count : length read ≡ length bytes = ap length c.as_slice-size.ensures.value in
     let text = c.in_ok-push_made.ensures.ok ∙ ap (λ before. before ++ made_line cell (length read)) c.new-text.ensures.items ∙ ap (made_line cell) count in
-    made_is c.args.size c.args.out.now cell (string_bytes c.in_ok-name.name) c.push_made.new.out.items bytes c.in_ok-cell.ensures.cell c.in_ok-name.ensures.ok text c.in_ok-bytes.ensures c.writable_cell_is_read_back.ensures
+    made_is c.args.size c.args.out.now cell (string_bytes c.in_ok-name.name) c.push_made.new.out.items bytes c.in_ok-cell.ensures.cell
+    c.in_ok-name.ensures.ok text c.in_ok-bytes.ensures c.writable_cell_is_read_back.ensures

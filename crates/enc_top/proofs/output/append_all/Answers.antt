@@ -11,7 +11,8 @@ loop-done-preserved g c = let bytes = c.args.bytes.now in let done = c.loop-done
     let appended = rw (take_rest bytes done) at c.in_ok-done.ensures.ok in
     record {
       in_range = omega (arith, most);
-      told = rw (take-add done n bytes) (appended_more c.args.name.now (take done bytes) (take n (drop done bytes)) (files c.args.shelf.now) (files c.loop-done.shelf) (files c.append.new.self)
+      told = rw (take-add done n bytes) (appended_more c.args.name.now (take done bytes) (take n (drop done bytes)) (files c.args.shelf.now)
+          (files c.loop-done.shelf) (files c.append.new.self)
           c.loop-done.invariant.told c.append.ensures.untold appended);
       untold = λ none. c.append.ensures.untold (c.loop-done.invariant.untold none);
       write_faults = omega (arith, c.append.ensures.write_faults.no_fall, c.loop-done.invariant.write_faults);

@@ -11,7 +11,8 @@ loop-done-preserved g c = let text = c.args.text.now in let done = c.loop-done.d
     let took = rw (take_rest text done) at c.in_ok-done.ensures.ok in
     record {
       in_range = omega (arith, most);
-      told = rw (take-add done n text) (told_more (take done text) (take n (drop done text)) (written c.args.out.now) (written c.loop-done.out) (written c.put.new.self)
+      told = rw (take-add done n text) (told_more (take done text) (take n (drop done text)) (written c.args.out.now) (written c.loop-done.out)
+          (written c.put.new.self)
           c.loop-done.invariant.told c.put.ensures.untold took);
       untold = λ none. c.put.ensures.untold (c.loop-done.invariant.untold none);
       faults = omega (arith, c.put.ensures.faults.no_fall);

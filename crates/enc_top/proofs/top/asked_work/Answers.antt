@@ -11,15 +11,19 @@ returns-in_default-clause-asked g c = no_words c.args.words.now c.in_default.len
 pub returns-then-eq-clause-asked : goal.returns-then-eq-clause-asked
 returns-then-eq-clause-asked g c =
     let check = ap (is_word (codes "check")) (sym c.as_str-first.ensures.value) ∙ sym c.if-eq.ensures in
-    subst (λ f. IsAskedBy ⊥ f (g.H.Shelf.files c.args.shelf.now) (g.H.Shelf.read_faults c.args.shelf.now) (g.H.Shelf.read_faults c.check.new.shelf) c.check.result)
-    (sym (check_words c.args.words.now c.first-item.result (take (length c.args.words.now - 1) (drop 1 c.args.words.now)) c.in-len1-up.len_at_least c.first-item.is (behind 1 c.args.words.now) c.requires check)) c.check.ensures.asked
+    subst (λ f. IsAskedBy ⊥ f (g.H.Shelf.files c.args.shelf.now) (g.H.Shelf.read_faults c.args.shelf.now)
+    (g.H.Shelf.read_faults c.check.new.shelf) c.check.result)
+    (sym (check_words c.args.words.now c.first-item.result (take (length c.args.words.now - 1) (drop 1 c.args.words.now))
+    c.in-len1-up.len_at_least c.first-item.is (behind 1 c.args.words.now) c.requires check)) c.check.ensures.asked
 
 pub returns-then-eq-2-clause-asked : goal.returns-then-eq-2-clause-asked
 returns-then-eq-2-clause-asked g c =
     let check = ap (is_word (codes "check")) (sym c.as_str-first.ensures.value) ∙ sym c.if-eq.ensures in
     let replay = ap (is_word (codes "replay")) (sym c.as_str-first.ensures.value) ∙ sym c.if-eq-2.ensures in
-    subst (λ f. IsAskedBy ⊥ f (g.H.Shelf.files c.args.shelf.now) (g.H.Shelf.read_faults c.args.shelf.now) (g.H.Shelf.read_faults c.run_scripts.new.shelf) c.run_scripts.result)
-    (sym (run_words c.args.words.now c.first-item.result (take (length c.args.words.now - 1) (drop 1 c.args.words.now)) c.in-len1-up.len_at_least c.first-item.is (behind 1 c.args.words.now) c.requires check replay)) c.run_scripts.ensures.asked
+    subst (λ f. IsAskedBy ⊥ f (g.H.Shelf.files c.args.shelf.now) (g.H.Shelf.read_faults c.args.shelf.now)
+    (g.H.Shelf.read_faults c.run_scripts.new.shelf) c.run_scripts.result)
+    (sym (run_words c.args.words.now c.first-item.result (take (length c.args.words.now - 1) (drop 1 c.args.words.now)) c.in-len1-up.len_at_least
+    c.first-item.is (behind 1 c.args.words.now) c.requires check replay)) c.run_scripts.ensures.asked
 
 pub returns-then-eq-3-clause-asked : goal.returns-then-eq-3-clause-asked
 returns-then-eq-3-clause-asked g c =
@@ -28,7 +32,9 @@ returns-then-eq-3-clause-asked g c =
     let make = ap (is_word (codes "make")) (sym c.as_str-first.ensures.value) ∙ sym c.if-eq-3.ensures in
     let files = g.H.Shelf.files c.args.shelf.now in
     let reads = g.H.Shelf.read_faults c.args.shelf.now in
-    subst (λ f. IsAskedBy ⊥ f files reads reads c.make.result) (sym (made_words c.args.words.now c.first-item.result (take (length c.args.words.now - 1) (drop 1 c.args.words.now)) c.in-len1-up.len_at_least c.first-item.is (behind 1 c.args.words.now) c.requires check replay make)) (c.make.ensures files reads reads)
+    subst (λ f. IsAskedBy ⊥ f files reads reads c.make.result)
+    (sym (made_words c.args.words.now c.first-item.result (take (length c.args.words.now - 1) (drop 1 c.args.words.now))
+    c.in-len1-up.len_at_least c.first-item.is (behind 1 c.args.words.now) c.requires check replay make)) (c.make.ensures files reads reads)
 
 pub returns-then-eq-4-clause-asked : goal.returns-then-eq-4-clause-asked
 returns-then-eq-4-clause-asked g c =
@@ -38,7 +44,9 @@ returns-then-eq-4-clause-asked g c =
     let drill = ap (is_word (codes "drill")) (sym c.as_str-first.ensures.value) ∙ sym c.if-eq-4.ensures in
     let files = g.H.Shelf.files c.args.shelf.now in
     let reads = g.H.Shelf.read_faults c.args.shelf.now in
-    subst (λ f. IsAskedBy ⊥ f files reads reads c.drill.result) (sym (drilled_words c.args.words.now c.first-item.result (take (length c.args.words.now - 1) (drop 1 c.args.words.now)) c.in-len1-up.len_at_least c.first-item.is (behind 1 c.args.words.now) c.requires check replay make drill)) (c.drill.ensures files reads reads)
+    subst (λ f. IsAskedBy ⊥ f files reads reads c.drill.result)
+    (sym (drilled_words c.args.words.now c.first-item.result (take (length c.args.words.now - 1) (drop 1 c.args.words.now))
+    c.in-len1-up.len_at_least c.first-item.is (behind 1 c.args.words.now) c.requires check replay make drill)) (c.drill.ensures files reads reads)
 
 pub returns-clause-asked : goal.returns-clause-asked
 returns-clause-asked g c =
@@ -46,4 +54,5 @@ returns-clause-asked g c =
     let replay = ap (is_word (codes "replay")) (sym c.as_str-first.ensures.value) ∙ sym c.if-eq-2.ensures in
     let make = ap (is_word (codes "make")) (sym c.as_str-first.ensures.value) ∙ sym c.if-eq-3.ensures in
     let drill = ap (is_word (codes "drill")) (sym c.as_str-first.ensures.value) ∙ sym c.if-eq-4.ensures in
-    other_words c.args.words.now c.first-item.result (take (length c.args.words.now - 1) (drop 1 c.args.words.now)) c.in-len1-up.len_at_least c.first-item.is (behind 1 c.args.words.now) c.requires check replay make drill
+    other_words c.args.words.now c.first-item.result (take (length c.args.words.now - 1) (drop 1 c.args.words.now)) c.in-len1-up.len_at_least
+    c.first-item.is (behind 1 c.args.words.now) c.requires check replay make drill

@@ -10,14 +10,17 @@ use Rattle.enc_top.proofs.top.run_in_order_of.Goals as goal
 pub returns-in-Err-clause-tells : goal.returns-in-Err-clause-tells
 returns-in-Err-clause-tells g c =
     let quotas = c.deref-2.ensures.value ∙ c.in_ok-quotas.ensures ∙ ap quotas_of c.deref.ensures.value in
-    tells_first (λ order. order) task_of (OrderIs c.deref-2.result.now c.args.order.now) (OrderedRunIs c.args.bench c.args.out.now c.args.order.now c.args.scripts.items) (IsFile c.args.order.now) (IsFile c.args.order.now)
+    tells_first (λ order. order) task_of (OrderIs c.deref-2.result.now c.args.order.now)
+    (OrderedRunIs c.args.bench c.args.out.now c.args.order.now c.args.scripts.items) (IsFile c.args.order.now) (IsFile c.args.order.now)
     (g.H.Shelf.files c.args.shelf.now) (g.H.Shelf.read_faults c.args.shelf.now) (g.H.Shelf.read_faults c.read_sessions.new.shelf) c.in-Err.status
-    (λ fs bad. inr (c.in-Err.status, subst (λ q. OrderIs q c.args.order.now fs (Err c.in-Err.status)) quotas bad, refl)) (λ fs n near. near) c.in-Err.ensures.tells
+    (λ fs bad. inr (c.in-Err.status, subst (λ q. OrderIs q c.args.order.now fs (Err c.in-Err.status)) quotas bad, refl))
+    (λ fs n near. near) c.in-Err.ensures.tells
 
 pub run_of-requires-clause-order : goal.run_of-requires-clause-order
-run_of-requires-clause-order g c =
+run_of-requires-clause-order g c κs within =
     subst (IsOrder (quotas_of c.args.scripts.items)) (sym c.as_slice.ensures)
-    (subst (λ quotas. IsOrder quotas c.in-Ok.sessions) (c.deref-2.ensures.value ∙ c.in_ok-quotas.ensures ∙ ap quotas_of c.deref.ensures.value) c.in-Ok.ensures.order)
+    (subst (λ quotas. IsOrder quotas c.in-Ok.sessions) (c.deref-2.ensures.value ∙ c.in_ok-quotas.ensures ∙ ap quotas_of c.deref.ensures.value)
+    c.in-Ok.ensures.order)
 
 pub returns-clause-run : goal.returns-clause-run
 returns-clause-run g c =
@@ -26,7 +29,16 @@ returns-clause-run g c =
     let order = c.args.order.now in
     let files = g.H.Shelf.files c.args.shelf.now in
     let sessions = c.in-Ok.sessions in
-    let told : IfSome files (λ fs. OrderIs (quotas_of commands) order fs (Ok sessions)) = subst (λ quotas. IfSome files (λ fs. OrderIs quotas order fs (Ok sessions))) (c.deref-2.ensures.value ∙ c.in_ok-quotas.ensures ∙ ap quotas_of c.deref.ensures.value) c.in-Ok.ensures.tells in
-    if_ok_more (λ (work : Work). task_of work ≡ run_task cell c.args.out.now commands c.as_slice.result.now) (λ (work : Work). IsOrderedRun cell c.args.out.now order commands files (task_of work)) c.run_of.result
-    (λ work is. record { sessions = sessions; told = told; is = is ∙ ap (run_task cell c.args.out.now commands) c.as_slice.ensures; read_back = c.exports_are_read_back.ensures c.requires.of_file.0 cell commands sessions c.requires.of_file.1 c.requires.of_file.2 c.requires.of_texts })
+    let told : IfSome files (λ fs. OrderIs (quotas_of commands) order fs (Ok sessions)) =
+    subst (λ quotas. IfSome files (λ fs. OrderIs quotas order fs (Ok sessions)))
+    (c.deref-2.ensures.value ∙ c.in_ok-quotas.ensures ∙ ap quotas_of c.deref.ensures.value) c.in-Ok.ensures.tells in
+    if_ok_more (λ (work : Work). task_of work ≡ run_task cell c.args.out.now commands c.as_slice.result.now)
+    (λ (work : Work). IsOrderedRun cell c.args.out.now order commands files (task_of work)) c.run_of.result
+    (λ work is. record {
+      sessions = sessions;
+      told = told;
+      is = is ∙ ap (run_task cell c.args.out.now commands) c.as_slice.ensures;
+      read_back =
+          c.exports_are_read_back.ensures c.requires.of_file.0 cell commands sessions c.requires.of_file.1 c.requires.of_file.2 c.requires.of_texts;
+    })
     c.run_of.ensures.run

@@ -15,31 +15,55 @@ returns-in-Err-clause-asked g c =
     let names = take (length c.args.others.now - 3) (drop 3 c.args.others.now) in
     let low : 1 ≤ length names = (let empty = c.is_empty.ensures in let not = c.if-is_empty.false in grind (arith, nat_tests)) in
     let high : length names ≤ 16 = (let few = c.if-names-gt-SESSION_LIMIT.false in omega (arith, few)) in
-    let words = replay_words c.args.others.now c.cell-item.result c.out-item.result c.order-item.result names c.in-len3-up.len_at_least c.cell-item.is c.out-item.is c.order-item.is (behind 3 c.args.others.now) low high in
+    let words = replay_words c.args.others.now c.cell-item.result c.out-item.result c.order-item.result names c.in-len3-up.len_at_least
+    c.cell-item.is c.out-item.is c.order-item.is (behind 3 c.args.others.now) low high in
     let form : Form = replay_form c.as_str.result.now (string_bytes c.out-item.result) (string_bytes c.order-item.result) (map string_bytes names) in
-    let is : replay_among (map string_bytes c.args.others.now) ≡ form = words ∙ ap (λ cell. replay_form cell (string_bytes c.out-item.result) (string_bytes c.order-item.result) (map string_bytes names)) (sym c.as_str.ensures.value) in
-    subst (λ f. IsAskedBy ⊥ f (g.H.Shelf.files c.args.shelf.now) (g.H.Shelf.read_faults c.args.shelf.now) (g.H.Shelf.read_faults c.read_bench.new.shelf) (Err c.in-Err.status)) (sym is)
-    (asked_status ⊥ form (g.H.Shelf.files c.args.shelf.now) (g.H.Shelf.read_faults c.args.shelf.now) (g.H.Shelf.read_faults c.read_bench.new.shelf) c.in-Err.status tt
+    let is : replay_among (map string_bytes c.args.others.now) ≡ form =
+    words ∙ ap (λ cell. replay_form cell (string_bytes c.out-item.result) (string_bytes c.order-item.result) (map string_bytes names))
+    (sym c.as_str.ensures.value) in
+    subst (λ f. IsAskedBy ⊥ f (g.H.Shelf.files c.args.shelf.now) (g.H.Shelf.read_faults c.args.shelf.now)
+    (g.H.Shelf.read_faults c.read_bench.new.shelf) (Err c.in-Err.status)) (sym is)
+    (asked_status ⊥ form (g.H.Shelf.files c.args.shelf.now) (g.H.Shelf.read_faults c.args.shelf.now)
+    (g.H.Shelf.read_faults c.read_bench.new.shelf) c.in-Err.status tt
     (status_of_more (λ n. n ≡ c.as_str.result.now) (IsInputOf form) c.in-Err.status (λ n same. inl same) c.in-Err.ensures.status)
     (tells_first (λ (cell : Cell). cell) task_of (CellIs c.as_str.result.now) (OutputIs form) (IsFile c.as_str.result.now) (IsReached form)
-    (g.H.Shelf.files c.args.shelf.now) (g.H.Shelf.read_faults c.args.shelf.now) (g.H.Shelf.read_faults c.read_bench.new.shelf) c.in-Err.status (λ fs bad. inr (c.in-Err.status, bad, refl)) (λ fs n is. inl is) c.in-Err.ensures.tells))
+    (g.H.Shelf.files c.args.shelf.now) (g.H.Shelf.read_faults c.args.shelf.now) (g.H.Shelf.read_faults c.read_bench.new.shelf) c.in-Err.status
+    (λ fs bad. inr (c.in-Err.status, bad, refl)) (λ fs n is. inl is) c.in-Err.ensures.tells))
 
 pub returns-clause-asked : goal.returns-clause-asked
 returns-clause-asked g c =
     let names = take (length c.args.others.now - 3) (drop 3 c.args.others.now) in
     let low : 1 ≤ length names = (let empty = c.is_empty.ensures in let not = c.if-is_empty.false in grind (arith, nat_tests)) in
     let high : length names ≤ 16 = (let few = c.if-names-gt-SESSION_LIMIT.false in omega (arith, few)) in
-    let words = replay_words c.args.others.now c.cell-item.result c.out-item.result c.order-item.result names c.in-len3-up.len_at_least c.cell-item.is c.out-item.is c.order-item.is (behind 3 c.args.others.now) low high in
+    let words = replay_words c.args.others.now c.cell-item.result c.out-item.result c.order-item.result names c.in-len3-up.len_at_least
+    c.cell-item.is c.out-item.is c.order-item.is (behind 3 c.args.others.now) low high in
     let form : Form = replay_form c.as_str.result.now c.as_str-2.result.now c.as_str-3.result.now (map string_bytes names) in
-    let is : replay_among (map string_bytes c.args.others.now) ≡ form = words ∙ (λ i. replay_form (sym c.as_str.ensures.value i) (sym c.as_str-2.ensures.value i) (sym c.as_str-3.ensures.value i) (map string_bytes names)) in
+    let is : replay_among (map string_bytes c.args.others.now) ≡ form =
+    words ∙ (λ i. replay_form (sym c.as_str.ensures.value i) (sym c.as_str-2.ensures.value i) (sym c.as_str-3.ensures.value i)
+    (map string_bytes names)) in
     let cell = c.in-Ok.bench in
-    let tells = subst (λ files. Tells task_of (RunIs cell c.as_str-2.result.now c.as_str-3.result.now (map string_bytes names)) (λ fs n. IsReachedInRun c.as_str-3.result.now (map string_bytes names) fs n) files (g.H.Shelf.read_faults c.read_bench.new.shelf) (g.H.Shelf.read_faults c.run_on.new.shelf) c.run_on.result)
+    let tells = subst (λ files. Tells task_of (RunIs cell c.as_str-2.result.now c.as_str-3.result.now (map string_bytes names))
+    (λ fs n. IsReachedInRun c.as_str-3.result.now (map string_bytes names) fs n) files (g.H.Shelf.read_faults c.read_bench.new.shelf)
+    (g.H.Shelf.read_faults c.run_on.new.shelf) c.run_on.result)
     c.in-Ok.ensures.files c.run_on.ensures.tells in
-    subst (λ f. IsAskedBy ⊥ f (g.H.Shelf.files c.args.shelf.now) (g.H.Shelf.read_faults c.args.shelf.now) (g.H.Shelf.read_faults c.run_on.new.shelf) c.run_on.result) (sym is)
-    (asked_answer ⊥ form (g.H.Shelf.files c.args.shelf.now) (g.H.Shelf.read_faults c.args.shelf.now) (g.H.Shelf.read_faults c.run_on.new.shelf) c.run_on.result tt
-    (if_ok_more (λ (work : Work). IsRunOf cell c.as_str-2.result.now c.as_str-3.result.now (map string_bytes names) (g.H.Shelf.files c.read_bench.new.shelf) (task_of work)) (λ (work : Work). IsOutput form (g.H.Shelf.files c.args.shelf.now) (task_of work)) c.run_on.result
-    (λ work ran. record { start = cell; told = c.in-Ok.ensures.tells; run = subst (λ files. IsRunOf cell c.as_str-2.result.now c.as_str-3.result.now (map string_bytes names) files (task_of work)) c.in-Ok.ensures.files ran }) c.run_on.ensures.run)
-    (if_err_more (λ n. (n ≡ c.as_str-3.result.now) ⊎ IsAmong (map string_bytes names) n) (IsInputOf form) c.run_on.result (λ n other. inr other) c.run_on.ensures.status)
-    (tells_last task_of (RunIs cell c.as_str-2.result.now c.as_str-3.result.now (map string_bytes names)) (OutputIs form) (λ fs n. IsReachedInRun c.as_str-3.result.now (map string_bytes names) fs n) (IsReached form) (λ fs. CellIs c.as_str.result.now fs (Ok cell))
-    (g.H.Shelf.files c.args.shelf.now) (g.H.Shelf.read_faults c.args.shelf.now) (g.H.Shelf.read_faults c.read_bench.new.shelf) (g.H.Shelf.read_faults c.run_on.new.shelf) c.run_on.result
+    subst (λ f. IsAskedBy ⊥ f (g.H.Shelf.files c.args.shelf.now) (g.H.Shelf.read_faults c.args.shelf.now)
+    (g.H.Shelf.read_faults c.run_on.new.shelf) c.run_on.result) (sym is)
+    (asked_answer ⊥ form (g.H.Shelf.files c.args.shelf.now) (g.H.Shelf.read_faults c.args.shelf.now)
+    (g.H.Shelf.read_faults c.run_on.new.shelf) c.run_on.result tt
+    (if_ok_more (λ (work : Work). IsRunOf cell c.as_str-2.result.now c.as_str-3.result.now (map string_bytes names)
+    (g.H.Shelf.files c.read_bench.new.shelf) (task_of work))
+    (λ (work : Work). IsOutput form (g.H.Shelf.files c.args.shelf.now) (task_of work)) c.run_on.result
+    (λ work ran. record {
+      start = cell;
+      told = c.in-Ok.ensures.tells;
+      run =
+          subst (λ files. IsRunOf cell c.as_str-2.result.now c.as_str-3.result.now (map string_bytes names) files (task_of work))
+          c.in-Ok.ensures.files ran;
+    }) c.run_on.ensures.run)
+    (if_err_more (λ n. (n ≡ c.as_str-3.result.now) ⊎ IsAmong (map string_bytes names) n) (IsInputOf form) c.run_on.result
+    (λ n other. inr other) c.run_on.ensures.status)
+    (tells_last task_of (RunIs cell c.as_str-2.result.now c.as_str-3.result.now (map string_bytes names)) (OutputIs form)
+    (λ fs n. IsReachedInRun c.as_str-3.result.now (map string_bytes names) fs n) (IsReached form) (λ fs. CellIs c.as_str.result.now fs (Ok cell))
+    (g.H.Shelf.files c.args.shelf.now) (g.H.Shelf.read_faults c.args.shelf.now) (g.H.Shelf.read_faults c.read_bench.new.shelf)
+    (g.H.Shelf.read_faults c.run_on.new.shelf) c.run_on.result
     c.in-Ok.ensures.read_faults c.in-Ok.ensures.tells (λ fs answer good step. inl (cell, good, step)) (λ fs n good near. inr (cell, good, near)) tells))

@@ -8,7 +8,8 @@ pub returns : goal.returns
 returns c = λ scripts entries lines.
     let book = c.args.book.now in
     let order = order_of_entries book.entries in
-    let text = c.in_ok-print_report.ensures.ok ∙ ap (λ before. before ++ entries_report book.opening book.entries c.args.transcripts.now) c.new-text.ensures.items
+    let text = c.in_ok-print_report.ensures.ok ∙ ap (λ before. before ++ entries_report book.opening book.entries c.args.transcripts.now)
+    c.new-text.ensures.items
     ∙ sym (c.a_history_has_the_report_of_its_order.ensures.report book.opening scripts book.entries c.args.transcripts.now entries lines) in
     let cell = c.in_ok-cell.ensures ∙ c.bench.ensures ∙ sym (c.a_history_has_the_report_of_its_order.ensures.cell book.opening scripts book.entries entries) in
     (λ i. record { text = text i; file = Some ((c.in_ok-name.ensures.ok i), (c.in_ok-bytes.ensures ∙ ap encoded_cell cell) i) })

@@ -1,8 +1,41 @@
 use Rattle.std.proofs.Common.{◌≡◌, ◌==◌, ◌&&◌, true, nat_le, refl, ap, arith}
 use Rattle.std.proofs.lemmas.Bool.Decides.{nat_tests}
-use Rattle.s57_types.specs.FieldRows.{number_forms, dsid_forms, dssi_forms, dspm_forms, frid_forms, foid_forms, vrid_forms, number_row, dsid_row, dssi_row, dspm_row, frid_row, foid_row, vrid_row}
+use Rattle.s57_types.specs.FieldRows.{
+  number_forms,
+  dsid_forms,
+  dssi_forms,
+  dspm_forms,
+  frid_forms,
+  foid_forms,
+  vrid_forms,
+  number_row,
+  dsid_row,
+  dssi_row,
+  dspm_row,
+  frid_row,
+  foid_row,
+  vrid_row,
+}
 use Rattle.s57_types.specs.declared.name.Kind.{Kind}
-use Rattle.field_spec.specs.Contents.{number_content, dsid_content, dssi_content, dspm_content, frid_content, foid_content, vrid_content, number_in, any_row, dsid_value, dssi_value, dspm_value, frid_value, lnam_in, vrid_value, has_good_levels, names_a_vector}
+use Rattle.field_spec.specs.Contents.{
+  number_content,
+  dsid_content,
+  dssi_content,
+  dspm_content,
+  frid_content,
+  foid_content,
+  vrid_content,
+  number_in,
+  any_row,
+  dsid_value,
+  dssi_value,
+  dspm_value,
+  frid_value,
+  lnam_in,
+  vrid_value,
+  has_good_levels,
+  names_a_vector,
+}
 use Rattle.field_spec.proofs.Written.{row_written, dssi_value-row, kind_of_rcnm-rcnm_of, vector_rcnm}
 use Rattle.field_spec.proofs.law.rows_read_back.Goals as goal
 
@@ -13,7 +46,8 @@ returns-clause-number c = λ n fits. row_written (λ row. number_in row 0) numbe
 
 pub returns-clause-dsid : goal.returns-clause-dsid
 unfolding dsid_content
-returns-clause-dsid c = λ d fit. row_written dsid_value dsid_forms (λ row. number_in row 0 == 10) (dsid_row d) d (record { fit = fit; is_good = refl; value_is = refl })
+returns-clause-dsid c = λ d fit. row_written dsid_value dsid_forms (λ row. number_in row 0 == 10) (dsid_row d) d
+    (record { fit = fit; is_good = refl; value_is = refl })
 
 pub returns-clause-dssi : goal.returns-clause-dssi
 unfolding dssi_content
@@ -22,11 +56,13 @@ returns-clause-dssi c = λ d fit aall nall. let levels : (nat_le d.aall 1 && nat
 
 pub returns-clause-dspm : goal.returns-clause-dspm
 unfolding dspm_content
-returns-clause-dspm c = λ d fit. row_written dspm_value dspm_forms (λ row. number_in row 0 == 20) (dspm_row d) d (record { fit = fit; is_good = refl; value_is = refl })
+returns-clause-dspm c = λ d fit. row_written dspm_value dspm_forms (λ row. number_in row 0 == 20) (dspm_row d) d
+    (record { fit = fit; is_good = refl; value_is = refl })
 
 pub returns-clause-frid : goal.returns-clause-frid
 unfolding frid_content
-returns-clause-frid c = λ d fit. row_written frid_value frid_forms (λ row. number_in row 0 == 100) (frid_row d) d (record { fit = fit; is_good = refl; value_is = refl })
+returns-clause-frid c = λ d fit. row_written frid_value frid_forms (λ row. number_in row 0 == 100) (frid_row d) d
+    (record { fit = fit; is_good = refl; value_is = refl })
 
 pub returns-clause-foid : goal.returns-clause-foid
 unfolding foid_content

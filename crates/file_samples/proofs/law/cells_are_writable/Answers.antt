@@ -56,7 +56,17 @@ bool_decides b = (λ e. e, λ e. e)
 writable_decides : (c : Cell) → Decides (is_writable c) (IsWritable c)
 unfolding is_writable
 writable_decides c = Decides-like _
-    (λ (((((((a, k), d), e), f), g), h), m). record { head_fits = a; isolated_nodes = k; connected_nodes = d; edges = e; features = f; records_fit = g; names_distinct = h; not_too_many = m })
+    (λ (((((((a, k), d), e), f), g), h), m). record {
+      head_fits = a;
+      isolated_nodes = k;
+      connected_nodes = d;
+      edges = e;
+      features =
+          f;
+      records_fit = g;
+      names_distinct = h;
+      not_too_many = m;
+    })
     (λ w. (((((((w.head_fits, w.isolated_nodes), w.connected_nodes), w.edges), w.features), w.records_fit), w.names_distinct), w.not_too_many))
     (bool_decides (is_fit_head c.head) and kinds_decide Vi c.vi and kinds_decide Vc c.vc and kinds_decide Ve c.ve and kinds_decide Fe c.fe
     and fits_decide c.head.nall (all_records c) and names_decide (map name_of (all_records c)) and le_decides (length (all_records c)) record_limit)

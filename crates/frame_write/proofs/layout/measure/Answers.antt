@@ -20,7 +20,8 @@ loop-field-preserved c =
     let more = sum_more fields i field (omega arith) c.field-item.is in
     let back : i + 1 - 1 ≡ i = omega arith in
     record {
-      longest = c.max.ensures ∙ ap (λ (k : ℕ). max k c.len-length.result) c.loop-field.invariant.longest ∙ ap (max (fold max 0 (take i (lengths_of fields)))) size
+      longest = c.max.ensures ∙ ap (λ (k : ℕ). max k c.len-length.result) c.loop-field.invariant.longest
+          ∙ ap (max (fold max 0 (take i (lengths_of fields)))) size
           ∙ sym (longest_more fields i field (omega arith) c.field-item.is);
       last = rw back c.loop-field.invariant.total;
       total = omega (arith, more, size, c.loop-field.invariant.total);

@@ -20,7 +20,8 @@ loop-field-preserved c =
       position = omega (arith, more, here, c.loop-field.invariant.position);
       rest = rw here (
           appended out _ _ _ field.tag (digits m (length field.bytes.items)) (digits n c.loop-field.position) rest
-          c.in_ok-extend_from_slice.ensures.items (c.in_ok-push_digits.ensures ∙ ap (λ (k : ℕ). c.extend_from_slice.new.self.items ++ digits m k) size) c.in_ok-push_digits-2.ensures
+          c.in_ok-extend_from_slice.ensures.items (c.in_ok-push_digits.ensures
+          ∙ ap (λ (k : ℕ). c.extend_from_slice.new.self.items ++ digits m k) size) c.in_ok-push_digits-2.ensures
           ∙ ap (λ (x : List ℕ). out ++ x) (sym (entries_more m n c.loop-field.position fields i field (omega arith) c.field-item.is))
           ∙ c.loop-field.invariant.rest
           );

@@ -11,7 +11,8 @@ returns c =
     let is = c.requires in
     let m : c.args.layout.now.length_digits + 48 ≡ 48 + length_digits lengths = omega (arith, is.length_digits_are) in
     let n : c.args.layout.now.position_digits + 48 ≡ 48 + position_digits lengths = omega (arith, is.position_digits_are) in
-    leader_appended c.args.out.now.items _ _ _ _ _ _ _ (digits 5 (record_length lengths)) (identifier_text first) (digits 5 (base_address lengths)) (character_set_text first) (48 ∷ 52 ∷ []) (48 + length_digits lengths) (48 + position_digits lengths)
+    leader_appended c.args.out.now.items _ _ _ _ _ _ _ (digits 5 (record_length lengths)) (identifier_text first)
+    (digits 5 (base_address lengths)) (character_set_text first) (48 ∷ 52 ∷ []) (48 + length_digits lengths) (48 + position_digits lengths)
     (c.in_ok-push_digits.ensures ∙ ap (λ (k : ℕ). c.args.out.now.items ++ digits 5 k) is.length_is)
     (c.in_ok-extend_from_slice.ensures.items ∙ ap (λ (x : List ℕ). c.push_digits.new.out.items ++ x) c.identifier_text.ensures)
     (c.in_ok-push_digits-2.ensures ∙ ap (λ (k : ℕ). c.extend_from_slice.new.self.items ++ digits 5 k) is.base_is)

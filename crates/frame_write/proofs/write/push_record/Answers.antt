@@ -12,7 +12,8 @@ returns c =
     let layout = c.args.layout.now in
     let behind : List ℕ = c.push_leader.new.out.items in
     c.in_ok-push_field_area.ensures
-    ∙ appended c.args.out.now.items _ _ _ (leader_text (is_first c.args.kind) lengths) (directory_entries (length_digits lengths) (position_digits lengths) 0 fields) (30 ∷ []) (field_area fields)
+    ∙ appended c.args.out.now.items _ _ _ (leader_text (is_first c.args.kind) lengths)
+    (directory_entries (length_digits lengths) (position_digits lengths) 0 fields) (30 ∷ []) (field_area fields)
     c.in_ok-push_leader.ensures
     (c.in_ok-push_directory.ensures
     ∙ ap (λ (m : ℕ). behind ++ directory_entries m layout.position_digits 0 fields) c.requires.length_digits_are

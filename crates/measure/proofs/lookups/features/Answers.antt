@@ -23,7 +23,9 @@ loop-id-preserved c =
     let more = sym c.in_ok-push.ensures.items in
     record {
       count = omega (arith, c.in_ok-push.ensures.len, facts.count);
-      distinct = subst (λ rs. IsDistinct same_name (map name_of rs)) more (distinct_more c.loop-id.features.items c.in_ok-feature.feature c.loop-id.id facts.distinct facts.below c.in_ok-feature.ensures.name);
-      below = subst (All (λ r. (name_of r).id < c.loop-id.id + 1)) more (below_more c.loop-id.features.items c.in_ok-feature.feature c.loop-id.id facts.below c.in_ok-feature.ensures.name);
+      distinct = subst (λ rs. IsDistinct same_name (map name_of rs)) more
+          (distinct_more c.loop-id.features.items c.in_ok-feature.feature c.loop-id.id facts.distinct facts.below c.in_ok-feature.ensures.name);
+      below = subst (All (λ r. (name_of r).id < c.loop-id.id + 1)) more
+          (below_more c.loop-id.features.items c.in_ok-feature.feature c.loop-id.id facts.below c.in_ok-feature.ensures.name);
       fit = subst (All FitsAnywhere) more (All-push FitsAnywhere c.loop-id.features.items c.in_ok-feature.feature facts.fit c.in_ok-feature.ensures.fits);
     }

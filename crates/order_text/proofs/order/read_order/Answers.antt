@@ -17,18 +17,26 @@ pub returns-then-is_ended : goal.returns-then-is_ended
 returns-then-is_ended c =
     let order = c.in-Ok.found.0.items in
     let counts : AreCounts order c.deref-2.result.now = subst (AreCounts order) (sym c.deref-2.ensures.value) c.in-Ok.ensures.counts in
-    let many : length (map (λ (item : Bor (List ℕ)). item.now) c.deref.result.now) ≡ length c.deref.result.now = length-map c.deref.result.now (λ item. item.now) in
-    let counted : c.len.result ≡ length (map (λ (item : Bor (List ℕ)). item.now) c.deref.result.now) = search (rules, many, c.deref.ensures.value, c.len.ensures) in
-    ended_by c.args.quotas.now c.args.bytes.now c.in-Some.behind.now order c.in-Ok.found.1.items (map (λ (item : Bor (List ℕ)). item.now) c.deref.result.now) c.len.result true
-    c.in-Some.ensures.0 c.in-Some.ensures.1 (ap (map (λ (item : Bor (List ℕ)). item.now)) c.deref.ensures.value ∙ c.in_ok-items.ensures.items) c.in-Ok.ensures counted (c.if-is_ended.ensures order counts)
+    let many : length (map (λ (item : Bor (List ℕ)). item.now) c.deref.result.now) ≡ length c.deref.result.now =
+    length-map c.deref.result.now (λ item. item.now) in
+    let counted : c.len.result ≡ length (map (λ (item : Bor (List ℕ)). item.now) c.deref.result.now) =
+    search (rules, many, c.deref.ensures.value, c.len.ensures) in
+    ended_by c.args.quotas.now c.args.bytes.now c.in-Some.behind.now order c.in-Ok.found.1.items
+    (map (λ (item : Bor (List ℕ)). item.now) c.deref.result.now) c.len.result true
+    c.in-Some.ensures.0 c.in-Some.ensures.1 (ap (map (λ (item : Bor (List ℕ)). item.now)) c.deref.ensures.value ∙ c.in_ok-items.ensures.items)
+    c.in-Ok.ensures counted (c.if-is_ended.ensures order counts)
     ∙ ap Ok (sym c.of_vec.ensures)
 
 pub returns : goal.returns
 returns c =
     let order = c.in-Ok.found.0.items in
     let counts : AreCounts order c.deref-2.result.now = subst (AreCounts order) (sym c.deref-2.ensures.value) c.in-Ok.ensures.counts in
-    let many : length (map (λ (item : Bor (List ℕ)). item.now) c.deref.result.now) ≡ length c.deref.result.now = length-map c.deref.result.now (λ item. item.now) in
-    let counted : c.len.result ≡ length (map (λ (item : Bor (List ℕ)). item.now) c.deref.result.now) = search (rules, many, c.deref.ensures.value, c.len.ensures) in
-    ended_by c.args.quotas.now c.args.bytes.now c.in-Some.behind.now order c.in-Ok.found.1.items (map (λ (item : Bor (List ℕ)). item.now) c.deref.result.now) c.len.result false
-    c.in-Some.ensures.0 c.in-Some.ensures.1 (ap (map (λ (item : Bor (List ℕ)). item.now)) c.deref.ensures.value ∙ c.in_ok-items.ensures.items) c.in-Ok.ensures counted (c.if-is_ended.ensures order counts)
+    let many : length (map (λ (item : Bor (List ℕ)). item.now) c.deref.result.now) ≡ length c.deref.result.now =
+    length-map c.deref.result.now (λ item. item.now) in
+    let counted : c.len.result ≡ length (map (λ (item : Bor (List ℕ)). item.now) c.deref.result.now) =
+    search (rules, many, c.deref.ensures.value, c.len.ensures) in
+    ended_by c.args.quotas.now c.args.bytes.now c.in-Some.behind.now order c.in-Ok.found.1.items
+    (map (λ (item : Bor (List ℕ)). item.now) c.deref.result.now) c.len.result false
+    c.in-Some.ensures.0 c.in-Some.ensures.1 (ap (map (λ (item : Bor (List ℕ)). item.now)) c.deref.ensures.value ∙ c.in_ok-items.ensures.items)
+    c.in-Ok.ensures counted (c.if-is_ended.ensures order counts)
     ∙ ap (λ n. Err (n + 1)) (c.len.ensures ∙ sym c.len-else-is_ended.ensures)

@@ -6,12 +6,14 @@ pub returns-then-used-k : goal.returns-then-used-k
 returns-then-used-k c = λ order counts.
     let below : c.loop-k.k < length c.args.quotas.now = omega arith in
     let within : c.loop-k.k < length c.args.used.now = omega arith in
-    sym (rest_used-here c.args.quotas.now order c.loop-k.k below (has_used-not c.args.quotas.now order c.args.used.now c.loop-k.k counts within c.if-used-k.true))
+    sym (rest_used-here c.args.quotas.now order c.loop-k.k below
+    (has_used-not c.args.quotas.now order c.args.used.now c.loop-k.k counts within c.if-used-k.true))
     ∙ c.loop-k.invariant order counts
 
 pub loop-k-preserved : goal.loop-k-preserved
 loop-k-preserved c = λ order counts.
     let below : c.loop-k.k < length c.args.quotas.now = omega arith in
     let within : c.loop-k.k < length c.args.used.now = omega arith in
-    sym (rest_used-next c.args.quotas.now order c.loop-k.k below (has_used-so c.args.quotas.now order c.args.used.now c.loop-k.k counts within (omega (arith, c.if-used-k.false))))
+    sym (rest_used-next c.args.quotas.now order c.loop-k.k below
+    (has_used-so c.args.quotas.now order c.args.used.now c.loop-k.k counts within (omega (arith, c.if-used-k.false))))
     ∙ c.loop-k.invariant order counts

@@ -15,5 +15,6 @@ loop-k-preserved c =
       named_here c.args.quotas.now c.args.items.now c.loop-k.taken.order.items _ c.loop-k.k _ (omega arith) before.0 (c.in_ok-take_item.ensures.order good),
       c.in_ok-take_item.ensures.counts good,
       c.in_ok-take_item.ensures.length ∙ before.2,
-      passed_here c.args.quotas.now c.args.items.now c.loop-k.taken.order.items c.loop-k.k _ c.in_ok-take_item.field-0 (omega arith) before.0 before.3 c.in_ok-take_item.ensures.bad good,
+      passed_here c.args.quotas.now c.args.items.now c.loop-k.taken.order.items c.loop-k.k _ c.in_ok-take_item.field-0
+          (omega arith) before.0 before.3 c.in_ok-take_item.ensures.bad good,
     )

@@ -9,8 +9,16 @@ pub loop-attr-preserved : goal.loop-attr-preserved
 loop-attr-preserved c =
     let level = c.args.level in
     let attr = c.attr-item.result in
-    counted_one_more (attribute_row level) c.args.attrs.now c.loop-attr.attr-index attr c.loop-attr.bytes c.saturating_add-bytes.result c.loop-attr-test.true c.attr-item.is c.loop-attr.invariant
-    (omega (arith, attribute_row_length level attr, c.saturating_add-bytes.ensures, c.saturating_add.ensures, c.len.ensures, c.terminator_length-terminator.ensures))
+    counted_one_more (attribute_row level) c.args.attrs.now c.loop-attr.attr-index attr c.loop-attr.bytes c.saturating_add-bytes.result
+    c.loop-attr-test.true c.attr-item.is c.loop-attr.invariant
+    (omega (
+      arith,
+      attribute_row_length level attr,
+      c.saturating_add-bytes.ensures,
+      c.saturating_add.ensures,
+      c.len.ensures,
+      c.terminator_length-terminator.ensures,
+    ))
 
 pub returns : goal.returns
 returns c =

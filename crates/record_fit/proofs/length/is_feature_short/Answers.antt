@@ -6,6 +6,7 @@ use Rattle.record_fit.proofs.length.is_feature_short.Goals as goal
 pub returns : goal.returns
 returns c =
     c.is_within_limit.ensures
-    ∙ feature_is_short c.args.nall c.args.feature.now c.attributes_length.result c.attributes_length-2.result c.partners_length.result c.fixed_rows_length.result
+    ∙ feature_is_short c.args.nall c.args.feature.now c.attributes_length.result c.attributes_length-2.result c.partners_length.result
+    c.fixed_rows_length.result
     (cc) (cc) (cc)
     (c.fixed_rows_length.ensures ∙ ap (λ n. saturated (field_length (n * 8) 1)) c.len.ensures)

@@ -8,7 +8,8 @@ use Rattle.record_fit.proofs.length.partners_length.Goals as goal
 pub loop-partner-preserved : goal.loop-partner-preserved
 loop-partner-preserved c =
     let partner = c.partner-item.result in
-    counted_one_more partner_row c.args.partners.now c.loop-partner.partner-index partner c.loop-partner.bytes c.saturating_add-bytes.result c.loop-partner-test.true c.partner-item.is c.loop-partner.invariant
+    counted_one_more partner_row c.args.partners.now c.loop-partner.partner-index partner c.loop-partner.bytes c.saturating_add-bytes.result
+    c.loop-partner-test.true c.partner-item.is c.loop-partner.invariant
     (omega (arith, partner_row_length partner, c.saturating_add-bytes.ensures, c.saturating_add.ensures, c.len.ensures))
 
 pub returns : goal.returns

@@ -12,7 +12,8 @@ pub returns-then-not-is_attribute_plain : goal.returns-then-not-is_attribute_pla
 returns-then-not-is_attribute_plain c =
     let is_plain_attribute = λ (a : Attr). is_plain (level_text c.args.level a.value) in
     let bad = ap is_plain_attribute (sym c.attr-item.is) ∙ sym c.is_attribute_plain.ensures ∙ c.if-not-is_attribute_plain.true in
-    sym (attribute_texts_plain c.args.level c.args.attrs.now ∙ list_all_at is_plain_attribute c.args.attrs.now c.loop-attr.attr-index c.attr-item.result c.loop-attr-test.true bad)
+    sym (attribute_texts_plain c.args.level c.args.attrs.now
+    ∙ list_all_at is_plain_attribute c.args.attrs.now c.loop-attr.attr-index c.attr-item.result c.loop-attr-test.true bad)
 
 pub returns : goal.returns
 returns c =

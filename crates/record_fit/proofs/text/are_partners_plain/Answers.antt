@@ -11,7 +11,8 @@ pub returns-then-not-is_partner_plain : goal.returns-then-not-is_partner_plain
 returns-then-not-is_partner_plain c =
     let is_plain_partner = λ (p : Partner). is_plain (text_of p.comt) in
     let bad = ap is_plain_partner (sym c.partner-item.is) ∙ sym c.is_partner_plain.ensures ∙ c.if-not-is_partner_plain.true in
-    sym (partner_texts_plain c.args.partners.now ∙ list_all_at is_plain_partner c.args.partners.now c.loop-partner.partner-index c.partner-item.result c.loop-partner-test.true bad)
+    sym (partner_texts_plain c.args.partners.now ∙ list_all_at is_plain_partner c.args.partners.now c.loop-partner.partner-index
+    c.partner-item.result c.loop-partner-test.true bad)
 
 pub returns : goal.returns
 returns c =

@@ -23,8 +23,11 @@ returns c =
     let cell = c.args.cell.now in
     let listed = c.as_slice.ensures ∙ c.in_ok-keys.ensures
     ∙ ap (λ rs. ascending key_order (flat_map keys_answered_by rs)) (ap (map (λ (r : Bor Rec). r.now)) c.deref-3.ensures.value ∙ c.in_ok-records.ensures) in
-    let pointers = subst (λ rs. ArePointersOf rs c.in_ok-pointers.pointers) (ap (map (λ (r : Bor Rec). r.now)) c.deref.ensures.value ∙ c.in_ok-records.ensures) c.in_ok-pointers.ensures in
-    let bearers = subst (λ rs. AreBearersOf rs c.in_ok-bearers.bearers) (ap (map (λ (r : Bor Rec). r.now)) c.deref-2.ensures.value ∙ c.in_ok-records.ensures) c.in_ok-bearers.ensures in
+    let pointers = subst (λ rs. ArePointersOf rs c.in_ok-pointers.pointers) (ap (map (λ (r : Bor Rec). r.now)) c.deref.ensures.value
+    ∙ c.in_ok-records.ensures) c.in_ok-pointers.ensures in
+    let bearers = subst (λ rs. AreBearersOf rs c.in_ok-bearers.bearers) (ap (map (λ (r : Bor Rec). r.now)) c.deref-2.ensures.value
+    ∙ c.in_ok-records.ensures) c.in_ok-bearers.ensures in
     IfOk-weaker _ _ _
-    (λ (answers : Answers) put. all_answered cell c.as_slice.result.now c.in_ok-pointers.pointers c.in_ok-bearers.bearers answers.pointers answers.bearers listed pointers bearers put)
+    (λ (answers : Answers) put. all_answered cell c.as_slice.result.now c.in_ok-pointers.pointers c.in_ok-bearers.bearers
+    answers.pointers answers.bearers listed pointers bearers put)
     c.filled.ensures

@@ -25,10 +25,12 @@ loop-rest-preserved c =
 
 -- what the two returns give
 is_open : (c : After-drop-loops-inside) → OpenAt (c.loop-rest.done + 1) ≡ cut_of c.args.ends.now
-is_open c = open_at c.args.ends.now c.loop-rest.rest.now c.loop-rest.done (sym c.loop_length.ensures.value ∙ c.in_default.is) c.loop-rest.invariant.counted c.loop-rest.invariant.left (search rules)
+is_open c = open_at c.args.ends.now c.loop-rest.rest.now c.loop-rest.done (sym c.loop_length.ensures.value ∙ c.in_default.is)
+    c.loop-rest.invariant.counted c.loop-rest.invariant.left (search rules)
 
 is_whole : (c : After-loop-rest) → Whole c.loop-rest.loops ≡ cut_of c.args.ends.now
-is_whole c = whole_at c.args.ends.now c.loop-rest.rest.now c.loop-rest.loops c.loop-rest.done (search rules) c.loop-rest.invariant.placed c.loop-rest.invariant.counted c.loop-rest.invariant.left
+is_whole c = whole_at c.args.ends.now c.loop-rest.rest.now c.loop-rest.loops c.loop-rest.done
+    (search rules) c.loop-rest.invariant.placed c.loop-rest.invariant.counted c.loop-rest.invariant.left
 
 pub returns-in_default-clause-exact : goal.returns-in_default-clause-exact
 returns-in_default-clause-exact c = subst (IsOnlyCut c.args.ends.now) (sym (is_open c)) (c.computed_cut_is_only.ensures c.args.ends.now)

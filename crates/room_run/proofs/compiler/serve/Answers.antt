@@ -14,8 +14,10 @@ returns-in-Ok-clause-over g c =
     let script = c.loop-served.invariant.script in
     let count : count_by is_shared old.script ≡ count_by is_shared c.args.session.now.script = ap (count_by is_shared) script in
     let all : count_by is_shared old.done ≡ count_by is_shared old.script =
-    (let done = c.loop-served.invariant.done in let end = c.loop-served-test.false in let most = c.shared-served-end.ensures in let stays = c.loop-served.auto.served-end in omega (arith, done, end, most, stays, count)) in
-    let stays = subst (λ b. StaysServed b desk.cell old new) c.base.ensures (subst (λ x. StaysServed c.base.result x old new) c.bench.ensures c.in-Ok.ensures.served) in
+    (let done = c.loop-served.invariant.done in let end = c.loop-served-test.false in let most = c.shared-served-end.ensures in
+    let stays = c.loop-served.auto.served-end in omega (arith, done, end, most, stays, count)) in
+    let stays = subst (λ b. StaysServed b desk.cell old new) c.base.ensures
+    (subst (λ x. StaysServed c.base.result x old new) c.bench.ensures c.in-Ok.ensures.served) in
     let ended = is_done desk desk.cell old new c.in-Ok.field-0 stays c.stands.ensures a c.in-Ok.ensures.script all c.in-Ok.ensures.next in
     record {
       end = (ended.0, ended.1 ∙ script);
@@ -28,5 +30,6 @@ returns-in-Err-advance-clause-over g c =
     let old = c.loop-served.session in
     let count : count_by is_shared old.script ≡ count_by is_shared c.args.session.now.script = ap (count_by is_shared) c.loop-served.invariant.script in
     let all : count_by is_shared old.done ≡ count_by is_shared old.script =
-    (let done = c.loop-served.invariant.done in let end = c.loop-served-test.false in let most = c.shared-served-end.ensures in let stays = c.loop-served.auto.served-end in omega (arith, done, end, most, stays, count)) in
+    (let done = c.loop-served.invariant.done in let end = c.loop-served-test.false in let most = c.shared-served-end.ensures in
+    let stays = c.loop-served.auto.served-end in omega (arith, done, end, most, stays, count)) in
     record { end = tt; few = subst (λ (n : ℕ). HasAtMost n desk) (all ∙ count) (has_called desk old c.loop-served.invariant.at_desk) }

@@ -8,9 +8,12 @@ use Rattle.room_run.proofs.gather.transcripts_of.Goals as goal
 pub loop-outcome-preserved : goal.loop-outcome-preserved
 loop-outcome-preserved c =
     subst (λ (texts : List (List ℕ)). DoneWith (c.loop-outcome.yielded ++ c.in-Some-outcome.outcome ∷ []) texts) (sym c.in_ok-keep_lines-in-Done.ensures)
-    (done_more c.loop-outcome.yielded c.loop-outcome.transcripts.items c.in-Some-outcome.outcome c.in-Some-outcome.outcome.session.lines c.loop-outcome.invariant c.in-Done.is refl)
+    (done_more c.loop-outcome.yielded c.loop-outcome.transcripts.items c.in-Some-outcome.outcome c.in-Some-outcome.outcome.session.lines
+    c.loop-outcome.invariant c.in-Done.is refl)
 
 pub returns-in-Stuck-clause-end : goal.returns-in-Stuck-clause-end
 returns-in-Stuck-clause-end c =
-    let turn = YieldsList-turn (YieldsList-from_vec c.args.outcomes.items (search rules) (search rules)) c.loop-outcome.yielded c.loop-outcome.outcome-iterator c.loop-outcome.yielded_by c.next.result c.next.new.self c.in-Some-outcome.outcome c.in-Some-outcome.is c.next.ensures.steps in
+    let turn = YieldsList-turn (YieldsList-from_vec c.args.outcomes.items (search rules) (search rules)) c.loop-outcome.yielded
+    c.loop-outcome.outcome-iterator c.loop-outcome.yielded_by c.next.result c.next.new.self c.in-Some-outcome.outcome
+    c.in-Some-outcome.is c.next.ensures.steps in
     one_of c.args.outcomes.items (length c.loop-outcome.yielded) c.in-Some-outcome.outcome c.in-Stuck.stuck turn.0 turn.1 c.in-Stuck.is

@@ -6,23 +6,30 @@ use Rattle.room_run.proofs.run.run_sessions.Goals as goal
 
 pub transcripts_of-requires : goal.transcripts_of-requires
 transcripts_of-requires g c =
-    none_full (g.M.Meet.sticks c.args.meet.now) c.open_all.new.room c.args.room.room c.args.scripts.items c.in_ok-compilers.compilers.items c.run_all.new.compilers.items c.in_ok-book.book c.in_ok-book.outcomes.items
-    c.in_ok-compilers.ensures.opened c.run_all.ensures.len c.run_all.ensures.run c.in_ok-book.ensures (ap (λ (r : RoomState). r.desks) c.in_ok-compilers.ensures.room) c.requires.short c.requires.few
+    none_full (g.M.Meet.sticks c.args.meet.now) c.open_all.new.room c.args.room.room c.args.scripts.items c.in_ok-compilers.compilers.items
+    c.run_all.new.compilers.items c.in_ok-book.book c.in_ok-book.outcomes.items
+    c.in_ok-compilers.ensures.opened c.run_all.ensures.len c.run_all.ensures.run c.in_ok-book.ensures
+    (ap (λ (r : RoomState). r.desks) c.in_ok-compilers.ensures.room) c.requires.short c.requires.few
 
 pub returns-in-Err-clause-end : goal.returns-in-Err-clause-end
 returns-in-Err-clause-end g c =
     let ks = c.in_ok-compilers.compilers.items in
     let new = c.run_all.new.compilers.items in
-    let some : 1 ≤ length new = (let a = c.requires.some in let b = c.run_all.ensures.len in let d = opened_length c.args.room.room c.args.scripts.items ks c.in_ok-compilers.ensures.opened in omega (arith, a, b, d)) in
+    let some : 1 ≤ length new = (let a = c.requires.some in let b = c.run_all.ensures.len in let d =
+    opened_length c.args.room.room c.args.scripts.items ks c.in_ok-compilers.ensures.opened in omega (arith, a, b, d)) in
     run_end (g.M.Meet.sticks c.args.meet.now) c.open_all.new.room c.args.room.room c.args.scripts.items ks new c.in_ok-book.book c.in_ok-book.outcomes.items
-    c.in_ok-compilers.ensures.opened c.run_all.ensures.len c.run_all.ensures.run c.in_ok-book.ensures (ap (λ (r : RoomState). r.desks) c.in_ok-compilers.ensures.room) c.requires.short c.requires.few
+    c.in_ok-compilers.ensures.opened c.run_all.ensures.len c.run_all.ensures.run c.in_ok-book.ensures
+    (ap (λ (r : RoomState). r.desks) c.in_ok-compilers.ensures.room) c.requires.short c.requires.few
     (first_of new some) c.in-Err.end c.in-Err.ensures.end
 
 pub returns-clause-held : goal.returns-clause-held
 returns-clause-held g c =
     let ks = c.in_ok-compilers.compilers.items in
     let new = c.run_all.new.compilers.items in
-    let some : 1 ≤ length new = (let a = c.requires.some in let b = c.run_all.ensures.len in let d = opened_length c.args.room.room c.args.scripts.items ks c.in_ok-compilers.ensures.opened in omega (arith, a, b, d)) in
+    let some : 1 ≤ length new = (let a = c.requires.some in let b = c.run_all.ensures.len in let d =
+    opened_length c.args.room.room c.args.scripts.items ks c.in_ok-compilers.ensures.opened in omega (arith, a, b, d)) in
     all_held (g.M.Meet.sticks c.args.meet.now) c.open_all.new.room c.args.room.room c.args.scripts.items ks new c.in_ok-book.book c.in_ok-book.outcomes.items
-    c.in_ok-compilers.ensures.opened c.run_all.ensures.len c.run_all.ensures.run c.in_ok-book.ensures (ap (λ (r : RoomState). r.desks) c.in_ok-compilers.ensures.room) c.requires.short c.requires.few
-    c.in-Ok.transcripts.items c.in-Ok.ensures.done (first_of new some) _ refl refl (c.in_ok-book.ensures.opening ∙ ap (λ (r : RoomState). r.room.opening) c.in_ok-compilers.ensures.room)
+    c.in_ok-compilers.ensures.opened c.run_all.ensures.len c.run_all.ensures.run c.in_ok-book.ensures
+    (ap (λ (r : RoomState). r.desks) c.in_ok-compilers.ensures.room) c.requires.short c.requires.few
+    c.in-Ok.transcripts.items c.in-Ok.ensures.done (first_of new some) _ refl refl
+    (c.in_ok-book.ensures.opening ∙ ap (λ (r : RoomState). r.room.opening) c.in_ok-compilers.ensures.room)

@@ -34,7 +34,8 @@ unfolding apply_edits touched_keys read_set affected_list candidates_of segments
 returns-clause-members c = (refl, refl, refl, refl, refl, refl)
 
 pub returns-clause-head : goal.returns-clause-head
-unfolding apply_edits touched_keys read_set affected_list candidates_of segments_named edge_line_of subjects findings_of_subject uses_of meeting_of lies_on boundary_of has_usable_boundary digits
+unfolding apply_edits touched_keys read_set affected_list candidates_of segments_named edge_line_of subjects findings_of_subject
+    uses_of meeting_of lies_on boundary_of has_usable_boundary digits
 returns-clause-head c = (refl, refl, refl, refl, refl, IsPermutation-refl _)
 
 pub returns-clause-rows : goal.returns-clause-rows

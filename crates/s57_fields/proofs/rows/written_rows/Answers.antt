@@ -12,10 +12,13 @@ loop-place-preserved g c = let r = g.R.FieldRow in let forms = r.forms c.args.le
     let placed : l.place < length body / n = omega (arith, test, counted) in
     let room = chunk_room n l.place body c.requires.size.0 placed in
     let at = c.index-chunks-place in
-    let chunk : at.result ≡ take n (drop (l.place * n) body) = at.is ∙ ap (λ chunks. get_or chunks l.place at.result) c.requires.chunks ∙ get_chunk n l.place (length body / n) body at.result placed in
+    let chunk : at.result ≡ take n (drop (l.place * n) body) = at.is ∙ ap (λ chunks. get_or chunks l.place at.result) c.requires.chunks
+    ∙ get_chunk n l.place (length body / n) body at.result placed in
     let filled = rw c.in-Some.is at c.in_ok-row.ensures in
     let taken = chunk_row forms r.good r.value n l.place body c.in-Some.row c.in-Some.is_plain (ap (take_row forms r.good r.value) (sym chunk) ∙ filled) in
     record {
-      walk = writes_on forms r.good r.value l.rows.items l.place l.all_plain (rows_from forms r.good r.value (length body) body) (length body) (drop (l.place * n) body) c.in-Some.row c.in-Some.is_plain (drop ((l.place + 1) * n) body) (omega (arith, placed, count)) room.0 room.1 taken l.invariant.walk;
+      walk = writes_on forms r.good r.value l.rows.items l.place l.all_plain (rows_from forms r.good r.value (length body) body)
+          (length body) (drop (l.place * n) body) c.in-Some.row c.in-Some.is_plain (drop ((l.place + 1) * n) body)
+          (omega (arith, placed, count)) room.0 room.1 taken l.invariant.walk;
       count = length-set l.rows.items l.place c.in-Some.row ∙ count;
     }

@@ -19,12 +19,17 @@ returns-clause-found c = λ feature width spelled.
     let text : c.args.words.now ≡ 32 ∷ (kind_word feature.name.kind ++ id) = spelled in
     let one = c.next_part.ensures.part 32 (kind_word feature.name.kind) id (free_kind 32 feature.name.kind (omega arith)).free refl text in
     let two = c.next_part-2.ensures.part 32 (decimal feature.name.id) rver (free_number 32 feature.name.id (omega arith) width.name).free refl one.1 in
-    let three = c.next_part-3.ensures.part 32 (decimal feature.rver) prim (free_number 32 feature.rver (omega arith) (omega (arith, width.rver))).free refl two.1 in
-    let four = c.next_part-4.ensures.part 32 (decimal feature.prim) grup (free_number 32 feature.prim (omega arith) (omega (arith, width.prim))).free refl three.1 in
-    let five = c.next_part-5.ensures.part 32 (decimal feature.grup) objl (free_number 32 feature.grup (omega arith) (omega (arith, width.grup))).free refl four.1 in
-    let six = c.next_part-6.ensures.part 32 (decimal feature.objl) foid (free_number 32 feature.objl (omega arith) (omega (arith, width.objl))).free refl five.1 in
+    let three = c.next_part-3.ensures.part 32 (decimal feature.rver) prim
+    (free_number 32 feature.rver (omega arith) (omega (arith, width.rver))).free refl two.1 in
+    let four = c.next_part-4.ensures.part 32 (decimal feature.prim) grup
+    (free_number 32 feature.prim (omega arith) (omega (arith, width.prim))).free refl three.1 in
+    let five = c.next_part-5.ensures.part 32 (decimal feature.grup) objl
+    (free_number 32 feature.grup (omega arith) (omega (arith, width.grup))).free refl four.1 in
+    let six = c.next_part-6.ensures.part 32 (decimal feature.objl) foid
+    (free_number 32 feature.objl (omega arith) (omega (arith, width.objl))).free refl five.1 in
     let identity = c.identity_of_words.ensures.found feature.foid items width.foid (from_parts 32 (feature_items feature)) six.1 in
     let lists = feature_items_are feature _ _ width c.in_ok-items.ensures identity.1 in
     same_feature _ _ _ _ _ _ _ _ _ _ feature (c.name_of.ensures feature.name width.name one.0 two.0) (c.byte_of.ensures feature.prim width.prim four.0)
-    (c.byte_of-2.ensures feature.grup width.grup five.0) (c.short_of.ensures feature.objl width.objl six.0) (c.short_of-2.ensures feature.rver width.rver three.0)
+    (c.byte_of-2.ensures feature.grup width.grup five.0) (c.short_of.ensures feature.objl width.objl six.0)
+    (c.short_of-2.ensures feature.rver width.rver three.0)
     identity.0 lists.attf lists.natf lists.partners lists.places

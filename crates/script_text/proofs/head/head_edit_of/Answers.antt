@@ -9,7 +9,8 @@ use Rattle.script_text.proofs.head.head_edit_of.Goals as goal
 
 pub returns-clause-width : goal.returns-clause-width
 returns-clause-width c =
-    let edit = head_edit_with c.in_ok-text_of.field-0 c.in_ok-text_of-2.field-0 c.in_ok-date_of.field-0 c.in_ok-date_of-2.field-0 c.level_of.result c.in_ok-text_of-3.field-0 in
+    let edit = head_edit_with c.in_ok-text_of.field-0 c.in_ok-text_of-2.field-0 c.in_ok-date_of.field-0 c.in_ok-date_of-2.field-0
+    c.level_of.result c.in_ok-text_of-3.field-0 in
     width_of_texts edit (record {
       edtn = c.in_ok-text_of.ensures.width;
       updn = c.in_ok-text_of-2.ensures.width;

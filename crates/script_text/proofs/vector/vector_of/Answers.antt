@@ -15,7 +15,8 @@ returns-clause-found c = λ vector width spelled.
     let text : c.args.words.now ≡ 32 ∷ (kind_word vector.name.kind ++ id) = spelled in
     let one = c.next_part.ensures.part 32 (kind_word vector.name.kind) id (free_kind 32 vector.name.kind (omega arith)).free refl text in
     let two = c.next_part-2.ensures.part 32 (decimal vector.name.id) rver (free_number 32 vector.name.id (omega arith) width.name).free refl one.1 in
-    let three = c.next_part-3.ensures.part 32 (decimal vector.rver) items (free_number 32 vector.rver (omega arith) (omega (arith, width.rver))).free (from_parts 32 (vector_items vector)) two.1 in
+    let three = c.next_part-3.ensures.part 32 (decimal vector.rver) items
+    (free_number 32 vector.rver (omega arith) (omega (arith, width.rver))).free (from_parts 32 (vector_items vector)) two.1 in
     let lists = vector_items_are vector _ _ width c.in_ok-items.ensures three.1 in
     same_vector _ _ _ _ _ _ vector (c.name_of.ensures vector.name width.name one.0 two.0) (c.short_of.ensures vector.rver width.rver three.0)
     lists.attrs lists.ends lists.plane lists.deep

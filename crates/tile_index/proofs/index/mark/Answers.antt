@@ -29,7 +29,8 @@ returns-then-is c =
 pub returns-else-is : goal.returns-else-is
 returns-else-is c =
     let rows = c.args.oversized.now in
-    let both = subst (λ (order : RecName → RecName → Ordering). OnOk c.take.result (c.take.new.self ≡ without_key order rows c.args.name) × IsAscending order rows)
+    let both = subst (λ (order : RecName → RecName → Ordering). OnOk c.take.result (c.take.new.self ≡ without_key order rows c.args.name)
+    × IsAscending order rows)
     (λ i a b. c.orders_are_by_parts.ensures.names a b i) (c.take.ensures.ok, c.len-count.ensures.ascending) in
     on_ok_weaker c.take.result (λ took n.
     ap (λ those. is_some (value_of name_order those n)) took

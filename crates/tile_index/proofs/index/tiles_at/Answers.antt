@@ -13,4 +13,5 @@ returns-in-Some c =
     let has = subst (λ (order : RecName → RecName → Ordering). Some own ≡ value_of order c.args.kept.now c.args.name)
     (λ i a b. c.orders_are_by_parts.ensures.names a b i) c.in-Some.ensures in
     IfOk-weaker c.tiles.result _ _ (λ tiles is t.
-    is t ∙ ap (λ (covering : Covering). covers covering t) c.deref.ensures ∙ ap (λ o. option_map_or (λ covering. covers covering t) o false) has) c.tiles.ensures.tiles
+    is t ∙ ap (λ (covering : Covering). covers covering t) c.deref.ensures ∙ ap (λ o. option_map_or (λ covering. covers covering t) o false) has)
+    c.tiles.ensures.tiles

@@ -12,6 +12,8 @@ seconds-name-items-requires c = λ n. ap is_lt (c.orders_are_by_parts.ensures.na
 
 pub loop-name-init : goal.loop-name-init
 loop-name-init c = λ n.
-    let among = subst (λ (order : RecName → RecName → Ordering). is_among order c.seconds-name-items.result n ≡ has_pair tile_order order c.args.in_tiles.now c.args.tile n)
+    let among = subst (λ (order : RecName → RecName → Ordering). is_among order c.seconds-name-items.result n ≡
+    has_pair tile_order order c.args.in_tiles.now c.args.tile n)
     (λ i a b. c.orders_are_by_parts.ensures.names a b i) (c.seconds-name-items.ensures.among n) in
-    ap (λ b. is_among name_order c.args.names.now.items n || b) (ap (λ those. is_among name_order those n) c.into_iter-name-iterator.ensures.into_iter_gives ∙ among)
+    ap (λ b. is_among name_order c.args.names.now.items n || b)
+    (ap (λ those. is_among name_order those n) c.into_iter-name-iterator.ensures.into_iter_gives ∙ among)

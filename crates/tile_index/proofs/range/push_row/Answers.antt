@@ -38,5 +38,6 @@ returns c =
     let before = λ (t : Tile). is_among tile_order c.loop-column.tiles.items t in
     on_ok_weaker c.push_tile-2.result (λ is t.
     last_column c.args.from t.1 (is_eq (int_cmp t.0 c.args.row)) (all t) c.args.to (before t) _ (grind (arith, ints, to_z-of_z))
-    (c.loop-column.invariant.tiles t ∙ (λ i. all t || (is_eq (int_cmp t.0 (row i)) && (int_le (first i) t.1 && int_lt t.1 (last i))))) (is t ∙ (λ i. before t || (is_eq (int_cmp t.0 (row i)) && is_eq (int_cmp t.1 (end i))))))
+    (c.loop-column.invariant.tiles t ∙ (λ i. all t || (is_eq (int_cmp t.0 (row i)) && (int_le (first i) t.1 && int_lt t.1 (last i)))))
+    (is t ∙ (λ i. before t || (is_eq (int_cmp t.0 (row i)) && is_eq (int_cmp t.1 (end i))))))
     c.push_tile-2.ensures

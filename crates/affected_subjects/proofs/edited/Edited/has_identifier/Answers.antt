@@ -12,7 +12,8 @@ returns-in-Some c =
     let known : Bool = c.in-Some.known.now in
     let has = subst (λ (order : Lnam → Lnam → Ordering). Some known ≡ value_of order c.self.inside.borne c.args.foid)
     (λ i a b. c.orders_are_by_parts.ensures.identities a b i) c.in-Some.ensures in
-    noted c.self.inside.store.now c.self.inside.edits.now.edits c.self.inside.map.now c.self.inside.borne c.self.invariant c.args.foid c.edited_answers.ensures known has
+    noted c.self.inside.store.now c.self.inside.edits.now.edits c.self.inside.map.now c.self.inside.borne c.self.invariant
+    c.args.foid c.edited_answers.ensures known has
     ∙ ap (λ cell. is_subject cell (Ident c.args.foid)) c.self.view_is
 
 pub returns-in-None : goal.returns-in-None
@@ -21,5 +22,6 @@ returns-in-None c =
     let has = subst (λ (order : Lnam → Lnam → Ordering). none ≡ value_of order c.self.inside.borne c.args.foid)
     (λ i a b. c.orders_are_by_parts.ensures.identities a b i) c.in-None.ensures in
     c.has_row.ensures
-    ∙ kept_ident c.self.inside.store.now c.self.inside.edits.now.edits c.self.inside.map.now c.self.inside.borne c.self.invariant c.args.foid c.untouched_keys_keep_answers.ensures has
+    ∙ kept_ident c.self.inside.store.now c.self.inside.edits.now.edits c.self.inside.map.now c.self.inside.borne c.self.invariant
+    c.args.foid c.untouched_keys_keep_answers.ensures has
     ∙ ap (λ cell. is_subject cell (Ident c.args.foid)) c.self.view_is

@@ -9,5 +9,6 @@ pub returns : goal.returns
 returns c =
     c.is_listed_after.ensures
     ∙ (λ i. is_listed_after (c.has_row.ensures i) (c.find.ensures i))
-    ∙ record_is c.self.inside.store.now c.self.inside.edits.now.edits c.self.inside.map.now c.self.inside.borne c.self.invariant c.edits_leave_their_records.ensures c.args.name
+    ∙ record_is c.self.inside.store.now c.self.inside.edits.now.edits c.self.inside.map.now c.self.inside.borne c.self.invariant
+    c.edits_leave_their_records.ensures c.args.name
     ∙ ap (λ cell. is_subject cell (Rec c.args.name)) c.self.view_is

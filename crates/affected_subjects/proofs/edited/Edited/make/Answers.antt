@@ -10,7 +10,8 @@ invariant_of-result g c =
     let guards = c.args.edits.now.guards in
     let formed = subst (λ nall. IsFormed nall edits guards) c.requires.level c.known.ensures.parts in
     record {
-      found = c.formed_edits_find_their_records.ensures store edits guards (c.writable_cells_are_readable.ensures store c.known-2.ensures) formed c.requires.found;
+      found = c.formed_edits_find_their_records.ensures store edits guards (c.writable_cells_are_readable.ensures store c.known-2.ensures)
+          formed c.requires.found;
       reads = c.requires.reads;
       bearers =
           subst (λ keys. KnowsBearers keys edits store c.in_ok-borne.borne) c.requires.touched

@@ -19,12 +19,15 @@ returns-in_ok-make-in-Refs-clause-merged g c =
     let edits = c.args.edits.now.edits in
     let base = g.B.Look.cell c.args.base.now in
     let value = c.in_ok-make-in-Refs.ensures ∙ c.in_ok-refs-in-Refs.ensures ∙ ap (pointers_after edits n) c.refs.ensures.found in
-    let put = subst (λ (order : RecName → RecName → Ordering). OnOk c.put.result (c.put.new.self ≡ with_row order c.args.self.now.pointers n c.in_ok-make-in-Refs.field-0))
+    let put = subst (λ (order : RecName → RecName → Ordering). OnOk c.put.result
+    (c.put.new.self ≡ with_row order c.args.self.now.pointers n c.in_ok-make-in-Refs.field-0))
     (λ i a b. c.orders_are_by_parts.ensures.names a b i) c.put.ensures.ok in
     on_ok_weaker c.put.result
     (λ is keys merged.
-    subst (λ rows. AreMerged (keys ++ c.args.key ∷ []) edits base rows c.args.self.now.bearers) (sym (is ∙ ap (with_row name_order c.args.self.now.pointers n) value))
-    (subst (λ key. AreMerged (keys ++ key ∷ []) edits base (with_row name_order c.args.self.now.pointers n (pointers_after edits n (lookup_pointers base n))) c.args.self.now.bearers) (sym c.in-Refs.is)
+    subst (λ rows. AreMerged (keys ++ c.args.key ∷ []) edits base rows c.args.self.now.bearers)
+    (sym (is ∙ ap (with_row name_order c.args.self.now.pointers n) value))
+    (subst (λ key. AreMerged (keys ++ key ∷ []) edits base (with_row name_order c.args.self.now.pointers n
+    (pointers_after edits n (lookup_pointers base n))) c.args.self.now.bearers) (sym c.in-Refs.is)
     (with_pointers edits base keys c.args.self.now.pointers c.args.self.now.bearers merged n)))
     put
 
@@ -34,11 +37,14 @@ returns-in_ok-make-in-Foid-clause-merged g c =
     let edits = c.args.edits.now.edits in
     let base = g.B.Look.cell c.args.base.now in
     let value = c.in_ok-make-in-Foid.ensures ∙ c.in_ok-names-in-Foid.ensures ∙ ap (bearers_after edits l) c.bearers.ensures.found in
-    let put = subst (λ (order : Lnam → Lnam → Ordering). OnOk c.put-in-Foid.result (c.put-in-Foid.new.self ≡ with_row order c.args.self.now.bearers l c.in_ok-make-in-Foid.field-0))
+    let put = subst (λ (order : Lnam → Lnam → Ordering). OnOk c.put-in-Foid.result
+    (c.put-in-Foid.new.self ≡ with_row order c.args.self.now.bearers l c.in_ok-make-in-Foid.field-0))
     (λ i a b. c.orders_are_by_parts.ensures.identities a b i) c.put-in-Foid.ensures.ok in
     on_ok_weaker c.put-in-Foid.result
     (λ is keys merged.
-    subst (λ rows. AreMerged (keys ++ c.args.key ∷ []) edits base c.args.self.now.pointers rows) (sym (is ∙ ap (with_row identity_order c.args.self.now.bearers l) value))
-    (subst (λ key. AreMerged (keys ++ key ∷ []) edits base c.args.self.now.pointers (with_row identity_order c.args.self.now.bearers l (bearers_after edits l (lookup_identity base l)))) (sym c.in-Foid.is)
+    subst (λ rows. AreMerged (keys ++ c.args.key ∷ []) edits base c.args.self.now.pointers rows)
+    (sym (is ∙ ap (with_row identity_order c.args.self.now.bearers l) value))
+    (subst (λ key. AreMerged (keys ++ key ∷ []) edits base c.args.self.now.pointers
+    (with_row identity_order c.args.self.now.bearers l (bearers_after edits l (lookup_identity base l)))) (sym c.in-Foid.is)
     (with_bearers edits base keys c.args.self.now.pointers c.args.self.now.bearers merged l)))
     put

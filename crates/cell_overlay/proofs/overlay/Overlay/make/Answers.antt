@@ -56,6 +56,8 @@ invariant_of-result g c =
       found = c.formed_edits_find_their_records.ensures base edits guards c.known-2.ensures formed c.requires.found;
       head_is = c.in_ok-head.ensures.head;
       merged =
-          subst (λ keys. AreMerged keys edits base c.in_ok-merged.merged.pointers c.in_ok-merged.merged.bearers) (c.as_slice.ensures ∙ c.in_ok-keys.ensures.keys)
-          (subst (λ set. AreMerged c.as_slice.result.now set.edits base c.in_ok-merged.merged.pointers c.in_ok-merged.merged.bearers) c.in_ok-answers.ensures c.in_ok-merged.ensures.merged);
+          subst (λ keys. AreMerged keys edits base c.in_ok-merged.merged.pointers c.in_ok-merged.merged.bearers)
+          (c.as_slice.ensures ∙ c.in_ok-keys.ensures.keys)
+          (subst (λ set. AreMerged c.as_slice.result.now set.edits base c.in_ok-merged.merged.pointers c.in_ok-merged.merged.bearers)
+          c.in_ok-answers.ensures c.in_ok-merged.ensures.merged);
     }

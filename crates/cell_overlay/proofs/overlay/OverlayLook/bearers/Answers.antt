@@ -13,7 +13,8 @@ returns-in-Some-clause-found g c =
     let has = subst (λ (order : Lnam → Lnam → Ordering). Some names ≡ value_of order c.self.inside.merged.bearers c.args.foid)
     (λ i a b. c.orders_are_by_parts.ensures.identities a b i) c.in-Some.ensures in
     c.as_slice.ensures ∙ c.deref.ensures
-    ∙ merged_bearers (g.B.Look.cell c.self.inside.base.now) c.self.inside.edits.now.edits c.self.inside.head c.self.inside.merged.pointers c.self.inside.merged.bearers
+    ∙ merged_bearers (g.B.Look.cell c.self.inside.base.now) c.self.inside.edits.now.edits c.self.inside.head c.self.inside.merged.pointers
+    c.self.inside.merged.bearers
     c.self.invariant c.edited_answers.ensures c.args.foid names has
     ∙ ap (λ cell. lookup_identity cell c.args.foid) c.self.view_is
 
@@ -23,6 +24,7 @@ returns-in-None-clause-found g c =
     let has = subst (λ (order : Lnam → Lnam → Ordering). none ≡ value_of order c.self.inside.merged.bearers c.args.foid)
     (λ i a b. c.orders_are_by_parts.ensures.identities a b i) c.in-None.ensures in
     c.bearers.ensures.found
-    ∙ base_bearers (g.B.Look.cell c.self.inside.base.now) c.self.inside.edits.now.edits c.self.inside.head c.self.inside.merged.pointers c.self.inside.merged.bearers
+    ∙ base_bearers (g.B.Look.cell c.self.inside.base.now) c.self.inside.edits.now.edits c.self.inside.head c.self.inside.merged.pointers
+    c.self.inside.merged.bearers
     c.self.invariant c.untouched_keys_keep_answers.ensures c.args.foid has
     ∙ ap (λ cell. lookup_identity cell c.args.foid) c.self.view_is

@@ -13,7 +13,8 @@ returns-in-Some-clause-found g c =
     let has = subst (λ (order : RecName → RecName → Ordering). Some refs ≡ value_of order c.self.inside.merged.pointers c.args.name)
     (λ i a b. c.orders_are_by_parts.ensures.names a b i) c.in-Some.ensures in
     c.as_slice.ensures ∙ c.deref.ensures
-    ∙ merged_pointers (g.B.Look.cell c.self.inside.base.now) c.self.inside.edits.now.edits c.self.inside.head c.self.inside.merged.pointers c.self.inside.merged.bearers
+    ∙ merged_pointers (g.B.Look.cell c.self.inside.base.now) c.self.inside.edits.now.edits c.self.inside.head c.self.inside.merged.pointers
+    c.self.inside.merged.bearers
     c.self.invariant c.edited_answers.ensures c.args.name refs has
     ∙ ap (λ cell. lookup_pointers cell c.args.name) c.self.view_is
 
@@ -23,6 +24,7 @@ returns-in-None-clause-found g c =
     let has = subst (λ (order : RecName → RecName → Ordering). none ≡ value_of order c.self.inside.merged.pointers c.args.name)
     (λ i a b. c.orders_are_by_parts.ensures.names a b i) c.in-None.ensures in
     c.refs.ensures.found
-    ∙ base_pointers (g.B.Look.cell c.self.inside.base.now) c.self.inside.edits.now.edits c.self.inside.head c.self.inside.merged.pointers c.self.inside.merged.bearers
+    ∙ base_pointers (g.B.Look.cell c.self.inside.base.now) c.self.inside.edits.now.edits c.self.inside.head c.self.inside.merged.pointers
+    c.self.inside.merged.bearers
     c.self.invariant c.untouched_keys_keep_answers.ensures c.args.name has
     ∙ ap (λ cell. lookup_pointers cell c.args.name) c.self.view_is

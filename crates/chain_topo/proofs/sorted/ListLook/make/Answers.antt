@@ -27,7 +27,8 @@ group_pointers-requires c =
 answers : (c : Cell) (held moved : List (Bor Rec)) (pointers : List (RecName × Ref)) (identities : List (Lnam × RecName)) → IsReadable c
     → map (λ (r : Bor Rec). r.now) held ≡ all_records c → IsPermutation held moved → IsSortedByKey (λ (r : Bor Rec). name_of r.now) name_order moved
     → ((n : RecName) → values_at name_order pointers n ≡ ascending ref_order (flat_map (pointers_in n) (map (λ (r : Bor Rec). r.now) held)))
-    → ((l : Lnam) → values_at (order_by identity_parts) identities l ≡ ascending name_order (map name_of (filter (bears l) (map (λ (r : Bor Rec). r.now) held))))
+    → ((l : Lnam) → values_at (order_by identity_parts) identities l ≡ ascending name_order
+    (map name_of (filter (bears l) (map (λ (r : Bor Rec). r.now) held))))
     → Answers c moved pointers identities
 answers c held moved pointers identities readable all same rises refs bearers =
     let same_records : IsPermutation (all_records c) (map (λ (r : Bor Rec). r.now) moved) =

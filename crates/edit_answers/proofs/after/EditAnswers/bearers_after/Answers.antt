@@ -22,6 +22,7 @@ returns c =
     let values = subst (λ (order : Lnam → Lnam → Ordering). c.values_of.result.now ≡ values_at order c.self.inside.bearers c.args.foid)
     (λ i a b. c.orders_are_by_parts.ensures.identities a b i) c.values_of.ensures in
     let first = c.in_ok-list.ensures ∙ ap (λ (those : List Edit). filter (is_unedited those) c.args.before.now) (ap (λ v. v.edits) (sym c.self.view_is)) in
-    let all : c.extend_from_slice.new.self.items ≡ kept ++ ascending name_order left = c.in_ok-extend_from_slice.ensures.items ∙ (λ i. first i ++ (values ∙ c.self.invariant.bearers_are c.args.foid) i) in
+    let all : c.extend_from_slice.new.self.items ≡ kept ++ ascending name_order left =
+    c.in_ok-extend_from_slice.ensures.items ∙ (λ i. first i ++ (values ∙ c.self.invariant.bearers_are c.args.foid) i) in
     c.ascending_names.ensures ∙ ap (ascending name_order) all ∙ ascending_again name_order total_names exact_names kept left
     ∙ ap (λ v. bearers_after v.edits c.args.foid c.args.before.now) c.self.view_is

@@ -17,6 +17,8 @@ pub invariant_of-result : goal.invariant_of-result
 invariant_of-result c =
     let left = c.in_ok-records.ensures ∙ ap (filter_map left_by) c.edits.ensures in
     record {
-      pointers_are = subst (λ rs. ArePointersOf rs c.in_ok-pointers.pointers) (ap (map (λ (r : Bor Rec). r.now)) c.deref.ensures.value ∙ left) c.in_ok-pointers.ensures;
-      bearers_are = subst (λ rs. AreBearersOf rs c.in_ok-bearers.bearers) (ap (map (λ (r : Bor Rec). r.now)) c.deref-2.ensures.value ∙ left) c.in_ok-bearers.ensures;
+      pointers_are = subst (λ rs. ArePointersOf rs c.in_ok-pointers.pointers) (ap (map (λ (r : Bor Rec). r.now)) c.deref.ensures.value
+          ∙ left) c.in_ok-pointers.ensures;
+      bearers_are = subst (λ rs. AreBearersOf rs c.in_ok-bearers.bearers) (ap (map (λ (r : Bor Rec). r.now)) c.deref-2.ensures.value
+          ∙ left) c.in_ok-bearers.ensures;
     }

@@ -24,8 +24,10 @@ returns c =
     let left : List Ref = flat_map (pointers_in c.args.name) (filter_map left_by edits) in
     let values = subst (λ (order : RecName → RecName → Ordering). c.values_of.result.now ≡ values_at order c.self.inside.pointers c.args.name)
     (λ i a b. c.orders_are_by_parts.ensures.names a b i) c.values_of.ensures in
-    let first = c.in_ok-list.ensures ∙ ap (λ (those : List Edit). filter (λ (r : Ref). is_unedited those r.from) c.args.before.now) (ap (λ v. v.edits) (sym c.self.view_is)) in
-    let all : c.extend_from_slice.new.self.items ≡ kept ++ ascending ref_order left = c.in_ok-extend_from_slice.ensures.items ∙ (λ i. first i ++ (values ∙ c.self.invariant.pointers_are c.args.name) i) in
+    let first = c.in_ok-list.ensures ∙ ap (λ (those : List Edit). filter (λ (r : Ref). is_unedited those r.from) c.args.before.now)
+    (ap (λ v. v.edits) (sym c.self.view_is)) in
+    let all : c.extend_from_slice.new.self.items ≡ kept ++ ascending ref_order left =
+    c.in_ok-extend_from_slice.ensures.items ∙ (λ i. first i ++ (values ∙ c.self.invariant.pointers_are c.args.name) i) in
     let made = subst (λ (order : Ref → Ref → Ordering). c.distinct.result.items ≡ ascending order c.extend_from_slice.new.self.items)
     (λ i a b. c.orders_are_by_parts.ensures.refs a b i) c.distinct.ensures in
     c.of_vec.ensures ∙ made ∙ ap (ascending ref_order) all ∙ ascending_again ref_order total_refs exact_refs kept left

@@ -23,7 +23,8 @@ returns g c =
     let ties = pairs_tie keys values g.K.PartialEq.eq g.V.PartialEq.eq g.met.K.Ord.matches_eq g.met.V.Ord.matches_eq in
     let once = dedup_is _ _ _ c.dedup.ensures.filtered in
     let rising = dedup-ascending (pair_order keys values) total exact _ ties c.args.pairs.items _ c.sorted-pairs.ensures.same c.sorted-pairs.ensures.rises in
-    (λ i. zip (keys_are (λ p. p.0) _ _ c.dedup.new.self.items c.in_ok-keys.ensures c.deref.ensures.value i) (keys_are (λ p. p.1) _ _ c.dedup.new.self.items c.in_ok-values.ensures c.deref-2.ensures.value i))
+    (λ i. zip (keys_are (λ p. p.0) _ _ c.dedup.new.self.items c.in_ok-keys.ensures c.deref.ensures.value i)
+    (keys_are (λ p. p.1) _ _ c.dedup.new.self.items c.in_ok-values.ensures c.deref-2.ensures.value i))
     ∙ zip-parts c.dedup.new.self.items ∙ once ∙ rising
 
 pub invariant_of-result : goal.invariant_of-result
@@ -37,7 +38,8 @@ invariant_of-result g c =
     let rising = dedup-ascending (pair_order keys values) total exact _ ties c.args.pairs.items _ c.sorted-pairs.ensures.same c.sorted-pairs.ensures.rises in
     let are = keys_are (λ p. p.0) _ _ c.dedup.new.self.items c.in_ok-keys.ensures c.deref.ensures.value in
     let others = keys_are (λ p. p.1) _ _ c.dedup.new.self.items c.in_ok-values.ensures c.deref-2.ensures.value in
-    let sorted = subst (IsStrictlySortedBy (pair_order keys values)) (sym (once ∙ rising)) (sorted-ascending (pair_order keys values) total c.args.pairs.items) in (
+    let sorted = subst (IsStrictlySortedBy (pair_order keys values)) (sym (once ∙ rising))
+    (sorted-ascending (pair_order keys values) total c.args.pairs.items) in (
       ap length are ∙ length-map c.dedup.new.self.items _ ∙ sym (ap length others ∙ length-map c.dedup.new.self.items _),
       subst (IsSorted keys) (sym are) (keys-rise keys values g.met.K.Ord.total c.dedup.new.self.items sorted),
     )

@@ -14,7 +14,8 @@ use Rattle.edit_sets.proofs.edit_set.EditSet.find.Goals as goal
 pub get-requires-clause-rise : goal.get-requires-clause-rise
 get-requires-clause-rise c =
     let parts = arc_value c.self.inside.parts in
-    subst (λ (p : Parts). IsStrictlySortedBy name_order p.places.names) (sym c.deref.ensures) (names_rise parts.edits parts.places.names c.self.invariant.places_are.names_are)
+    subst (λ (p : Parts). IsStrictlySortedBy name_order p.places.names) (sym c.deref.ensures)
+    (names_rise parts.edits parts.places.names c.self.invariant.places_are.names_are)
 
 pub returns : goal.returns
 returns c =

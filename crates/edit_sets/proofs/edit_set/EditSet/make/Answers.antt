@@ -10,11 +10,13 @@ use Rattle.edit_sets.proofs.edit_set.EditSet.make.Goals as goal
 
 pub returns-in-Some : goal.returns-in-Some
 returns-in-Some c =
-    counted_first c.args.nall c.args.edits.now c.args.guards.now ∙ ap (λ fault. option_or fault (first_edit_fault c.args.nall c.args.edits.now)) (sym c.count_fault.ensures ∙ c.in-Some.is)
+    counted_first c.args.nall c.args.edits.now c.args.guards.now ∙ ap (λ fault. option_or fault (first_edit_fault c.args.nall c.args.edits.now))
+    (sym c.count_fault.ensures ∙ c.in-Some.is)
 
 pub returns-in_err-places_of : goal.returns-in_err-places_of
 returns-in_err-places_of c =
-    refused c.args.nall c.args.edits.now c.args.guards.now c.in_err-places_of.field-0.0 c.from_residual.result (sym c.count_fault.ensures ∙ c.in_default.is) c.in_err-places_of.ensures c.from_residual.ensures.1
+    refused c.args.nall c.args.edits.now c.args.guards.now c.in_err-places_of.field-0.0 c.from_residual.result
+    (sym c.count_fault.ensures ∙ c.in_default.is) c.in_err-places_of.ensures c.from_residual.ensures.1
 
 pub of-requires : goal.of-requires
 of-requires c =

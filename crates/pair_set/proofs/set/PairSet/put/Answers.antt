@@ -9,4 +9,5 @@ returns g c =
     on_ok_weaker c.put.result (λ is a b.
     ap (λ pairs. has_pair g.A.Ord.cmp g.B.Ord.cmp pairs a b) is
     ∙ has-put g.A.Ord.cmp g.B.Ord.cmp g.met.A.Ord.total g.met.B.Ord.total c.self.inside.rows c.args.first c.args.second a b tt
-    ∙ ap (λ pairs. same_pair g.A.Ord.cmp g.B.Ord.cmp c.args.first c.args.second a b || has_pair g.A.Ord.cmp g.B.Ord.cmp pairs a b) c.self.view_is) c.put.ensures.ok
+    ∙ ap (λ pairs. same_pair g.A.Ord.cmp g.B.Ord.cmp c.args.first c.args.second a b || has_pair g.A.Ord.cmp g.B.Ord.cmp pairs a b)
+    c.self.view_is) c.put.ensures.ok

@@ -24,7 +24,8 @@ returns-in_ok-refs-in-Refs c =
     (λ is keys put.
     subst (λ key. ArePut (keys ++ key ∷ []) refs names [] new.pointers [] new.bearers) (sym c.in-Refs.is)
     (subst (λ held. ArePut (keys ++ Refs n ∷ []) refs names [] new.pointers [] held) (sym c.put_refs.ensures.bearers)
-    (pointers_put keys refs names [] self.pointers [] self.bearers put n new.pointers (subst (λ items. ListIsPut name_order n items self.pointers new.pointers) value is))))
+    (pointers_put keys refs names [] self.pointers [] self.bearers put n new.pointers
+    (subst (λ items. ListIsPut name_order n items self.pointers new.pointers) value is))))
     c.put_refs.ensures.pointers
 
 pub returns-in_ok-names-in-Foid : goal.returns-in_ok-names-in-Foid
@@ -41,5 +42,6 @@ returns-in_ok-names-in-Foid c =
     (λ is keys put.
     subst (λ key. ArePut (keys ++ key ∷ []) refs names [] new.pointers [] new.bearers) (sym c.in-Foid.is)
     (subst (λ now. ArePut (keys ++ Foid l ∷ []) refs names [] now [] new.bearers) (sym c.put_bearers.ensures.pointers)
-    (bearers_put keys refs names [] self.pointers [] self.bearers put l new.bearers (subst (λ items. ListIsPut identity_order l items self.bearers new.bearers) value is))))
+    (bearers_put keys refs names [] self.pointers [] self.bearers put l new.bearers
+    (subst (λ items. ListIsPut identity_order l items self.bearers new.bearers) value is))))
     c.put_bearers.ensures.bearers

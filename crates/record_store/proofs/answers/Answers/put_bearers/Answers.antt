@@ -16,7 +16,8 @@ returns-then-is_empty-clause-bearers c =
     let none = nil_from_length c.args.names (eqb-true (length c.args.names) 0 (sym c.is_empty.ensures ∙ c.if-is_empty.true)) in
     let both = subst (λ (order : Lnam → Lnam → Ordering). IsAscending order rows × OnOk c.take.result (c.take.new.self ≡ without_key order rows c.args.foid))
     (λ i a b. c.orders_are_by_parts.ensures.identities a b i) (c.len-count.ensures.ascending, c.take.ensures.ok) in
-    on_ok_weaker c.take.result (λ is. subst (ListIsPut identity_order c.args.foid c.args.names rows) (sym is) (list_gone identity_order total_identities rows c.args.foid c.args.names none both.0)) both.1
+    on_ok_weaker c.take.result (λ is. subst (ListIsPut identity_order c.args.foid c.args.names rows) (sym is)
+    (list_gone identity_order total_identities rows c.args.foid c.args.names none both.0)) both.1
 
 pub returns-clause-bearers : goal.returns-clause-bearers
 returns-clause-bearers c =
@@ -24,4 +25,6 @@ returns-clause-bearers c =
     let put = subst (λ (order : Lnam → Lnam → Ordering). OnOk c.put.result (c.put.new.self ≡ with_row order rows c.args.foid c.in_ok-make.field-0))
     (λ i a b. c.orders_are_by_parts.ensures.identities a b i) c.put.ensures.ok in
     on_ok_weaker c.put.result
-    (λ is. subst (ListIsPut identity_order c.args.foid c.args.names rows) (sym (is ∙ ap (with_row identity_order rows c.args.foid) c.in_ok-make.ensures)) (list_put identity_order total_identities rows c.args.foid c.args.names)) put
+    (λ is. subst (ListIsPut identity_order c.args.foid c.args.names rows)
+    (sym (is ∙ ap (with_row identity_order rows c.args.foid) c.in_ok-make.ensures))
+    (list_put identity_order total_identities rows c.args.foid c.args.names)) put

@@ -14,9 +14,11 @@ pub returns-then-is_empty-clause-pointers : goal.returns-then-is_empty-clause-po
 returns-then-is_empty-clause-pointers c =
     let rows = c.args.self.now.pointers in
     let none = nil_from_length c.args.refs (eqb-true (length c.args.refs) 0 (sym c.is_empty.ensures ∙ c.if-is_empty.true)) in
-    let both = subst (λ (order : RecName → RecName → Ordering). IsAscending order rows × OnOk c.take.result (c.take.new.self ≡ without_key order rows c.args.name))
+    let both = subst (λ (order : RecName → RecName → Ordering). IsAscending order rows
+    × OnOk c.take.result (c.take.new.self ≡ without_key order rows c.args.name))
     (λ i a b. c.orders_are_by_parts.ensures.names a b i) (c.len-count.ensures.ascending, c.take.ensures.ok) in
-    on_ok_weaker c.take.result (λ is. subst (ListIsPut name_order c.args.name c.args.refs rows) (sym is) (list_gone name_order total_names rows c.args.name c.args.refs none both.0)) both.1
+    on_ok_weaker c.take.result (λ is. subst (ListIsPut name_order c.args.name c.args.refs rows) (sym is)
+    (list_gone name_order total_names rows c.args.name c.args.refs none both.0)) both.1
 
 pub returns-clause-pointers : goal.returns-clause-pointers
 returns-clause-pointers c =
@@ -24,4 +26,5 @@ returns-clause-pointers c =
     let put = subst (λ (order : RecName → RecName → Ordering). OnOk c.put.result (c.put.new.self ≡ with_row order rows c.args.name c.in_ok-make.field-0))
     (λ i a b. c.orders_are_by_parts.ensures.names a b i) c.put.ensures.ok in
     on_ok_weaker c.put.result
-    (λ is. subst (ListIsPut name_order c.args.name c.args.refs rows) (sym (is ∙ ap (with_row name_order rows c.args.name) c.in_ok-make.ensures)) (list_put name_order total_names rows c.args.name c.args.refs)) put
+    (λ is. subst (ListIsPut name_order c.args.name c.args.refs rows) (sym (is ∙ ap (with_row name_order rows c.args.name) c.in_ok-make.ensures))
+    (list_put name_order total_names rows c.args.name c.args.refs)) put

@@ -17,8 +17,10 @@ returns-in_ok-refs-in-Refs c =
     let value = c.in_ok-refs-in-Refs.ensures ∙ ap (pointers_after edits n) c.refs.ensures in
     on_ok_weaker c.put_refs.result
     (λ is keys put.
-    subst (λ key. ArePut (keys ++ key ∷ []) (refs_after edits old.pointers) (names_after edits old.bearers) old.pointers new.pointers old.bearers new.bearers) (sym c.in-Refs.is)
-    (subst (λ held. ArePut (keys ++ Refs n ∷ []) (refs_after edits old.pointers) (names_after edits old.bearers) old.pointers new.pointers old.bearers held) (sym c.put_refs.ensures.bearers)
+    subst (λ key. ArePut (keys ++ key ∷ []) (refs_after edits old.pointers) (names_after edits old.bearers) old.pointers
+    new.pointers old.bearers new.bearers) (sym c.in-Refs.is)
+    (subst (λ held. ArePut (keys ++ Refs n ∷ []) (refs_after edits old.pointers)
+    (names_after edits old.bearers) old.pointers new.pointers old.bearers held) (sym c.put_refs.ensures.bearers)
     (pointers_put keys (refs_after edits old.pointers) (names_after edits old.bearers) old.pointers self.pointers old.bearers self.bearers put n new.pointers
     (subst (λ items. ListIsPut name_order n items self.pointers new.pointers) value is))))
     c.put_refs.ensures.pointers
@@ -33,8 +35,10 @@ returns-in_ok-names-in-Foid c =
     let value = c.in_ok-names-in-Foid.ensures ∙ ap (bearers_after edits l) c.bearers.ensures in
     on_ok_weaker c.put_bearers.result
     (λ is keys put.
-    subst (λ key. ArePut (keys ++ key ∷ []) (refs_after edits old.pointers) (names_after edits old.bearers) old.pointers new.pointers old.bearers new.bearers) (sym c.in-Foid.is)
-    (subst (λ now. ArePut (keys ++ Foid l ∷ []) (refs_after edits old.pointers) (names_after edits old.bearers) old.pointers now old.bearers new.bearers) (sym c.put_bearers.ensures.pointers)
+    subst (λ key. ArePut (keys ++ key ∷ []) (refs_after edits old.pointers) (names_after edits old.bearers) old.pointers
+    new.pointers old.bearers new.bearers) (sym c.in-Foid.is)
+    (subst (λ now. ArePut (keys ++ Foid l ∷ []) (refs_after edits old.pointers) (names_after edits old.bearers) old.pointers
+    now old.bearers new.bearers) (sym c.put_bearers.ensures.pointers)
     (bearers_put keys (refs_after edits old.pointers) (names_after edits old.bearers) old.pointers self.pointers old.bearers self.bearers put l new.bearers
     (subst (λ items. ListIsPut identity_order l items self.bearers new.bearers) value is))))
     c.put_bearers.ensures.bearers

@@ -20,7 +20,8 @@ returns c =
     let place = c.in_ok-place.place in
     let name : c.name_of-name.result ≡ name_of rec = c.name_of-name.ensures ∙ ap name_of c.deref.ensures in
     let at = subst (λ n. IsPlaceFor (value_of name_order inside.names n) (rows_of n.kind inside.lists) place) name c.in_ok-place.ensures in
-    let lists = c.in_ok-put.ensures ∙ (λ i. with_rows (name i).kind (with_row nat_cmp (rows_of (name i).kind inside.lists) place (c.in_ok-copy.ensures i)) inside.lists) in
+    let lists = c.in_ok-put.ensures ∙ (λ i. with_rows (name i).kind
+    (with_row nat_cmp (rows_of (name i).kind inside.lists) place (c.in_ok-copy.ensures i)) inside.lists) in
     ap (cell_of inside.head) lists
     ∙ cell_put c.args.edit.now inside.head inside.names inside.lists (subst (FindTheirRecords (c.args.edit.now ∷ [])) (sym c.self.view_is) c.requires.found)
     c.self.invariant.0 c.known.ensures c.edits_leave_their_records.ensures rec c.requires.left place at
@@ -33,14 +34,17 @@ invariant_of-result c =
     let place = c.in_ok-place.place in
     let name : c.name_of-name.result ≡ name_of rec = c.name_of-name.ensures ∙ ap name_of c.deref.ensures in
     let at = subst (λ n. IsPlaceFor (value_of name_order inside.names n) (rows_of n.kind inside.lists) place) name c.in_ok-place.ensures in
-    let lists = c.in_ok-put.ensures ∙ (λ i. with_rows (name i).kind (with_row nat_cmp (rows_of (name i).kind inside.lists) place (c.in_ok-copy.ensures i)) inside.lists) in
+    let lists = c.in_ok-put.ensures ∙ (λ i. with_rows (name i).kind
+    (with_row nat_cmp (rows_of (name i).kind inside.lists) place (c.in_ok-copy.ensures i)) inside.lists) in
     let held : Held = record { place = place; rec = rec } in
     let put = subst (λ (order : RecName → RecName → Ordering). c.put-2.new.self ≡ with_row order inside.names c.name_of-name.result held)
     (λ i a b. c.orders_are_by_parts.ensures.names a b i) c.in_ok-put-2.ensures.ok in
     let names = put ∙ ap (λ n. with_row name_order inside.names n held) name in
     let fit = subst (FindTheirRecords (c.args.edit.now ∷ [])) (sym c.self.view_is) c.requires.found in
-    let cell = cell_put c.args.edit.now inside.head inside.names inside.lists fit c.self.invariant.0 c.known.ensures c.edits_leave_their_records.ensures rec c.requires.left place at in
-    let after = records_put c.args.edit.now inside.head inside.names inside.lists fit c.self.invariant.0 c.known.ensures c.edits_leave_their_records.ensures rec c.requires.left place at in
+    let cell = cell_put c.args.edit.now inside.head inside.names inside.lists fit c.self.invariant.0 c.known.ensures
+    c.edits_leave_their_records.ensures rec c.requires.left place at in
+    let after = records_put c.args.edit.now inside.head inside.names inside.lists fit c.self.invariant.0 c.known.ensures
+    c.edits_leave_their_records.ensures rec c.requires.left place at in
     let put_names = with_row name_order inside.names (name_of rec) held in
     let put_lists = with_rows (name_of rec).kind (with_row nat_cmp (rows_of (name_of rec).kind inside.lists) place rec) inside.lists in (
       subst (λ rows. AreRecords rows c.put.new.self (cell_of inside.head c.put.new.self)) (sym names)

@@ -13,7 +13,8 @@ use Rattle.record_store.proofs.records.Records.without.Goals as goal
 pub returns : goal.returns
 returns c =
     let inside = c.self.inside in
-    let rise = subst (λ (order : RecName → RecName → Ordering). IsAscending order inside.names) (λ i a b. c.orders_are_by_parts.ensures.names a b i) c.len-count.ensures.ascending in
+    let rise = subst (λ (order : RecName → RecName → Ordering). IsAscending order inside.names)
+    (λ i a b. c.orders_are_by_parts.ensures.names a b i) c.len-count.ensures.ascending in
     ap (cell_of inside.head) c.in_ok-take.ensures
     ∙ cell_gone c.args.edit.now inside.head inside.names inside.lists (subst (FindTheirRecords (c.args.edit.now ∷ [])) (sym c.self.view_is) c.requires.found)
     c.self.invariant.0 c.known.ensures c.edits_leave_their_records.ensures c.args.name c.requires.deletes c.in_ok-place.place rise c.in_ok-place.ensures
@@ -22,14 +23,18 @@ returns c =
 pub invariant_of-result : goal.invariant_of-result
 invariant_of-result c =
     let inside = c.self.inside in
-    let both = subst (λ (order : RecName → RecName → Ordering). IsAscending order inside.names × (c.take-2.new.self ≡ without_key order inside.names c.args.name))
+    let both = subst (λ (order : RecName → RecName → Ordering). IsAscending order inside.names
+    × (c.take-2.new.self ≡ without_key order inside.names c.args.name))
     (λ i a b. c.orders_are_by_parts.ensures.names a b i) (c.len-count.ensures.ascending, c.in_ok-take-2.ensures.ok) in
     let fit = subst (FindTheirRecords (c.args.edit.now ∷ [])) (sym c.self.view_is) c.requires.found in
-    let cell = cell_gone c.args.edit.now inside.head inside.names inside.lists fit c.self.invariant.0 c.known.ensures c.edits_leave_their_records.ensures c.args.name c.requires.deletes c.in_ok-place.place both.0 c.in_ok-place.ensures in
-    let after = records_gone c.args.edit.now inside.head inside.names inside.lists fit c.self.invariant.0 c.known.ensures c.edits_leave_their_records.ensures c.args.name c.requires.deletes c.in_ok-place.place both.0 c.in_ok-place.ensures in
+    let cell = cell_gone c.args.edit.now inside.head inside.names inside.lists fit c.self.invariant.0 c.known.ensures
+    c.edits_leave_their_records.ensures c.args.name c.requires.deletes c.in_ok-place.place both.0 c.in_ok-place.ensures in
+    let after = records_gone c.args.edit.now inside.head inside.names inside.lists fit c.self.invariant.0 c.known.ensures
+    c.edits_leave_their_records.ensures c.args.name c.requires.deletes c.in_ok-place.place both.0 c.in_ok-place.ensures in
     let gone_names = without_key name_order inside.names c.args.name in
     let gone_lists = with_rows c.args.name.kind (without_key nat_cmp (rows_of c.args.name.kind inside.lists) c.in_ok-place.place) inside.lists in (
       subst (λ rows. AreRecords rows c.take.new.self (cell_of inside.head c.take.new.self)) (sym both.1)
-          (subst (λ those. AreRecords gone_names those (cell_of inside.head those)) (sym c.in_ok-take.ensures) (subst (AreRecords gone_names gone_lists) (sym cell) after)),
+          (subst (λ those. AreRecords gone_names those (cell_of inside.head those)) (sym c.in_ok-take.ensures)
+          (subst (AreRecords gone_names gone_lists) (sym cell) after)),
       c.self.invariant.1,
     )

@@ -11,7 +11,12 @@ raise-requires g c = λ k lt.
     let in_blocks : c.args.place < length (rows_of c.self.inside.runs.items) = rw (← c.self.view_is) at c.requires.place in
     let at = block_at-rows_of c.self.inside.runs.items c.args.place in_blocks c.index_mut.result.now c.index_mut.ensures.value in
     let fits = none_holds _ _ (sym (ap is_some c.put-old.ensures.old) ∙ c.if-is_none.ensures) (rw at at (rw (← c.self.view_is) at c.requires.fits)) in
-    omega (arith, fits, c.self.invariant.2.start k (omega (arith, c.self.invariant.2.count, c.self.inside.starts.ok.0)), rows_before-all (rows_of c.self.inside.runs.items) k)
+    omega (
+      arith,
+      fits,
+      c.self.invariant.2.start k (omega (arith, c.self.invariant.2.count, c.self.inside.starts.ok.0)),
+      rows_before-all (rows_of c.self.inside.runs.items) k,
+    )
 
 -- a new key makes a row, for which there is room
 pub invariant_of-self : goal.invariant_of-self
@@ -26,7 +31,10 @@ invariant_of-self g c =
     let few = none_holds _ _ (sym (ap is_some c.put-old.ensures.old) ∙ c.if-is_none.ensures) room in (
       filled_set _ _ _ c.self.invariant.0 (omega (arith, len)) (omega (arith, len, few)) (omega (arith, was.room, c.put-old.ensures.room)),
       c.self.invariant.1,
-      rw (rows_of-set c.self.inside.runs.items c.args.place c.put-old.new.self) (starts_raised _ c.self.inside.starts.items _ _ c.self.invariant.2 in_blocks _ grown fits (omega (arith, c.raise.ensures.len, c.raise.new.starts.ok.0, c.self.inside.starts.ok.0)) c.raise.ensures.before (λ k from lt. c.raise.ensures.raised k from (omega (arith, c.self.inside.starts.ok.0)))),
+      rw (rows_of-set c.self.inside.runs.items c.args.place c.put-old.new.self)
+          (starts_raised _ c.self.inside.starts.items _ _ c.self.invariant.2 in_blocks _ grown fits
+          (omega (arith, c.raise.ensures.len, c.raise.new.starts.ok.0, c.self.inside.starts.ok.0)) c.raise.ensures.before
+          (λ k from lt. c.raise.ensures.raised k from (omega (arith, c.self.inside.starts.ok.0)))),
       (c.self.invariant.3.0, rw c.raise.ensures.capacity c.self.invariant.3.1, c.self.invariant.3.2),
     )
 
@@ -40,7 +48,8 @@ invariant_of-self-else-is_none g c =
     let same : length c.put-old.new.self.rows ≡ length (block_at (rows_of c.self.inside.runs.items) c.args.place) = omega (arith, ap length at) in (
       filled_set _ _ _ c.self.invariant.0 (omega (arith, was.some, len)) (omega (arith, was.few, len)) (omega (arith, was.room, c.put-old.ensures.room)),
       c.self.invariant.1,
-      rw (rows_of-set c.self.inside.runs.items c.args.place c.put-old.new.self) (starts_same _ _ c.self.inside.starts.items _ c.self.invariant.2 in_blocks _ same),
+      rw (rows_of-set c.self.inside.runs.items c.args.place c.put-old.new.self)
+          (starts_same _ _ c.self.inside.starts.items _ c.self.invariant.2 in_blocks _ same),
       c.self.invariant.3,
     )
 
@@ -61,11 +70,13 @@ returns-then-is_none-clause-claim g c =
     let in_blocks : c.args.place < length (rows_of c.self.inside.runs.items) = rw (← c.self.view_is) at c.requires.place in
     let at = block_at-rows_of c.self.inside.runs.items c.args.place in_blocks c.index_mut.result.now c.index_mut.ensures.value in
     let len = rw (c.if-is_none.ensures) at c.put-old.ensures.len in
-    rw (c.if-is_none.ensures, rows_of-set c.self.inside.runs.items c.args.place c.put-old.new.self, ← c.self.view_is) (omega (arith, len, ap length at, claim_of-set (rows_of c.self.inside.runs.items) c.args.place c.put-old.new.self.rows in_blocks))
+    rw (c.if-is_none.ensures, rows_of-set c.self.inside.runs.items c.args.place c.put-old.new.self, ← c.self.view_is)
+    (omega (arith, len, ap length at, claim_of-set (rows_of c.self.inside.runs.items) c.args.place c.put-old.new.self.rows in_blocks))
 
 pub returns-else-is_none-clause-claim : goal.returns-else-is_none-clause-claim
 returns-else-is_none-clause-claim g c =
     let in_blocks : c.args.place < length (rows_of c.self.inside.runs.items) = rw (← c.self.view_is) at c.requires.place in
     let at = block_at-rows_of c.self.inside.runs.items c.args.place in_blocks c.index_mut.result.now c.index_mut.ensures.value in
     let len = rw (c.if-is_none.ensures) at c.put-old.ensures.len in
-    rw (c.if-is_none.ensures, rows_of-set c.self.inside.runs.items c.args.place c.put-old.new.self, ← c.self.view_is) (omega (arith, len, ap length at, claim_of-set (rows_of c.self.inside.runs.items) c.args.place c.put-old.new.self.rows in_blocks))
+    rw (c.if-is_none.ensures, rows_of-set c.self.inside.runs.items c.args.place c.put-old.new.self, ← c.self.view_is)
+    (omega (arith, len, ap length at, claim_of-set (rows_of c.self.inside.runs.items) c.args.place c.put-old.new.self.rows in_blocks))

@@ -10,10 +10,14 @@ pub returns : goal.returns
 returns g c =
     let at = rw (← c.self.view_is) at c.block_at-block.ensures in
     let block = block_at-rows_of c.self.inside.runs.items c.block_at-block.result at.in_range c.index.result.now c.index.ensures in
-    let start : c.index-2.result.now ≡ rows_before (rows_of c.self.inside.runs.items) c.block_at-block.result = c.index-2.ensures ∙ get_or_default_zero c.self.inside.starts.items c.block_at-block.result c.index-2.result.now (omega (arith, c.self.invariant.2.count, at.in_range)) ∙ c.self.invariant.2.start c.block_at-block.result at.in_range in
-    let offset : c.args.place ≡ rows_before (rows_of c.self.inside.runs.items) c.block_at-block.result + (c.args.place - c.index-2.result.now) = omega (arith, start, at.from) in
+    let start : c.index-2.result.now ≡ rows_before (rows_of c.self.inside.runs.items) c.block_at-block.result =
+    c.index-2.ensures ∙ get_or_default_zero c.self.inside.starts.items c.block_at-block.result c.index-2.result.now
+    (omega (arith, c.self.invariant.2.count, at.in_range)) ∙ c.self.invariant.2.start c.block_at-block.result at.in_range in
+    let offset : c.args.place ≡ rows_before (rows_of c.self.inside.runs.items) c.block_at-block.result + (c.args.place - c.index-2.result.now) =
+    omega (arith, start, at.from) in
     rw (← c.self.view_is) (
     ap (slice_get (joined (rows_of c.self.inside.runs.items))) offset
-    ∙ slice_get-joined (rows_of c.self.inside.runs.items) c.block_at-block.result (c.args.place - c.index-2.result.now) at.in_range (omega (arith, start, at.from, at.to))
+    ∙ slice_get-joined (rows_of c.self.inside.runs.items) c.block_at-block.result (c.args.place - c.index-2.result.now) at.in_range
+    (omega (arith, start, at.from, at.to))
     ∙ ap (λ rows. slice_get rows (c.args.place - c.index-2.result.now)) block
     ∙ c.row.ensures)

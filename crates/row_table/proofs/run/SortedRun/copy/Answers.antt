@@ -16,4 +16,5 @@ loop-key-preserved g c =
 
 pub invariant_of-result : goal.invariant_of-result
 invariant_of-result g c =
-    IsAscending-copies g.V.Clone.is_clone g.K.Ord.cmp _ _ c.loop-key.invariant.copied (rw (take_all c.loop-key.key-index c.deref-key-items.result.now c.loop-key-test.false, c.deref-key-items.ensures.value) c.self.invariant)
+    IsAscending-copies g.V.Clone.is_clone g.K.Ord.cmp _ _ c.loop-key.invariant.copied
+    (rw (take_all c.loop-key.key-index c.deref-key-items.result.now c.loop-key-test.false, c.deref-key-items.ensures.value) c.self.invariant)

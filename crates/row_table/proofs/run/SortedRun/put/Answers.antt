@@ -7,7 +7,8 @@ use Rattle.row_table.proofs.run.SortedRun.put.Goals as goal
 pub invariant_of-self : goal.invariant_of-self
 invariant_of-self g c =
     let found = rw (← c.self.view_is) at c.in-Ok.ensures in
-    rw (c.replace-old.ensures.after, ← with_row_found g.K.Ord.cmp _ _ c.args.value _ found) (IsAscending-with_row g.K.Ord.cmp g.met.K.Ord.total _ _ _ c.self.invariant)
+    rw (c.replace-old.ensures.after, ← with_row_found g.K.Ord.cmp _ _ c.args.value _ found)
+    (IsAscending-with_row g.K.Ord.cmp g.met.K.Ord.total _ _ _ c.self.invariant)
 
 pub returns-in-Ok-clause-rows : goal.returns-in-Ok-clause-rows
 returns-in-Ok-clause-rows g c =
@@ -17,7 +18,8 @@ returns-in-Ok-clause-rows g c =
 pub returns-in-Ok-clause-old : goal.returns-in-Ok-clause-old
 returns-in-Ok-clause-old g c =
     let found = rw (← c.self.view_is) at c.in-Ok.ensures in
-    rw (← c.self.view_is, c.replace-old.ensures.value) (ap (λ row. Some row.1) c.index_mut.ensures.value ∙ sym (value_of_found g.K.Ord.cmp _ _ _ c.index_mut.result.now found))
+    rw (← c.self.view_is, c.replace-old.ensures.value) (ap (λ row. Some row.1) c.index_mut.ensures.value
+    ∙ sym (value_of_found g.K.Ord.cmp _ _ _ c.index_mut.result.now found))
 
 -- the key is new, so that there is reserved room
 pub unreachable-requires : goal.unreachable-requires
@@ -29,7 +31,8 @@ unreachable-requires g c =
 pub invariant_of-self-in-Err : goal.invariant_of-self-in-Err
 invariant_of-self-in-Err g c =
     let gap = rw (← c.self.view_is) at c.in-Err.ensures in
-    rw (c.in-Ok-insert.ensures.items, ← with_row_gap g.K.Ord.cmp _ _ _ gap c.args.value) (IsAscending-with_row g.K.Ord.cmp g.met.K.Ord.total _ _ _ c.self.invariant)
+    rw (c.in-Ok-insert.ensures.items, ← with_row_gap g.K.Ord.cmp _ _ _ gap c.args.value)
+    (IsAscending-with_row g.K.Ord.cmp g.met.K.Ord.total _ _ _ c.self.invariant)
 
 pub returns-in-Ok-insert-clause-rows : goal.returns-in-Ok-insert-clause-rows
 returns-in-Ok-insert-clause-rows g c =

@@ -8,4 +8,5 @@ pub returns : goal.returns
 returns g c =
     let facts = c.binary_search_by.ensures in
     let position = facts.position (λ row. g.K.Ord.cmp row.0 c.args.key.now) (always_returns_same _ _ _ (λ a r after called. search rules)) in
-    rw (← c.self.view_is, ← c.deref.ensures.value) (searched g.K.Ord.cmp g.met.K.Ord.total _ c.args.key.now _ (rw c.deref.ensures.value c.self.invariant) facts.bound position)
+    rw (← c.self.view_is, ← c.deref.ensures.value) (searched g.K.Ord.cmp g.met.K.Ord.total _ c.args.key.now _
+    (rw c.deref.ensures.value c.self.invariant) facts.bound position)

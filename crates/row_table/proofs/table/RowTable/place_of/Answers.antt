@@ -14,4 +14,6 @@ overflow_add-result g c =
 
 pub returns : goal.returns
 returns g c =
-    rw (← c.self.view_is) (ap₂ (λ m n. m + n) c.start.ensures (c.place_of.ensures ∙ ap (λ rows. lower_bound g.K.Ord.cmp rows c.args.key.now) c.run.ensures.rows) ∙ sym (lower_bound-block g.K.Ord.cmp _ _ _ c.block_for-place.ensures))
+    rw (← c.self.view_is) (ap₂ (λ m n. m + n) c.start.ensures
+    (c.place_of.ensures ∙ ap (λ rows. lower_bound g.K.Ord.cmp rows c.args.key.now) c.run.ensures.rows)
+    ∙ sym (lower_bound-block g.K.Ord.cmp _ _ _ c.block_for-place.ensures))

@@ -31,13 +31,15 @@ pub put-old-requires-clause-fits : goal.put-old-requires-clause-fits
 put-old-requires-clause-fits g c =
     let found = c.room_for-place.ensures.block in
     let value = sym (value_of-block g.K.Ord.cmp _ _ _ found) ∙ ap (λ rows. value_of g.K.Ord.cmp rows c.args.key) c.room_for-place.ensures.rows in
-    rw (value, c.room_for-place.ensures.rows) (none_weaker (0 < c.self.inside.spare) _ _ (λ reserved. omega (arith, reserved, c.self.invariant.1, c.self.invariant.2)) (rw (← c.self.view_is) at c.requires))
+    rw (value, c.room_for-place.ensures.rows) (none_weaker (0 < c.self.inside.spare) _ _
+    (λ reserved. omega (arith, reserved, c.self.invariant.1, c.self.invariant.2)) (rw (← c.self.view_is) at c.requires))
 
 pub overflow_add-self-then-is_none : goal.overflow_add-self-then-is_none
 overflow_add-self-then-is_none g c =
     let found = c.room_for-place.ensures.block in
     let value = sym (value_of-block g.K.Ord.cmp _ _ _ found) ∙ ap (λ rows. value_of g.K.Ord.cmp rows c.args.key) c.room_for-place.ensures.rows in
-    let all = ap joined c.put-old.ensures.blocks ∙ with_row-block g.K.Ord.cmp _ _ _ found c.args.value ∙ ap (λ rows. with_row g.K.Ord.cmp rows c.args.key c.args.value) c.room_for-place.ensures.rows in
+    let all = ap joined c.put-old.ensures.blocks ∙ with_row-block g.K.Ord.cmp _ _ _ found c.args.value
+    ∙ ap (λ rows. with_row g.K.Ord.cmp rows c.args.key c.args.value) c.room_for-place.ensures.rows in
     let old = c.put-old.ensures.old ∙ value in
     let is = ap is_some (sym old) ∙ c.if-is_none.ensures in
     let reserved = none_holds _ _ is (rw (← c.self.view_is) at c.requires) in
@@ -47,7 +49,8 @@ pub overflow_sub-self-then-is_none : goal.overflow_sub-self-then-is_none
 overflow_sub-self-then-is_none g c =
     let found = c.room_for-place.ensures.block in
     let value = sym (value_of-block g.K.Ord.cmp _ _ _ found) ∙ ap (λ rows. value_of g.K.Ord.cmp rows c.args.key) c.room_for-place.ensures.rows in
-    let all = ap joined c.put-old.ensures.blocks ∙ with_row-block g.K.Ord.cmp _ _ _ found c.args.value ∙ ap (λ rows. with_row g.K.Ord.cmp rows c.args.key c.args.value) c.room_for-place.ensures.rows in
+    let all = ap joined c.put-old.ensures.blocks ∙ with_row-block g.K.Ord.cmp _ _ _ found c.args.value
+    ∙ ap (λ rows. with_row g.K.Ord.cmp rows c.args.key c.args.value) c.room_for-place.ensures.rows in
     let old = c.put-old.ensures.old ∙ value in
     let is = ap is_some (sym old) ∙ c.if-is_none.ensures in
     let reserved = none_holds _ _ is (rw (← c.self.view_is) at c.requires) in
@@ -58,7 +61,8 @@ pub invariant_of-self-then-is_none : goal.invariant_of-self-then-is_none
 invariant_of-self-then-is_none g c =
     let found = c.room_for-place.ensures.block in
     let value = sym (value_of-block g.K.Ord.cmp _ _ _ found) ∙ ap (λ rows. value_of g.K.Ord.cmp rows c.args.key) c.room_for-place.ensures.rows in
-    let all = ap joined c.put-old.ensures.blocks ∙ with_row-block g.K.Ord.cmp _ _ _ found c.args.value ∙ ap (λ rows. with_row g.K.Ord.cmp rows c.args.key c.args.value) c.room_for-place.ensures.rows in
+    let all = ap joined c.put-old.ensures.blocks ∙ with_row-block g.K.Ord.cmp _ _ _ found c.args.value
+    ∙ ap (λ rows. with_row g.K.Ord.cmp rows c.args.key c.args.value) c.room_for-place.ensures.rows in
     let old = c.put-old.ensures.old ∙ value in
     let is = ap is_some (sym old) ∙ c.if-is_none.ensures in
     let reserved = none_holds _ _ is (rw (← c.self.view_is) at c.requires) in
@@ -67,7 +71,16 @@ invariant_of-self-then-is_none g c =
       rw all (IsAscending-with_row g.K.Ord.cmp g.met.K.Ord.total _ _ _ c.self.invariant.0),
       omega (arith, len, ap length all, c.self.invariant.1),
       omega (arith, reserved, c.self.invariant.2),
-      λ fewer. omega (arith, fewer, reserved, claim, c.room_for-place.ensures.claim, c.room_for-place.ensures.free, c.put-old.ensures.free, c.self.invariant.3 (omega (arith, fewer, reserved, c.room_for-place.ensures.free, c.put-old.ensures.free))),
+      λ fewer. omega (
+        arith,
+        fewer,
+        reserved,
+        claim,
+        c.room_for-place.ensures.claim,
+        c.room_for-place.ensures.free,
+        c.put-old.ensures.free,
+        c.self.invariant.3 (omega (arith, fewer, reserved, c.room_for-place.ensures.free, c.put-old.ensures.free)),
+      ),
     )
 
 -- a key that was there
@@ -75,7 +88,8 @@ pub invariant_of-self-else-is_none : goal.invariant_of-self-else-is_none
 invariant_of-self-else-is_none g c =
     let found = c.room_for-place.ensures.block in
     let value = sym (value_of-block g.K.Ord.cmp _ _ _ found) ∙ ap (λ rows. value_of g.K.Ord.cmp rows c.args.key) c.room_for-place.ensures.rows in
-    let all = ap joined c.put-old.ensures.blocks ∙ with_row-block g.K.Ord.cmp _ _ _ found c.args.value ∙ ap (λ rows. with_row g.K.Ord.cmp rows c.args.key c.args.value) c.room_for-place.ensures.rows in
+    let all = ap joined c.put-old.ensures.blocks ∙ with_row-block g.K.Ord.cmp _ _ _ found c.args.value
+    ∙ ap (λ rows. with_row g.K.Ord.cmp rows c.args.key c.args.value) c.room_for-place.ensures.rows in
     let old = c.put-old.ensures.old ∙ value in
     let is = ap is_some (sym old) ∙ c.if-is_none.ensures in
     let len = rw is at (length-with_row g.K.Ord.cmp g.met.K.Ord.total (joined c.self.inside.blocks.blocks) c.args.key c.args.value c.self.invariant.0) in
@@ -83,14 +97,24 @@ invariant_of-self-else-is_none g c =
       rw all (IsAscending-with_row g.K.Ord.cmp g.met.K.Ord.total _ _ _ c.self.invariant.0),
       omega (arith, len, ap length all, c.self.invariant.1),
       c.self.invariant.2,
-      (let kept = some_says _ _ is c.room_for-place.ensures.there in λ fewer. omega (arith, fewer, claim, c.room_for-place.ensures.claim, kept, c.put-old.ensures.free, c.self.invariant.3 (omega (arith, fewer, kept, c.put-old.ensures.free)))),
+      (let kept = some_says _ _ is c.room_for-place.ensures.there in
+          λ fewer. omega (
+            arith,
+            fewer,
+            claim,
+            c.room_for-place.ensures.claim,
+            kept,
+            c.put-old.ensures.free,
+            c.self.invariant.3 (omega (arith, fewer, kept, c.put-old.ensures.free)),
+          )),
     )
 
 pub returns-then-is_none-clause-rows : goal.returns-then-is_none-clause-rows
 returns-then-is_none-clause-rows g c =
     let found = c.room_for-place.ensures.block in
     let value = sym (value_of-block g.K.Ord.cmp _ _ _ found) ∙ ap (λ rows. value_of g.K.Ord.cmp rows c.args.key) c.room_for-place.ensures.rows in
-    let all = ap joined c.put-old.ensures.blocks ∙ with_row-block g.K.Ord.cmp _ _ _ found c.args.value ∙ ap (λ rows. with_row g.K.Ord.cmp rows c.args.key c.args.value) c.room_for-place.ensures.rows in
+    let all = ap joined c.put-old.ensures.blocks ∙ with_row-block g.K.Ord.cmp _ _ _ found c.args.value
+    ∙ ap (λ rows. with_row g.K.Ord.cmp rows c.args.key c.args.value) c.room_for-place.ensures.rows in
     let old = c.put-old.ensures.old ∙ value in
     let is = ap is_some (sym old) ∙ c.if-is_none.ensures in
     rw (← c.self.view_is) all
@@ -99,7 +123,8 @@ pub returns-then-is_none-clause-old : goal.returns-then-is_none-clause-old
 returns-then-is_none-clause-old g c =
     let found = c.room_for-place.ensures.block in
     let value = sym (value_of-block g.K.Ord.cmp _ _ _ found) ∙ ap (λ rows. value_of g.K.Ord.cmp rows c.args.key) c.room_for-place.ensures.rows in
-    let all = ap joined c.put-old.ensures.blocks ∙ with_row-block g.K.Ord.cmp _ _ _ found c.args.value ∙ ap (λ rows. with_row g.K.Ord.cmp rows c.args.key c.args.value) c.room_for-place.ensures.rows in
+    let all = ap joined c.put-old.ensures.blocks ∙ with_row-block g.K.Ord.cmp _ _ _ found c.args.value
+    ∙ ap (λ rows. with_row g.K.Ord.cmp rows c.args.key c.args.value) c.room_for-place.ensures.rows in
     let old = c.put-old.ensures.old ∙ value in
     let is = ap is_some (sym old) ∙ c.if-is_none.ensures in
     rw (← c.self.view_is) old
@@ -108,7 +133,8 @@ pub returns-else-is_none-clause-rows : goal.returns-else-is_none-clause-rows
 returns-else-is_none-clause-rows g c =
     let found = c.room_for-place.ensures.block in
     let value = sym (value_of-block g.K.Ord.cmp _ _ _ found) ∙ ap (λ rows. value_of g.K.Ord.cmp rows c.args.key) c.room_for-place.ensures.rows in
-    let all = ap joined c.put-old.ensures.blocks ∙ with_row-block g.K.Ord.cmp _ _ _ found c.args.value ∙ ap (λ rows. with_row g.K.Ord.cmp rows c.args.key c.args.value) c.room_for-place.ensures.rows in
+    let all = ap joined c.put-old.ensures.blocks ∙ with_row-block g.K.Ord.cmp _ _ _ found c.args.value
+    ∙ ap (λ rows. with_row g.K.Ord.cmp rows c.args.key c.args.value) c.room_for-place.ensures.rows in
     let old = c.put-old.ensures.old ∙ value in
     let is = ap is_some (sym old) ∙ c.if-is_none.ensures in
     rw (← c.self.view_is) all
@@ -117,7 +143,8 @@ pub returns-else-is_none-clause-old : goal.returns-else-is_none-clause-old
 returns-else-is_none-clause-old g c =
     let found = c.room_for-place.ensures.block in
     let value = sym (value_of-block g.K.Ord.cmp _ _ _ found) ∙ ap (λ rows. value_of g.K.Ord.cmp rows c.args.key) c.room_for-place.ensures.rows in
-    let all = ap joined c.put-old.ensures.blocks ∙ with_row-block g.K.Ord.cmp _ _ _ found c.args.value ∙ ap (λ rows. with_row g.K.Ord.cmp rows c.args.key c.args.value) c.room_for-place.ensures.rows in
+    let all = ap joined c.put-old.ensures.blocks ∙ with_row-block g.K.Ord.cmp _ _ _ found c.args.value
+    ∙ ap (λ rows. with_row g.K.Ord.cmp rows c.args.key c.args.value) c.room_for-place.ensures.rows in
     let old = c.put-old.ensures.old ∙ value in
     let is = ap is_some (sym old) ∙ c.if-is_none.ensures in
     rw (← c.self.view_is) old

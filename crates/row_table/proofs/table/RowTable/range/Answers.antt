@@ -3,4 +3,7 @@ use Rattle.row_table.proofs.Place.{lower_bound-mono}
 use Rattle.row_table.proofs.table.RowTable.range.Goals as goal
 
 pub returns-clause-within : goal.returns-clause-within
-returns-clause-within g c = rw (c.place_of.ensures, c.place_of-2.ensures) (lower_bound-mono g.K.Ord.cmp g.met.K.Ord.total _ _ _ c.requires, prefix_len-le-length _ _)
+returns-clause-within g c = rw (c.place_of.ensures, c.place_of-2.ensures) (
+  lower_bound-mono g.K.Ord.cmp g.met.K.Ord.total _ _ _ c.requires,
+  prefix_len-le-length _ _,
+)

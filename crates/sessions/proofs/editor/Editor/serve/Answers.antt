@@ -6,7 +6,8 @@ use Rattle.sessions.proofs.editor.Editor.serve.Goals as goal
 pub unreachable-requires : goal.unreachable-requires
 unreachable-requires g c =
     let s = c.advance.new.self in
-    has_next c.args.book.now.opening c.args.book.now.entries c.args.number c.args.self.now s c.requires.editor c.advance.ensures.served c.advance.ensures.script c.requires.left
+    has_next c.args.book.now.opening c.args.book.now.entries c.args.number c.args.self.now s c.requires.editor c.advance.ensures.served
+    c.advance.ensures.script c.requires.left
     (subst (IsNext s) c.in_default.is c.in_ok-shared.ensures.next)
 
 pub returns-clause-ok : goal.returns-clause-ok

@@ -17,8 +17,10 @@ invariant_of-self-in-Some g c =
     let start = rw (c.in-Some.is) at c.in_ok-lower.ensures.start in
     let halves = rw (c.in-Some.is) at c.in_ok-lower.ensures.parts in
     rw (c.in-Ok.ensures.items) (
-      cut_in_two_parts g.K.Ord.cmp c.self.inside.entries.items c.args.place c.index.result.now c.in-Some.lower c.in-Some.upper lt c.index.ensures start halves c.self.invariant.0,
-      c.self.invariant.1 ∙ sym (ap length (cut_in_two_rows g.K.Ord.cmp c.self.inside.entries.items c.args.place c.index.result.now c.in-Some.lower c.in-Some.upper lt c.index.ensures start halves)),
+      cut_in_two_parts g.K.Ord.cmp c.self.inside.entries.items c.args.place c.index.result.now c.in-Some.lower c.in-Some.upper
+          lt c.index.ensures start halves c.self.invariant.0,
+      c.self.invariant.1 ∙ sym (ap length (cut_in_two_rows g.K.Ord.cmp c.self.inside.entries.items c.args.place c.index.result.now
+          c.in-Some.lower c.in-Some.upper lt c.index.ensures start halves)),
     )
 
 pub returns-in-Ok-clause-rows : goal.returns-in-Ok-clause-rows
@@ -26,4 +28,5 @@ returns-in-Ok-clause-rows g c =
     let lt : c.args.place < length c.self.inside.entries.items = rw (← c.self.view_is) at c.requires in
     let start = rw (c.in-Some.is) at c.in_ok-lower.ensures.start in
     let halves = rw (c.in-Some.is) at c.in_ok-lower.ensures.parts in
-    rw (← c.self.view_is, c.in-Ok.ensures.items) (cut_in_two_rows g.K.Ord.cmp c.self.inside.entries.items c.args.place c.index.result.now c.in-Some.lower c.in-Some.upper lt c.index.ensures start halves)
+    rw (← c.self.view_is, c.in-Ok.ensures.items) (cut_in_two_rows g.K.Ord.cmp c.self.inside.entries.items c.args.place c.index.result.now
+    c.in-Some.lower c.in-Some.upper lt c.index.ensures start halves)

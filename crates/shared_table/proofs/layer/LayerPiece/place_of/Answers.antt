@@ -24,4 +24,5 @@ returns g c =
     let old = part_rows c.self.inside.entries.items c.place_for-place.result c.index.result.now lt c.index.ensures in
     let own = c.place_of.ensures ∙ ap (λ rows. lower_bound g.K.Ord.cmp rows c.args.key.now) (c.piece.ensures ∙ old) in
     let before = rw (← c.self.view_is) at c.rows_before.ensures in
-    rw (← c.self.view_is) (ap₂ (λ m n. m + n) before own ∙ sym (lower_bound-block g.K.Ord.cmp (blocks_of c.self.inside.entries.items) c.args.key.now c.place_for-place.result found))
+    rw (← c.self.view_is) (ap₂ (λ m n. m + n) before own ∙ sym
+    (lower_bound-block g.K.Ord.cmp (blocks_of c.self.inside.entries.items) c.args.key.now c.place_for-place.result found))

@@ -18,7 +18,8 @@ returns-in-Ok-clause-ok g c =
 pub invariant_of-self-in-Err : goal.invariant_of-self-in-Err
 invariant_of-self-in-Err g c =
     let gap = rw (← c.self.view_is) at c.in-Err.ensures in
-    rw (c.in-Ok-insert.ensures.items, ← with_row_gap g.K.Ord.cmp _ _ _ gap c.args.value) (IsAscending-with_row g.K.Ord.cmp g.met.K.Ord.total _ _ _ c.self.invariant)
+    rw (c.in-Ok-insert.ensures.items, ← with_row_gap g.K.Ord.cmp _ _ _ gap c.args.value)
+    (IsAscending-with_row g.K.Ord.cmp g.met.K.Ord.total _ _ _ c.self.invariant)
 
 pub returns-in-Ok-insert-clause-ok : goal.returns-in-Ok-insert-clause-ok
 returns-in-Ok-insert-clause-ok g c =

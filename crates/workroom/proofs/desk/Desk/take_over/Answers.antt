@@ -16,7 +16,8 @@ invariant_of-self c =
     let other = c.from.inside in
     let after = c.merge.new.into in
     let same = ap (λ s. s.origin) c.merge.ensures.same in
-    let opening = ap (λ (d : DeskState). d.room.opening) (c.from.view_is) ∙ ap (λ room. room.opening) c.requires.room ∙ sym (ap (λ (d : DeskState). d.room.opening) c.self.view_is) in
+    let opening = ap (λ (d : DeskState). d.room.opening) (c.from.view_is) ∙ ap (λ room. room.opening) c.requires.room
+    ∙ sym (ap (λ (d : DeskState). d.room.opening) c.self.view_is) in
     subst (λ (c : Cell). IsDesk c after.observed desk.base desk.bench) (sym same)
     (copy_merged desk.seat.origin desk.seat.observed other.seat.observed after.observed desk.base desk.bench c.self.invariant
     (subst (λ (c : Cell). AreTold c other.seat.observed) opening c.from.invariant.told) c.merge.ensures.observed c.merge.ensures.begins)

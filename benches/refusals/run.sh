@@ -1,0 +1,28 @@
+#!/usr/bin/env bash
+# Refuses each allocation of a test in turn, one a run, and prints how the runs ended: benches/refusals/run.sh [CRATE TEST]. Without words the test is that of
+# commits to which memory is refused, in `book_tests`. Ends with status 1 where a run didn't pass. Wants rt and rustc.
+set -euo pipefail
+here=$(cd "$(dirname "$0")" && pwd)
+top=$(cd "$here/../.." && pwd)
+crate=${1:-book_tests}
+test=${2:-tests::memory::a_refused_commit_is_made_again}
+work=$(mktemp -d)
+trap 'rm -rf "$work"' EXIT
+rustc -O --edition 2021 --crate-type cdylib -o "$work/refuse.so" "$here/refuse.rs"
+(cd "$top/crates/$crate" && rt test) >"$work/log" 2>&1 || { tail "$work/log" >&2; exit 1; }
+
+# a run of the test in which the allocation of a number is refused, none for 0: what it wrote goes to `said`
+run_test() {
+    REFUSE=$1 LD_PRELOAD=$work/refuse.so "$top/crates/$crate/out/${crate}_tests" "$test" >"$work/said" 2>&1
+}
+
+run_test 0
+total=$(sed -n 's/^allocations //p' "$work/said")
+failed=0
+for number in $(seq "$total"); do
+    run_test "$number" && grep -q '^test result: ok' "$work/said" || { failed=$((failed + 1)); echo "allocation $number:"; tail -3 "$work/said"; }
+    sed -n '1p' "$work/said" >>"$work/ended"
+done
+echo "$test: $total allocations, each refused in a run of its own, $failed runs failed"
+sort "$work/ended" | uniq -c | sort -rn
+[ "$failed" = 0 ]

@@ -1,0 +1,106 @@
+//! A cell with its indexes.
+
+ghost use Rattle.std.specs.Prelude.{◌≡◌, ◌≤◌, IfOk, true};
+ghost use Rattle.cell_spec.specs.Edits.{find_their_records};
+ghost use Rattle.cell_spec.specs.Writable.{IsWritable};
+ghost use Rattle.history_spec.specs.Steps.{finding_limit};
+ghost use Rattle.rule_spec.specs.Affected.{affected_list, change_by};
+ghost use Rattle.rule_spec.specs.Findings.{all_findings, finding_total};
+ghost use Rattle.cell_bench.specs.Benches.{IsReachOf};
+
+use crate::verdicts::Verdicts;
+use affected_subjects::{Reach, affected_of, reach_of};
+use cell_spec::{Findings, Subject, Subjects};
+use chain_topo::Steps;
+use depend_map::DependMap;
+use edit_sets::EditSet;
+use finding_laws::verdict_tables_are_all;
+use record_store::RecordStore;
+use shared_table::{Shared, SharedTable};
+use std::alloc::{AllocError, Global};
+use std::marker::Model;
+use std::sync::ledger::Ledger;
+use tile_index::TileIndex;
+
+/// A writable cell with its findings, of which there are at most 262,144, and with what tells which of them edits can change: the tiles
+/// under its nodes and edges, and the keys that its subjects read. It is seen as the cell.
+#[derive(Drop)]
+pub(crate) struct IndexedCell {
+    pub(crate) store: RecordStore,
+    pub(crate) tiles: TileIndex,
+    pub(crate) map: DependMap,
+    pub(crate) verdicts: Verdicts,
+}
+
+impl Model for IndexedCell {
+    ghost use Rattle.s57_types.specs.declared.cell.Cell.{Cell as SpecCell};
+    ghost use Rattle.cell_bench.specs.Benches.{IsBench};
+
+    ghost Value = { SpecCell };
+
+    ghost view = { λ b. b.store };
+
+    ghost invariant = { λ b. IsBench b.store b.tiles b.map b.verdicts };
+}
+
+impl IndexedCell {
+    /// What is kept: the cell can be written, and has at most 262,144 findings.
+    pub(crate) fn known(&self)
+        ensures writable { IsWritable self.now }
+        ensures few { finding_total self.now ≤ finding_limit }
+    {
+        verdict_tables_are_all();
+        RecordStore::known(&self.store);
+    }
+
+    /// The store of the cell, to look into.
+    pub(crate) fn store(&self) -> &RecordStore
+        ensures { result.now ≡ self.now }
+    {
+        &self.store
+    }
+
+    /// All findings of the cell: for each subject that has some, those about it.
+    pub(crate) fn findings(&self) -> &SharedTable<Subject, Shared<Findings>>
+        ensures { result.now ≡ all_findings self.now }
+    {
+        verdict_tables_are_all();
+        self.verdicts.table()
+    }
+
+    /// How many findings the cell has.
+    pub(crate) fn finding_count(&self) -> u32
+        ensures { result ≡ finding_total self.now }
+    {
+        verdict_tables_are_all();
+        self.verdicts.count()
+    }
+
+    /// The affected subjects of the cell that edits leave, in the order in which they are looked at first.
+    ///
+    /// An `Err` is out of memory.
+    pub(crate) fn affected(&self, alloc: Global, edits: &EditSet) -> Result<Subjects, AllocError>
+        requires level { edits.now.nall ≡ self.now.head.nall }
+        requires found { find_their_records edits.now.edits self.now ≡ true }
+        ensures { IfOk result (λ list. list ≡ affected_list (change_by edits.now.edits self.now)) }
+    {
+        affected_of(alloc, &self.store, &self.tiles, &self.map, edits)
+    }
+
+    /// What edits that find their records reach. It looks up the name of each edit twice, and asks once for each key that they touch.
+    ///
+    /// An `Err` is out of memory.
+    pub(crate) fn reach<L: Ledger>(
+        &self,
+        alloc: Global,
+        edits: &EditSet,
+        steps: &mut Steps<L>,
+    ) -> Result<Reach, AllocError>
+        requires level { edits.now.nall ≡ self.now.head.nall }
+        requires found { find_their_records edits.now.edits self.now ≡ true }
+        ensures { IfOk result (IsReachOf edits.now.edits self.now) }
+    {
+        let reach = reach_of(alloc, &self.store, &self.tiles, &self.map, edits, steps)?;
+        Ok(reach)
+    }
+}

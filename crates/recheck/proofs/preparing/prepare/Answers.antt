@@ -1,0 +1,6 @@
+use Rattle.std.proofs.Common.{◌∙◌}
+use Rattle.recheck.proofs.Prepared.{rows_right}
+use Rattle.recheck.proofs.preparing.prepare.Goals as goal
+
+pub returns-clause-right : goal.returns-clause-right
+returns-clause-right g c = rows_right c.args.edits.edits c.args.bench.now c.make.result.rows (c.make.ensures.rows ∙ c.in_ok-rows.ensures)

@@ -1,0 +1,9 @@
+pub mod Chains
+pub mod FeatureTrace
+pub mod Refusals
+pub mod Attributes
+pub mod Features
+pub mod Causes
+pub mod Split
+pub mod Join
+pub mod Kept
