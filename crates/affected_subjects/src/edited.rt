@@ -33,12 +33,22 @@ use std::marker::Model;
 use std::sync::ledger::Ledger;
 
 /// A cell after edits, of which is known where nodes and edges lie and which subjects it has. It is seen as the edited cell.
-#[derive(Drop)]
 pub(crate) struct Edited<'a> {
     store: &'a RecordStore,
     map: &'a DependMap,
     edits: &'a EditSet,
     borne: Borne,
+}
+
+impl<'a> Drop for Edited<'a> {
+    fn drop(self) {
+        let Edited {
+            store: _,
+            map: _,
+            edits: _,
+            borne: _,
+        } = self;
+    }
 }
 
 impl<'a> Model for Edited<'a> {

@@ -12,9 +12,14 @@ use std::alloc::{AllocError, Global};
 use std::marker::Model;
 
 /// A tree of boxes around what has names, which contracts see as its leaves in some order.
-#[derive(Drop)]
 pub struct BoxTree {
     root: Node,
+}
+
+impl Drop for BoxTree {
+    fn drop(self) {
+        let BoxTree { root: _ } = self;
+    }
 }
 
 impl Model for BoxTree {

@@ -18,9 +18,14 @@ use std::marker::Model;
 
 /// A writable cell with its findings, of which there are at most 262,144, and with what tells which of them edits can change. It is seen
 /// as the cell. A copy is a count.
-#[derive(Drop)]
 pub struct Bench {
     pub(crate) indexed: Shared<IndexedCell>,
+}
+
+impl Drop for Bench {
+    fn drop(self) {
+        let Bench { indexed: _ } = self;
+    }
 }
 
 impl Model for Bench {

@@ -10,12 +10,22 @@ use std::marker::Model;
 
 /// A commit as it is prepared on a desk's copy of the cell: the base on which it rests, its edits with their guards, rows of
 /// affected subjects on the edited cell, and the edited cell itself where it was built ahead.
-#[derive(Drop)]
 pub struct Prepared {
     base: u32,
     edits: EditSet,
     rows: Rows,
     ahead: Option<BenchPlan>,
+}
+
+impl Drop for Prepared {
+    fn drop(self) {
+        let Prepared {
+            base: _,
+            edits: _,
+            rows: _,
+            ahead: _,
+        } = self;
+    }
 }
 
 impl Model for Prepared {

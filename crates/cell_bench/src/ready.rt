@@ -76,11 +76,20 @@ fn place_of(places: &SharedTable<Subject, usize>, subject: Subject) -> Option<us
 }
 
 /// Rows and invalidated keys, with the places of the rows that hold none of these keys.
-#[derive(Drop)]
 pub(crate) struct ReadyRows<'a> {
     rows: &'a Rows,
     stale: &'a [Key],
     places: SharedTable<Subject, usize>,
+}
+
+impl<'a> Drop for ReadyRows<'a> {
+    fn drop(self) {
+        let ReadyRows {
+            rows: _,
+            stale: _,
+            places: _,
+        } = self;
+    }
 }
 
 impl<'a> Model for ReadyRows<'a> {

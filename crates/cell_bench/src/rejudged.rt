@@ -15,11 +15,20 @@ use std::alloc::{AllocError, Global};
 use std::marker::Model;
 
 /// The findings so far, the changes of read sets so far, and how many of the findings are fresh.
-#[derive(Drop)]
 pub(crate) struct Rejudged {
     verdicts: Verdicts,
     changes: Vec<ReadChange>,
     fresh: u32,
+}
+
+impl Drop for Rejudged {
+    fn drop(self) {
+        let Rejudged {
+            verdicts: _,
+            changes: _,
+            fresh: _,
+        } = self;
+    }
 }
 
 impl Model for Rejudged {
@@ -108,6 +117,11 @@ impl Rejudged {
         ensures verdicts { result.0 ≡ self.rows }
         ensures changes { result.1.items ≡ self.changes }
     {
-        (self.verdicts, self.changes)
+        let Rejudged {
+            verdicts,
+            changes,
+            fresh: _,
+        } = self;
+        (verdicts, changes)
     }
 }

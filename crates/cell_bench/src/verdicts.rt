@@ -13,10 +13,15 @@ use std::marker::Model;
 
 /// The findings of each subject that has some, with how many they are in all. They are seen as rows in ascending order of the
 /// subjects. A copy shares them.
-#[derive(Drop)]
 pub(crate) struct Verdicts {
     table: FindingTable,
     count: u32,
+}
+
+impl Drop for Verdicts {
+    fn drop(self) {
+        let Verdicts { table: _, count: _ } = self;
+    }
 }
 
 impl Model for Verdicts {

@@ -13,10 +13,18 @@ use std::alloc::{AllocError, Global};
 use std::sync::ledger::Ledger;
 
 /// The pointers to names and the bearers of identifiers, in tables by name and by identifier.
-#[derive(Drop)]
 pub(crate) struct Merged {
     pub(crate) pointers: SharedTable<RecName, Shared<Refs>>,
     pub(crate) bearers: SharedTable<Lnam, Shared<Names>>,
+}
+
+impl Drop for Merged {
+    fn drop(self) {
+        let Merged {
+            pointers: _,
+            bearers: _,
+        } = self;
+    }
 }
 
 impl Merged {

@@ -35,12 +35,22 @@ fn left_under<'a>(head: &'a Option<Rec>, edit: &'a Edit) -> Option<&'a Rec>
 }
 
 /// A cell that is looked into, with edits laid over it: a look into the edited cell.
-#[derive(Drop)]
 pub struct Overlay<'a, B: Look> {
     base: &'a B,
     edits: &'a EditSet,
     head: Option<Rec>,
     merged: Merged,
+}
+
+impl<'a, B: Look> Drop for Overlay<'a, B> {
+    fn drop(self) {
+        let Overlay {
+            base: _,
+            edits: _,
+            head: _,
+            merged: _,
+        } = self;
+    }
 }
 
 impl<'a, B: Look> Model for Overlay<'a, B> {

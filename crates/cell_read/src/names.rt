@@ -10,9 +10,14 @@ use std::alloc::{AllocError, Global};
 use std::collections::BTreeSet;
 
 /// Names, each once.
-#[derive(Drop)]
 pub struct Names {
     names: BTreeSet<RecName>,
+}
+
+impl Drop for Names {
+    fn drop(self) {
+        let Names { names: _ } = self;
+    }
 }
 
 impl Names {

@@ -27,13 +27,24 @@ use std::sync::ledger::Ledger;
 
 /// A cell with its records sorted by name, its pointers by target and its features by identifier: each look-up is a
 /// binary search.
-#[derive(Drop)]
 pub struct ListLook<'a> {
     cell: &'a Cell,
     head: Rec,
     records: Vec<&'a Rec>,
     pointers: Groups<RecName, Ref>,
     identities: Groups<Lnam, RecName>,
+}
+
+impl<'a> Drop for ListLook<'a> {
+    fn drop(self) {
+        let ListLook {
+            cell: _,
+            head: _,
+            records: _,
+            pointers: _,
+            identities: _,
+        } = self;
+    }
 }
 
 impl<'a> Model for ListLook<'a> {

@@ -24,12 +24,22 @@ use turn_gate::Chronicle;
 
 /// A cell in the course of its editing: its bench, the commits that it took, and an entry for each answer. It is seen as the cell
 /// with which it was opened and its entries, which tell all else.
-#[derive(Drop)]
 pub struct Book {
     opening: Snapshot<Bench>,
     pub(crate) bench: Bench,
     pub(crate) accepted: Vec<Accepted>,
     pub(crate) entries: Vec<Entry>,
+}
+
+impl Drop for Book {
+    fn drop(self) {
+        let Book {
+            opening: _,
+            bench: _,
+            accepted: _,
+            entries: _,
+        } = self;
+    }
 }
 
 impl Model for Book {
@@ -122,7 +132,13 @@ impl Book {
     pub fn into_bench(self) -> Bench
         ensures { result ≡ (history_of self).cell }
     {
-        self.bench
+        let Book {
+            opening: _,
+            bench,
+            accepted: _,
+            entries: _,
+        } = self;
+        bench
     }
 
     /// The edit sets that were accepted after a base.

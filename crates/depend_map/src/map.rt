@@ -20,10 +20,18 @@ use std::marker::Model;
 
 /// The read sets of records, sides and identifiers, seen as rows of a subject and its keys, in ascending order of the subjects.
 /// Copies share what they hold, and a change of one of two leaves the other as it is.
-#[derive(Drop)]
 pub struct DependMap {
     reads: SharedTable<Subject, Shared<Keys>>,
     readers: ReaderSet,
+}
+
+impl Drop for DependMap {
+    fn drop(self) {
+        let DependMap {
+            reads: _,
+            readers: _,
+        } = self;
+    }
 }
 
 impl Model for DependMap {

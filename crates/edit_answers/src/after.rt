@@ -13,11 +13,20 @@ use std::alloc::{AllocError, Global};
 use std::marker::Model;
 
 /// The pointers and identifiers of the records that an edit set leaves, sorted by key. It is seen as the edit set.
-#[derive(Drop)]
 pub struct EditAnswers<'a> {
     edits: &'a EditSet,
     pointers: Groups<RecName, Ref>,
     bearers: Groups<Lnam, RecName>,
+}
+
+impl<'a> Drop for EditAnswers<'a> {
+    fn drop(self) {
+        let EditAnswers {
+            edits: _,
+            pointers: _,
+            bearers: _,
+        } = self;
+    }
 }
 
 impl<'a> Model for EditAnswers<'a> {

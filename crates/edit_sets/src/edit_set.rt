@@ -18,9 +18,15 @@ use std::sync::Arc;
 /// From 1 to 4,096 edits of different names, what each leaves can be written where national attributes are at a level NALL, and
 /// up to 4,096 guards: names that the edits rest on without changing what they name. It is seen as its edits, its guards and
 /// that level. A copy shares them.
-#[derive(Debug, Drop)]
+#[derive(Debug)]
 pub struct EditSet {
     parts: Arc<Parts, Global>,
+}
+
+impl Drop for EditSet {
+    fn drop(self) {
+        let EditSet { parts: _ } = self;
+    }
 }
 
 /// What an edit set keeps.

@@ -15,10 +15,19 @@ use s57_types::RecName;
 use std::alloc::{AllocError, Global};
 
 /// The names of edits in order, each once, and of each name the place from 0 of the edit that has it, once it is noted.
-#[derive(Debug, Drop)]
+#[derive(Debug)]
 pub(crate) struct Places {
     pub(crate) names: Names,
     pub(crate) places: Vec<Option<u32>>,
+}
+
+impl Drop for Places {
+    fn drop(self) {
+        let Places {
+            names: _,
+            places: _,
+        } = self;
+    }
 }
 
 /// The names of edits.

@@ -39,10 +39,19 @@ const SCRIPT_LIMIT: usize = 1_048_576;
 const ORDER_LIMIT: usize = 4_194_304;
 
 /// A cell with its findings.
-#[derive(Debug, Drop)]
+#[derive(Debug)]
 pub struct Checked {
     pub cell: Cell,
     pub findings: Findings,
+}
+
+impl Drop for Checked {
+    fn drop(self) {
+        let Checked {
+            cell: _,
+            findings: _,
+        } = self;
+    }
 }
 
 /// The status of a refused input.

@@ -13,17 +13,29 @@ use room_laws::a_history_has_the_report_of_its_order;
 use std::alloc::{AllocError, Global};
 
 /// A file that is to be made: its name and its bytes.
-#[derive(Debug, Drop)]
+#[derive(Debug)]
 pub struct Export {
     pub name: String,
     pub bytes: Vec<u8>,
 }
 
+impl Drop for Export {
+    fn drop(self) {
+        let Export { name: _, bytes: _ } = self;
+    }
+}
+
 /// The text that is put, and the file that is made then.
-#[derive(Debug, Drop)]
+#[derive(Debug)]
 pub struct Work {
     pub text: Vec<u8>,
     pub export: Option<Export>,
+}
+
+impl Drop for Work {
+    fn drop(self) {
+        let Work { text: _, export: _ } = self;
+    }
 }
 
 /// The report of a log and of the lines of its sessions, and the file of the cell that is left: those of one thread that runs the sessions'

@@ -17,18 +17,32 @@ use std::alloc::{AllocError, Global};
 use std::sync::ledger::Ledger;
 
 /// What a cell answers to a key: the record of a name, and whether a feature bears an identifier.
-#[derive(Drop)]
 pub(crate) struct Answer<'a> {
     pub(crate) key: Key,
     pub(crate) record: Option<&'a Rec>,
     pub(crate) is_borne: bool,
 }
 
+impl<'a> Drop for Answer<'a> {
+    fn drop(self) {
+        let Answer {
+            key: _,
+            record: _,
+            is_borne: _,
+        } = self;
+    }
+}
+
 /// What a cell answers to some keys: the record of each name, and whether a feature bears each identifier. Pointers to a
 /// record aren't kept. Each key was looked up once; to find its answer again takes no look-up.
-#[derive(Drop)]
 pub struct NearRecords<'a> {
     pub(crate) answers: Vec<Answer<'a>>,
+}
+
+impl<'a> Drop for NearRecords<'a> {
+    fn drop(self) {
+        let NearRecords { answers: _ } = self;
+    }
 }
 
 fn answer_to<'a, B: Look, L: Ledger>(look: &'a B, key: Key, steps: &mut Steps<L>) -> Answer<'a>

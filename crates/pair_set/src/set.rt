@@ -13,9 +13,14 @@ use std::marker::Model;
 
 /// A set of pairs in ascending order, by their firsts, then by their seconds. Each pair is a row by itself, so that no change copies the
 /// seconds of a first that has many. Copies share what they hold, and a change of one of two leaves the other as it is.
-#[derive(Drop)]
 pub struct PairSet<A: Ord + Drop, B: Ord + Drop> {
     rows: SharedTable<(A, B), ()>,
+}
+
+impl<A: Ord + Drop, B: Ord + Drop> Drop for PairSet<A, B> {
+    fn drop(self) {
+        let PairSet { rows: _ } = self;
+    }
 }
 
 impl<A: Ord + Drop, B: Ord + Drop> Model for PairSet<A, B> {

@@ -14,10 +14,18 @@ use shared_table::{Shared, SharedTable};
 use std::alloc::{AllocError, Global};
 
 /// The pointers to names and the bearers of identifiers, each in a table. No list is empty.
-#[derive(Drop)]
 pub(crate) struct Answers {
     pub(crate) pointers: SharedTable<RecName, Shared<Refs>>,
     pub(crate) bearers: SharedTable<Lnam, Shared<Names>>,
+}
+
+impl Drop for Answers {
+    fn drop(self) {
+        let Answers {
+            pointers: _,
+            bearers: _,
+        } = self;
+    }
 }
 
 impl Answers {

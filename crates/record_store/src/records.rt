@@ -84,13 +84,7 @@ impl Records {
         ensures { IfOk result (λ records. records ≡ cell) }
     {
         edits_add_up();
-        let Cell {
-            head,
-            vi,
-            vc,
-            ve,
-            fe,
-        } = cell;
+        let (head, vi, vc, ve, fe) = cell.into_parts();
         let all = all_of(vi, vc, ve, fe)?;
         let mut records = Records::make(alloc, head)?;
         for rec in all {

@@ -25,10 +25,18 @@ use std::sync::ledger::Ledger;
 
 /// A writable cell with its records by name and in file order, the pointers to each name and the bearers of each identifier. It is seen as
 /// the cell. Copies share what they hold, and a change of one of two leaves the other as it is.
-#[derive(Drop)]
 pub struct RecordStore {
     pub(crate) records: Records,
     pub(crate) answers: Answers,
+}
+
+impl Drop for RecordStore {
+    fn drop(self) {
+        let RecordStore {
+            records: _,
+            answers: _,
+        } = self;
+    }
 }
 
 impl Model for RecordStore {

@@ -14,9 +14,15 @@ use text_lines::{push_bytes, push_number, push_text};
 
 /// The lines of a session, one command's after the other's. It is seen as its bytes. An `Err` of a call means out of memory, and leaves the
 /// lines as they were.
-#[derive(Debug, Drop)]
+#[derive(Debug)]
 pub struct Transcript {
     lines: Vec<u8>,
+}
+
+impl Drop for Transcript {
+    fn drop(self) {
+        let Transcript { lines: _ } = self;
+    }
 }
 
 impl Model for Transcript {

@@ -12,9 +12,19 @@ pub struct EdgeLine {
 
 /// A row of an area's boundary: the place of the spatial pointer from 1, its usage indicator (USAG), and the edge's
 /// line in the pointer's direction.
-#[derive(Debug, Drop)]
+#[derive(Debug)]
 pub struct BoundaryRow {
     pub place: u32,
     pub usag: u8,
     pub line: EdgeLine,
+}
+
+impl Drop for BoundaryRow {
+    fn drop(self) {
+        let BoundaryRow {
+            place: _,
+            usag: _,
+            line: _,
+        } = self;
+    }
 }

@@ -43,7 +43,7 @@ pub struct Partner {
 
 /// A vector record (S-57 Part 3, 7.7.1): its name, its version, its attributes (ATTV), its pointers (VRPT), its 2-D
 /// coordinates (SG2D) and its soundings (SG3D).
-#[derive(Debug, Drop)]
+#[derive(Debug)]
 pub struct Vector {
     pub name: RecName,
     pub rver: u16,
@@ -53,10 +53,23 @@ pub struct Vector {
     pub deep: Deep,
 }
 
+impl Drop for Vector {
+    fn drop(self) {
+        let Vector {
+            name: _,
+            rver: _,
+            attrs: _,
+            ends: _,
+            plane: _,
+            deep: _,
+        } = self;
+    }
+}
+
 /// A feature record (S-57 Part 3, 7.6): its name, geometric primitive, group, object class and version, its
 /// identifier (FOID), its attributes (ATTF) and national attributes (NATF), its pointers to features (FFPT) and to
 /// vector records (FSPT).
-#[derive(Debug, Drop)]
+#[derive(Debug)]
 pub struct Feature {
     pub name: RecName,
     pub prim: u8,
@@ -68,6 +81,23 @@ pub struct Feature {
     pub natf: Attrs,
     pub partners: Partners,
     pub places: Places,
+}
+
+impl Drop for Feature {
+    fn drop(self) {
+        let Feature {
+            name: _,
+            prim: _,
+            grup: _,
+            objl: _,
+            rver: _,
+            foid: _,
+            attf: _,
+            natf: _,
+            partners: _,
+            places: _,
+        } = self;
+    }
 }
 
 /// What has a name: a vector record, a feature record, or the head of a cell, which is none of the cell's records.

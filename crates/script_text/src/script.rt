@@ -11,9 +11,15 @@ use text_spec::Command;
 pub(crate) const MOST_COMMANDS: usize = 50_000;
 
 /// The commands of one session, at most 50,000. It is seen as their list.
-#[derive(Debug, Drop)]
+#[derive(Debug)]
 pub struct Script {
     commands: Vec<Command>,
+}
+
+impl Drop for Script {
+    fn drop(self) {
+        let Script { commands: _ } = self;
+    }
 }
 
 impl Model for Script {

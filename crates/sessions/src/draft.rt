@@ -11,10 +11,19 @@ use std::alloc::Global;
 use std::marker::Model;
 
 /// The edits and the guards of a session's next commit.
-#[derive(Debug, Drop)]
+#[derive(Debug)]
 pub(crate) struct Draft {
     pub(crate) edits: Vec<Edit>,
     pub(crate) guards: Vec<RecName>,
+}
+
+impl Drop for Draft {
+    fn drop(self) {
+        let Draft {
+            edits: _,
+            guards: _,
+        } = self;
+    }
 }
 
 impl Model for Draft {

@@ -26,11 +26,20 @@ use std::sync::ledger::Ledger;
 use std::thread::Threads;
 
 /// A session with its copy of the cell, which is that after its base: the newest that an answer showed it.
-#[derive(Drop)]
 pub(crate) struct Editor {
     session: Session,
     base: u32,
     bench: Bench,
+}
+
+impl Drop for Editor {
+    fn drop(self) {
+        let Editor {
+            session: _,
+            base: _,
+            bench: _,
+        } = self;
+    }
 }
 
 /// The answer of a log. A log that isn't full refuses only out of memory.
@@ -144,6 +153,18 @@ impl Editor {
         self.follow(alloc, book, &reply)
     }
 
+    /// Its session.
+    fn into_session(self) -> Session
+        ensures { result ≡ self.session }
+    {
+        let Editor {
+            session,
+            base: _,
+            bench: _,
+        } = self;
+        session
+    }
+
     /// Does the commands that are left, none of which all sessions see, and gives the session's lines.
     ///
     /// An `Err` means out of memory.
@@ -153,6 +174,6 @@ impl Editor {
     {
         let mut editor = self;
         editor.session.advance(alloc, &editor.bench, editor.base)?;
-        Ok(editor.session.into_transcript())
+        Ok(editor.into_session().into_transcript())
     }
 }

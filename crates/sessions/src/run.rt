@@ -47,10 +47,18 @@ pub fn load_bench(alloc: Global, cell: Cell) -> Result<Bench, LoadRefusal>
 }
 
 /// What is left of a run: the log of its history, and the lines of each session.
-#[derive(Drop)]
 pub struct Replayed {
     pub book: Book,
     pub transcripts: Vec<Transcript>,
+}
+
+impl Drop for Replayed {
+    fn drop(self) {
+        let Replayed {
+            book: _,
+            transcripts: _,
+        } = self;
+    }
 }
 
 /// An editor for each script, on the cell of a log.

@@ -38,12 +38,23 @@ enum Stop {
 }
 
 /// A session: its script, how much of it is done, its draft and its lines.
-#[derive(Debug, Drop)]
+#[derive(Debug)]
 pub struct Session {
     script: Script,
     next: usize,
     draft: Draft,
     transcript: Transcript,
+}
+
+impl Drop for Session {
+    fn drop(self) {
+        let Session {
+            script: _,
+            next: _,
+            draft: _,
+            transcript: _,
+        } = self;
+    }
 }
 
 impl Model for Session {
@@ -170,6 +181,12 @@ impl Session {
     pub fn into_transcript(self) -> Transcript
         ensures { result ≡ self.lines }
     {
-        self.transcript
+        let Session {
+            script: _,
+            next: _,
+            draft: _,
+            transcript,
+        } = self;
+        transcript
     }
 }

@@ -20,9 +20,14 @@ type Root<K, V> = Layer<K, V, Layer<K, V, Layer<K, V, Layer<K, V, Run<K, V>>>>>;
 
 /// A sorted table, seen as its rows in ascending order of their keys. A copy is a count and shares all pieces, and a change of one of
 /// the two leaves the other as it is. An `Err` means out of memory, and leaves the table as it was.
-#[derive(Drop)]
 pub struct SharedTable<K: Ord + Drop, V: Drop> {
     root: Option<Arc<Root<K, V>, Global>>,
+}
+
+impl<K: Ord + Drop, V: Drop> Drop for SharedTable<K, V> {
+    fn drop(self) {
+        let SharedTable { root: _ } = self;
+    }
 }
 
 impl<K: Ord + Drop, V: Drop> Model for SharedTable<K, V> {

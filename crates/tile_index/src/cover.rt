@@ -25,10 +25,19 @@ use std::marker::Model;
 
 /// The ranges of tiles under the segments of a connected node or an edge, ascending, each once, and the least box around them. Each range
 /// has a tile.
-#[derive(Debug, Drop)]
+#[derive(Debug)]
 pub(crate) struct Cover {
     ranges: Vec<TileRange>,
     extent: Option<Box4>,
+}
+
+impl Drop for Cover {
+    fn drop(self) {
+        let Cover {
+            ranges: _,
+            extent: _,
+        } = self;
+    }
 }
 
 impl Model for Cover {

@@ -24,11 +24,20 @@ use std::marker::Model;
 
 /// The tiles under connected nodes and edges, seen as rows of a name and its covering, in ascending order of the names. Copies share what
 /// they hold, and a change of one of two leaves the other as it is.
-#[derive(Drop)]
 pub struct TileIndex {
     kept: SharedTable<RecName, Shared<Cover>>,
     in_tiles: PairSet<Tile, RecName>,
     oversized: SharedTable<RecName, ()>,
+}
+
+impl Drop for TileIndex {
+    fn drop(self) {
+        let TileIndex {
+            kept: _,
+            in_tiles: _,
+            oversized: _,
+        } = self;
+    }
 }
 
 impl Model for TileIndex {

@@ -27,11 +27,20 @@ use turn_gate::{Gate, GateSeat};
 
 /// A compiler's desk in a workroom: a copy of the cell as it is after so many accepted commits, its base. It is seen with what it has
 /// observed of the history and with its own calls. Its calls are those of [`crate::Workroom`].
-#[derive(Drop)]
 pub struct Desk {
     seat: GateSeat<Book>,
     bench: Bench,
     base: u32,
+}
+
+impl Drop for Desk {
+    fn drop(self) {
+        let Desk {
+            seat: _,
+            bench: _,
+            base: _,
+        } = self;
+    }
 }
 
 impl Model for Desk {
@@ -64,7 +73,12 @@ impl Desk {
         ensures observed { result.observed ≡ self.seen }
         ensures own { result.own ≡ self.own }
     {
-        self.seat
+        let Desk {
+            seat,
+            bench: _,
+            base: _,
+        } = self;
+        seat
     }
 
     /// Its number, from 1 on.

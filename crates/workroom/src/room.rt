@@ -29,11 +29,20 @@ const DESK_LIMIT: u32 = 16;
 
 /// A workroom for one cell: the log of its editing history behind a lock, the lock's own handle, which makes no calls, and the bench
 /// of the opening cell for new desks. It is seen as which room it is, and how many desks were made.
-#[derive(Drop)]
 pub struct Workroom {
     gate: Gate<Book>,
     root: GateSeat<Book>,
     bench: Bench,
+}
+
+impl Drop for Workroom {
+    fn drop(self) {
+        let Workroom {
+            gate: _,
+            root: _,
+            bench: _,
+        } = self;
+    }
 }
 
 impl Model for Workroom {

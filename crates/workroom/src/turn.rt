@@ -27,11 +27,20 @@ pub(crate) enum Ask {
 
 /// What a turn gives: the answer; a copy of the log's bench, where the answer moves the base and there is memory for it; and the
 /// bench that a commit replaced, which is dropped after the turn.
-#[derive(Drop)]
 pub(crate) struct Turned {
     pub(crate) reply: Reply,
     pub(crate) bench: Option<Bench>,
     pub(crate) replaced: Option<Bench>,
+}
+
+impl Drop for Turned {
+    fn drop(self) {
+        let Turned {
+            reply: _,
+            bench: _,
+            replaced: _,
+        } = self;
+    }
 }
 
 impl Turned {
@@ -50,12 +59,22 @@ impl Turned {
 }
 
 /// What a desk with this base asks in its turn.
-#[derive(Drop)]
 pub(crate) struct Turn {
     alloc: Global,
     base: u32,
     ask: Ask,
     seat: Snapshot<GateSeat<Book>>,
+}
+
+impl Drop for Turn {
+    fn drop(self) {
+        let Turn {
+            alloc: _,
+            base: _,
+            ask: _,
+            seat: _,
+        } = self;
+    }
 }
 
 impl Model for Turn {
