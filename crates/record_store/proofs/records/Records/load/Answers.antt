@@ -1,15 +1,19 @@
-use Rattle.std.proofs.Common.{◌≡◌, ◌∷◌, arith, sym, ap, subst, ◌∙◌}
+use Rattle.std.proofs.Common.{◌≡◌, ◌∷◌, ◌++◌, arith, sym, ap, subst, ◌∙◌}
 use Rattle.cell_spec.specs.Lookup.{all_records}
 use Rattle.row_table.proofs.Runs.{nil_from_length}
+use Rattle.record_store.specs.Lists.{empty_of}
 use Rattle.record_store.proofs.Loaded.{IsLeft, all_added, loaded_cell, loaded_fits, one_fits, own_kinds, rest_left}
 use Rattle.record_store.proofs.records.Records.load.Goals as goal
 
 pub loop-rec-init : goal.loop-rec-init
 loop-rec-init c =
     let cell = c.args.cell in
-    let items = c.into_iter-rec-iterator.ensures.into_iter_gives.0 ∙ c.in_ok-all.ensures in
+    let parts = c.into_parts-head.ensures in
+    let listed : (c.into_parts-head.result.1 ++ c.into_parts-head.result.2 ++ c.into_parts-head.result.3 ++ c.into_parts-head.result.4)
+        ≡ all_records cell = λ i. parts.vi i ++ parts.vc i ++ parts.ve i ++ parts.fe i in
+    let items = c.into_iter-rec-iterator.ensures.into_iter_gives.0 ∙ c.in_ok-all.ensures ∙ listed in
     subst (λ rest. IsLeft cell rest c.in_ok-records.records) (sym items)
-    (subst (IsLeft cell (all_records cell)) (sym c.in_ok-records.ensures)
+    (subst (IsLeft cell (all_records cell)) (sym (c.in_ok-records.ensures ∙ ap empty_of parts.head))
     (record { fits = loaded_fits cell c.requires; leaves = loaded_cell cell (own_kinds cell c.requires) }))
 
 pub added-requires : goal.added-requires
