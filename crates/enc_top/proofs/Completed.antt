@@ -98,6 +98,8 @@ use Rattle.report_text.specs.declared.status.Status.TheVariants.{
   BadOrder,
   Stuck,
   TooManyFindings,
+  Refused,
+  OpRefused,
 }
 use Rattle.enc_top.proofs.OneAnswer.{apart, ok_not_err, one_cell, one_output, one_scripts}
 
@@ -265,6 +267,8 @@ done_of form files task (BadOrder place) good is = absurd (apart form task (BadO
 done_of form files task (Stuck desk serial) good is = absurd
     (apart form task (Stuck desk serial) (one_output form files (Ok task) (Err (Stuck desk serial)) good is))
 done_of form files task TooManyFindings good is = absurd (apart form task TooManyFindings (one_output form files (Ok task) (Err TooManyFindings) good is))
+done_of form files task (Refused refusal) good is = absurd (apart form task (Refused refusal) (one_output form files (Ok task) (Err (Refused refusal)) good is))
+done_of form files task (OpRefused cause) good is = absurd (apart form task (OpRefused cause) (one_output form files (Ok task) (Err (OpRefused cause)) good is))
 
 -- good files of sessions in threads leave no refusal
 no_bad_room : (cell out : List ℕ) (scripts : List (List ℕ)) (files : Files) (status : Status) → AreGood (room_form cell out scripts) files
@@ -291,6 +295,8 @@ room_done cell out scripts files NoMemory good is = absurd (no_bad_room cell out
 room_done cell out scripts files (BadOrder place) good is = absurd (no_bad_room cell out scripts files (BadOrder place) good is)
 room_done cell out scripts files (Stuck desk serial) good is = absurd (no_bad_room cell out scripts files (Stuck desk serial) good is)
 room_done cell out scripts files TooManyFindings good is = absurd (no_bad_room cell out scripts files TooManyFindings good is)
+room_done cell out scripts files (Refused refusal) good is = absurd (no_bad_room cell out scripts files (Refused refusal) good is)
+room_done cell out scripts files (OpRefused cause) good is = absurd (no_bad_room cell out scripts files (OpRefused cause) good is)
 
 good_done : (form : Form) (files : Files) (status : Status) → FewScripts form → IsSteady form files → IsExpected form files status → status ≡ Done
 good_done form files status few good is = let output = good_output form files few good in done_of form files output.0 status output.1 is

@@ -44,6 +44,8 @@ use Rattle.report_text.specs.declared.status.Status.TheVariants.{
   BadOrder,
   Stuck,
   TooManyFindings,
+  Refused,
+  OpRefused,
 }
 
 -- a relation that has one answer at most
@@ -97,6 +99,8 @@ fault_of session bytes NoMemory bad = absurd bad
 fault_of session bytes (BadOrder place) bad = absurd bad
 fault_of session bytes (Stuck desk serial) bad = absurd bad
 fault_of session bytes TooManyFindings bad = absurd bad
+fault_of session bytes (Refused refusal) bad = absurd bad
+fault_of session bytes (OpRefused cause) bad = absurd bad
 
 same_commands : (a b : List Command) → ◌≡◌ {A = Result (List Command) (ℕ × ℕ)} (Ok a) (Ok b) → a ≡ b
 same_commands a b e = cc

@@ -32,6 +32,8 @@ use Rattle.report_text.specs.declared.status.Status.TheVariants.{
   BadOrder,
   Stuck,
   TooManyFindings,
+  Refused,
+  OpRefused,
 }
 
 -- how many bytes input files may have
@@ -223,6 +225,8 @@ IsInputStatus IsInput NoMemory = Unit {0}
 IsInputStatus IsInput (BadOrder place) = Unit {0}
 IsInputStatus IsInput (Stuck desk serial) = ⊥
 IsInputStatus IsInput TooManyFindings = Unit {0}
+IsInputStatus IsInput (Refused refusal) = ⊥
+IsInputStatus IsInput (OpRefused cause) = ⊥
 
 -- one of these names
 abbrev pub IsAmong : List (List ℕ) → List ℕ → Type 0

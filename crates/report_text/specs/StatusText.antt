@@ -1,6 +1,7 @@
 -- The number and the line of each status. This project's own.
 use Rattle.std.specs.Prelude.{ℕ, List, [], ◌∷◌, codes}
 use Rattle.std.specs.Fmt.{decimal}
+use Rattle.history_spec.specs.ReportText.{refusal_words}
 use Rattle.text_spec.specs.Lines.{line}
 use Rattle.report_text.specs.declared.status.Status.{Status}
 use Rattle.report_text.specs.declared.status.Status.TheVariants.{
@@ -16,6 +17,8 @@ use Rattle.report_text.specs.declared.status.Status.TheVariants.{
   BadOrder,
   Stuck,
   TooManyFindings,
+  Refused,
+  OpRefused,
 }
 
 -- the exit status; 1 is left to the runtime
@@ -32,6 +35,8 @@ status_number NoMemory = 9
 status_number (BadOrder place) = 10
 status_number (Stuck desk serial) = 11
 status_number TooManyFindings = 12
+status_number (Refused refusal) = 15
+status_number (OpRefused cause) = 18
 
 -- the line on the error output, or nothing where all is done
 abbrev pub status_line : Status → List ℕ
@@ -49,3 +54,5 @@ status_line NoMemory = line (codes "enc_cell: no memory") []
 status_line (BadOrder place) = line (codes "enc_cell: bad order") (codes "place" ∷ decimal place ∷ [])
 status_line (Stuck desk serial) = line (codes "enc_cell: stuck") (codes "desk" ∷ decimal desk ∷ codes "serial" ∷ decimal serial ∷ [])
 status_line TooManyFindings = line (codes "enc_cell: too many findings") []
+status_line (Refused refusal) = line (codes "enc_cell: refused") (refusal_words refusal)
+status_line (OpRefused cause) = line (codes "enc_cell: op refused") (decimal cause ∷ [])

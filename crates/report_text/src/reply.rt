@@ -45,7 +45,7 @@ fn push_form_words(out: &mut Vec<u8>, fault: FormFault) -> Result<(), AllocError
 }
 
 /// Appends the words of why a cell doesn't take the edits.
-fn push_refusal_words(out: &mut Vec<u8>, refusal: StateRefusal) -> Result<(), AllocError>
+pub(crate) fn push_refusal_words(out: &mut Vec<u8>, refusal: StateRefusal) -> Result<(), AllocError>
     ensures { OnOk result (out.new.items ≡ out.old.items ++ spaced_words (refusal_words refusal)) }
 {
     match refusal {

@@ -4,9 +4,11 @@ ghost use Rattle.std.specs.Prelude.{◌≡◌, ◌++◌, ◌∷◌, [], OnErr, O
 ghost use Rattle.text_spec.specs.Lines.{line as line_lem};
 ghost use Rattle.report_text.specs.StatusText.{status_line, status_number};
 
+use crate::reply::push_refusal_words;
+use history_spec::StateRefusal;
 use s57_types::{CellFault, Text};
 use std::alloc::{AllocError, Global};
-use text_lines::{push_bytes, push_numbered, push_text};
+use text_lines::{push_bytes, push_number, push_numbered, push_text};
 
 /// How a call of the program ended.
 #[derive(Debug, Drop)]
@@ -35,6 +37,10 @@ pub enum Status {
     Stuck(u32, u32),
     /// The cell has too many findings.
     TooManyFindings,
+    /// The cell doesn't take the edits.
+    Refused(StateRefusal),
+    /// Edges can't be split or joined so: the number of the cause.
+    OpRefused(u32),
 }
 
 impl Status {
@@ -55,6 +61,8 @@ impl Status {
             Status::BadOrder(_) => 10,
             Status::Stuck(..) => 11,
             Status::TooManyFindings => 12,
+            Status::Refused(_) => 15,
+            Status::OpRefused(_) => 18,
         }
     }
 }
@@ -98,6 +106,8 @@ fn push_status(out: &mut Vec<u8>, status: &Status) -> Result<(), AllocError>
         Status::BadOrder(place) => push_bad_order(out, *place),
         Status::Stuck(desk, serial) => push_stuck(out, *desk, *serial),
         Status::TooManyFindings => push_text(out, "enc_cell: too many findings\n"),
+        Status::Refused(refusal) => push_refused(out, *refusal),
+        Status::OpRefused(cause) => push_op_refused(out, *cause),
     }
 }
 
@@ -203,4 +213,22 @@ fn push_stuck(out: &mut Vec<u8>, desk: u32, serial: u32) -> Result<(), AllocErro
         &numbered("desk", desk),
         &numbered("serial", serial),
     )
+}
+
+/// Appends the line of edits that a cell doesn't take.
+fn push_refused(out: &mut Vec<u8>, refusal: StateRefusal) -> Result<(), AllocError>
+    ensures { OnOk result (out.new.items ≡ out.old.items ++ status_line (Status.Refused refusal)) }
+{
+    push_text(out, "enc_cell: refused")?;
+    push_refusal_words(out, refusal)?;
+    push_text(out, "\n")
+}
+
+/// Appends the line of edges that can't be split or joined.
+fn push_op_refused(out: &mut Vec<u8>, cause: u32) -> Result<(), AllocError>
+    ensures { OnOk result (out.new.items ≡ out.old.items ++ status_line (Status.OpRefused cause)) }
+{
+    push_text(out, "enc_cell: op refused")?;
+    push_number(out, cause)?;
+    push_text(out, "\n")
 }
