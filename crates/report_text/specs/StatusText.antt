@@ -55,4 +55,4 @@ status_line (BadOrder place) = line (codes "enc_cell: bad order") (codes "place"
 status_line (Stuck desk serial) = line (codes "enc_cell: stuck") (codes "desk" ∷ decimal desk ∷ codes "serial" ∷ decimal serial ∷ [])
 status_line TooManyFindings = line (codes "enc_cell: too many findings") []
 status_line (Refused refusal) = line (codes "enc_cell: refused") (refusal_words refusal)
-status_line (OpRefused cause) = line (codes "enc_cell: op refused") (decimal cause ∷ [])
+status_line (OpRefused cause) = line (codes "enc_cell: op") (codes "refused" ∷ decimal cause ∷ [])

@@ -8,7 +8,7 @@ use crate::reply::push_refusal_words;
 use history_spec::StateRefusal;
 use s57_types::{CellFault, Text};
 use std::alloc::{AllocError, Global};
-use text_lines::{push_bytes, push_number, push_numbered, push_text};
+use text_lines::{push_bytes, push_numbered, push_text};
 
 /// How a call of the program ended.
 #[derive(Debug, Drop)]
@@ -228,7 +228,5 @@ fn push_refused(out: &mut Vec<u8>, refusal: StateRefusal) -> Result<(), AllocErr
 fn push_op_refused(out: &mut Vec<u8>, cause: u32) -> Result<(), AllocError>
     ensures { OnOk result (out.new.items ≡ out.old.items ++ status_line (Status.OpRefused cause)) }
 {
-    push_text(out, "enc_cell: op refused")?;
-    push_number(out, cause)?;
-    push_text(out, "\n")
+    push_one(out, "enc_cell: op", &numbered("refused", cause))
 }
