@@ -72,8 +72,8 @@ refused_cause sticks form before after NoMemory silent asked = (asked, silent)
 refused_cause sticks form before after (BadOrder place) silent asked = (asked.0, silent, asked.1)
 refused_cause sticks form before after (Stuck desk serial) silent asked = (asked.0, silent, asked.1)
 refused_cause sticks form before after TooManyFindings silent asked = (asked.0, silent, asked.1)
-refused_cause sticks form before after (Refused refusal) silent asked = absurd asked
-refused_cause sticks form before after (OpRefused cause) silent asked = absurd asked
+refused_cause sticks form before after (Refused refusal) silent asked = (asked.0, (asked.1, silent, asked.2))
+refused_cause sticks form before after (OpRefused cause) silent asked = (asked.0, (asked.1, silent, asked.2))
 
 -- ---- where no device failed
 of_told : (told : Option Files) (files : Files) (P : Files → Type 0) → told ≡ Some files → IfSome told P → P files
@@ -105,8 +105,8 @@ exact_of sticks form before after NoMemory cause files smooth calm = inr refl
 exact_of sticks form before after (BadOrder place) cause files smooth calm = inl (asked_of form before after files (Err (BadOrder place)) smooth cause.2)
 exact_of sticks form before after (Stuck desk serial) cause files smooth calm = absurd (calm cause.0)
 exact_of sticks form before after TooManyFindings cause files smooth calm = inl (asked_of form before after files (Err TooManyFindings) smooth cause.2)
-exact_of sticks form before after (Refused refusal) cause files smooth calm = absurd cause
-exact_of sticks form before after (OpRefused cause) cause files smooth calm = absurd cause
+exact_of sticks form before after (Refused refusal) cause files smooth calm = inl (asked_of form before after files (Err (Refused refusal)) smooth cause.1.2)
+exact_of sticks form before after (OpRefused why) cause files smooth calm = inl (asked_of form before after files (Err (OpRefused why)) smooth cause.1.2)
 
 pub exact_from_cause : (sticks : Type 0) (words : List (List ℕ)) (before after : Outside) (status : Status)
     → IsCause sticks words before after status → IsExact sticks words before after status
@@ -136,8 +136,8 @@ usage_of_none sticks form before after NoMemory cause none = absurd (not_built f
 usage_of_none sticks form before after (BadOrder place) cause none = absurd (not_built form cause.0 none)
 usage_of_none sticks form before after (Stuck desk serial) cause none = absurd (subst (λ (f : Form). IsStuckAt f before.files desk serial) none cause.2)
 usage_of_none sticks form before after TooManyFindings cause none = absurd (not_built form cause.0 none)
-usage_of_none sticks form before after (Refused refusal) cause none = absurd cause
-usage_of_none sticks form before after (OpRefused cause) cause none = absurd cause
+usage_of_none sticks form before after (Refused refusal) cause none = absurd (not_built form cause.1.0 none)
+usage_of_none sticks form before after (OpRefused why) cause none = absurd (not_built form cause.1.0 none)
 
 pub none_of_usage : (sticks : Type 0) (form : Form) (before after : Outside) (status : Status) → IsCauseOf sticks form before after status
     → status ≡ Usage → form ≡ no_form
@@ -158,5 +158,5 @@ with_sticks sticks form before after NoMemory cause = cause
 with_sticks sticks form before after (BadOrder place) cause = cause
 with_sticks sticks form before after TooManyFindings cause = cause
 with_sticks sticks form before after (Refused refusal) cause = cause
-with_sticks sticks form before after (OpRefused cause) cause = cause
+with_sticks sticks form before after (OpRefused why) cause = cause
 with_sticks sticks form before after (Stuck desk serial) cause = absurd cause.0

@@ -43,13 +43,19 @@ use Rattle.text_spec.specs.OrderLine.{order_line}
 use Rattle.text_spec.specs.ScriptLines.{is_shared}
 use Rattle.text_spec.specs.declared.command.Command.{Command}
 use Rattle.order_text.proofs.OrderLines.{order_of-line}
-use Rattle.enc_top.specs.Complete.{AreGood, AreGoodScripts, IsComplete, IsGoodCell, IsGoodOrder, IsGoodScript, IsThere}
+use Rattle.cell_spec.specs.Edits.{apply_edits}
+use Rattle.s57_types.specs.declared.cell.Cell.{Cell}
+use Rattle.enc_top.specs.declared.operation.Operation.{Operation}
+use Rattle.enc_top.specs.Complete.{AreGood, AreGoodScripts, IsComplete, IsGoodCell, IsGoodOperation, IsGoodOrder, IsGoodScript, IsThere}
+use Rattle.enc_top.specs.Operations.{operated, operation_edits}
 use Rattle.room_laws.specs.Orders.{quotas_of}
 use Rattle.enc_top.specs.Inputs.{CellIs, FileIs, OrderIs, OutputIs, RoomIs, ScriptIs, ScriptsAre, cell_limit, drill_answer, order_in, order_limit, script_limit}
 use Rattle.enc_top.specs.Outcome.{
   AreWritten,
   IsCause,
   IsCauseOf,
+  IsEdgeReadBack,
+  IsEdgeWorkOf,
   IsExact,
   IsExpected,
   IsFormReadBack,
@@ -63,7 +69,7 @@ use Rattle.enc_top.specs.Outcome.{
   Outside,
 }
 use Rattle.enc_top.specs.Output.{Adds, AddsFrom}
-use Rattle.enc_top.specs.Task.{Task, check_task, drill_task, make_task, run_task}
+use Rattle.enc_top.specs.Task.{Task, check_task, drill_task, edge_task, make_task, run_task}
 use Rattle.enc_top.specs.Words.{
   Form,
   check_among,
@@ -71,9 +77,13 @@ use Rattle.enc_top.specs.Words.{
   drill_among,
   drill_form,
   drill_of,
+  edge_among,
+  edge_form,
+  edge_of,
   form_of,
   is_between,
   is_word,
+  join_in,
   make_among,
   make_form,
   make_of,
@@ -83,6 +93,7 @@ use Rattle.enc_top.specs.Words.{
   replay_form,
   room_among,
   room_form,
+  split_in,
 }
 use Rattle.report_text.specs.declared.status.Status.{Status}
 use Rattle.report_text.specs.declared.status.Status.TheVariants.{
@@ -145,6 +156,7 @@ FewScripts (replay_form cell out order scripts) = length scripts ≤ 16
 FewScripts (room_form cell out scripts) = Unit {0}
 FewScripts (make_form n out) = Unit {0}
 FewScripts (drill_form n sessions) = Unit {0}
+FewScripts (edge_form cell out operation) = Unit {0}
 FewScripts no_form = Unit {0}
 
 few_by : (b : Bool) (x y : Form) → FewScripts x → FewScripts y → FewScripts (cond b x y)
@@ -197,11 +209,22 @@ few_drilled (a ∷ []) = tt
 few_drilled (a ∷ b ∷ []) = few_drilled_of (number_up_to 100 a) (number_up_to 16 b)
 few_drilled (a ∷ b ∷ d ∷ rest) = tt
 
+few_edge_of : (cell out : List ℕ) (operation : Option Operation) → FewScripts (edge_of cell out operation)
+few_edge_of cell out None = tt
+few_edge_of cell out (Some operation) = tt
+
+few_edge : (reading : List (List ℕ) → Option Operation) (others : List (List ℕ)) → FewScripts (edge_among reading others)
+few_edge reading [] = tt
+few_edge reading (a ∷ []) = tt
+few_edge reading (a ∷ b ∷ rest) = few_edge_of a b (reading rest)
+
 few_scripts : (words : List (List ℕ)) → FewScripts (form_of words)
 unfolding form_of
 few_scripts [] = tt
 few_scripts (first ∷ others) =
-    let drilled = cond (is_word (codes "drill") first) (drill_among others) no_form in
+    let joined = cond (is_word (codes "join") first) (edge_among join_in others) no_form in
+    let split = cond (is_word (codes "split") first) (edge_among split_in others) joined in
+    let drilled = cond (is_word (codes "drill") first) (drill_among others) split in
     let made = cond (is_word (codes "make") first) (make_among others) drilled in
     let replayed = cond (is_word (codes "replay") first) (replay_among others) made in
     let checked = cond (is_word (codes "check") first) (check_among others) replayed in
@@ -209,7 +232,9 @@ few_scripts (first ∷ others) =
     (few_by (is_word (codes "check") first) (check_among others) replayed (few_checked others)
     (few_by (is_word (codes "replay") first) (replay_among others) made (few_replayed others)
     (few_by (is_word (codes "make") first) (make_among others) drilled (few_made others)
-    (few_by (is_word (codes "drill") first) (drill_among others) no_form (few_drilled others) tt))))
+    (few_by (is_word (codes "drill") first) (drill_among others) split (few_drilled others)
+    (few_by (is_word (codes "split") first) (edge_among split_in others) joined (few_edge split_in others)
+    (few_by (is_word (codes "join") first) (edge_among join_in others) no_form (few_edge join_in others) tt))))))
 
 -- ---- good files ask for a task
 few_quotas : (names : List (List ℕ)) (commands : List (List Command)) → length names ≤ 16 → length commands ≡ length names
@@ -224,10 +249,14 @@ IsSteady (replay_form cell out order scripts) files = AreGood (replay_form cell 
 IsSteady (room_form cell out scripts) files = ⊥
 IsSteady (make_form n out) files = AreGood (make_form n out) files
 IsSteady (drill_form n sessions) files = AreGood (drill_form n sessions) files
+IsSteady (edge_form cell out operation) files = AreGood (edge_form cell out operation) files
 IsSteady no_form files = ⊥
 
 pub drilled : (n sessions : ℕ) → finding_total (generated_cell n) ≤ finding_limit → drill_answer n sessions ≡ Ok (drill_task n sessions)
 drilled n sessions few = rw (not_above finding_limit (finding_total (generated_cell n)) few) refl
+
+good_operated : (c : Cell) (operation : Operation) → IsGoodOperation c operation → operated c operation ≡ Ok (apply_edits (operation_edits c operation) c)
+good_operated c operation good = rw good.possible (rw good.taken refl)
 
 good_output : (form : Form) (files : Files) → FewScripts form → IsSteady form files → (task : Task) × OutputIs form files (Ok task)
 good_output (check_form cell) files few good = (check_task good.start, inl (good.start, cell_is cell files good, refl))
@@ -249,6 +278,10 @@ good_output (replay_form cell out order scripts) files few good =
 good_output (room_form cell out scripts) files few good = absurd good
 good_output (make_form n out) files few good = (make_task n out, refl)
 good_output (drill_form n sessions) files few good = (drill_task n sessions, sym (drilled n sessions good))
+good_output (edge_form cell out operation) files few good =
+    let c = good.0.start in
+    let left = apply_edits (operation_edits c operation) c in
+    (edge_task left out, inl (c, cell_is cell files good.0, inl (left, good_operated c operation good.1, refl)))
 good_output no_form files few good = absurd good
 
 -- a status that is asked for beside a task is Done
@@ -310,6 +343,8 @@ expected_done (replay_form cell out order scripts) files status few good (inl is
 expected_done (room_form cell out scripts) files status few good (inl is) = inl (room_done cell out scripts files status good is)
 expected_done (make_form n out) files status few good (inl is) = inl (good_done (make_form n out) files status few good is)
 expected_done (drill_form n sessions) files status few good (inl is) = inl (good_done (drill_form n sessions) files status few good is)
+expected_done (edge_form cell out operation) files status few good (inl is) =
+    inl (good_done (edge_form cell out operation) files status few good is)
 expected_done no_form files status few good (inl is) = absurd good
 
 pub complete_from_exact : (sticks : Type 0) (words : List (List ℕ)) (before after : Outside) (status : Status)
@@ -375,6 +410,23 @@ made_read_back n out task (Some fs) (Some gs) made written =
     let wrote = subst (λ (t : Task). AreWritten t.file (Some fs) (Some gs)) made.is written in
     record { bytes = encoded_cell (generated_cell n); there = wrote.written; decoded = made.read_back }
 
+edge_read_back : (cell out : List ℕ) (operation : Operation) (task : Task) (a b : Option Files) → IsEdgeWorkOf cell out operation a task
+    → AreWritten task.file a b → Told (IsEdgeReadBack cell out operation) a b
+edge_read_back cell out operation task None b work written = tt
+edge_read_back cell out operation task (Some fs) None work written = tt
+edge_read_back cell out operation task (Some fs) (Some gs) work written =
+    let wrote = subst (λ (t : Task). AreWritten t.file (Some fs) (Some gs)) work.is written in
+    record {
+      start = work.start;
+      cell_is = work.told;
+      left = work.left;
+      is_left = work.left_by.is_left;
+      kept = work.left_by.kept;
+      bytes = encoded_cell work.left;
+      there = wrote.written;
+      decoded = work.left_by.read_back;
+    }
+
 nothing_left : (a b : Option Files) → Told (λ old new. Unit {0}) a b
 nothing_left None b = tt
 nothing_left (Some fs) None = tt
@@ -389,6 +441,8 @@ form_read_back sticks (room_form cell out scripts) before after cause =
     room_read_back cell out scripts cause.0 before after before.files after.files cause.1 cause.3.written cause.3.files
 form_read_back sticks (make_form n out) before after cause = made_read_back n out cause.0 before.files after.files cause.1 cause.3.files
 form_read_back sticks (drill_form n sessions) before after cause = nothing_left before.files after.files
+form_read_back sticks (edge_form cell out operation) before after cause =
+    edge_read_back cell out operation cause.0 before.files after.files cause.1 cause.3.files
 form_read_back sticks no_form before after cause = nothing_left before.files after.files
 
 pub read_back_from_cause : (sticks : Type 0) (words : List (List ℕ)) (before after : Outside) (status : Status)

@@ -21,6 +21,7 @@ use Rattle.std.proofs.Common.{
   cond,
   String,
   Global,
+  Option,
   string_bytes,
   refl,
   sym,
@@ -37,9 +38,12 @@ use Rattle.enc_top.specs.Words.{
   check_form,
   drill_among,
   drill_of,
+  edge_among,
+  edge_of,
   form_of,
   is_between,
   is_word,
+  join_in,
   make_among,
   make_of,
   no_form,
@@ -47,7 +51,9 @@ use Rattle.enc_top.specs.Words.{
   replay_among,
   replay_form,
   room_form,
+  split_in,
 }
+use Rattle.enc_top.specs.declared.operation.Operation.{Operation}
 use Rattle.enc_top.proofs.WordLists.{two_words}
 
 -- the words behind the first ones
@@ -108,15 +114,15 @@ wrong_count (a ∷ b ∷ d ∷ rest) names many are other =
     (not_between (length (map string_bytes rest)) (λ low high. other (omega (arith, low, count)) (omega (arith, high, count))))
 
 -- ---- all words
-split : (words : List (String Global)) (first : String Global) (others : List (String Global)) → 1 ≤ length words → first ≡ get_or words 0 first
+parted : (words : List (String Global)) (first : String Global) (others : List (String Global)) → 1 ≤ length words → first ≡ get_or words 0 first
     → others ≡ drop 1 words → map string_bytes words ≡ string_bytes first ∷ map string_bytes others
-split [] first others some is are = absurd (omega (arith, some))
-split (a ∷ rest) first others some is are = λ i. string_bytes (sym is i) ∷ map string_bytes (sym are i)
+parted [] first others some is are = absurd (omega (arith, some))
+parted (a ∷ rest) first others some is are = λ i. string_bytes (sym is i) ∷ map string_bytes (sym are i)
 
 module _ (words : List (String Global)) (first : String Global) (others : List (String Global)) (some : 1 ≤ length words)
     (is : first ≡ get_or words 0 first) (are : others ≡ drop 1 words) where
   pub first_word : begins_with_room (map string_bytes words) ≡ is_word (codes "room") (string_bytes first)
-  first_word = ap begins_with_room (split words first others some is are)
+  first_word = ap begins_with_room (parted words first others some is are)
 
   module _ (begins : begins_with_room (map string_bytes words) ≡ false) where
     room : is_word (codes "room") (string_bytes first) ≡ false
@@ -124,27 +130,39 @@ module _ (words : List (String Global)) (first : String Global) (others : List (
 
     pub check_words : is_word (codes "check") (string_bytes first) ≡ true → form_of (map string_bytes words) ≡ check_among (map string_bytes others)
     unfolding form_of
-    check_words check = ap form_of (split words first others some is are) ∙ (rw (room, check) refl)
+    check_words check = ap form_of (parted words first others some is are) ∙ (rw (room, check) refl)
 
     pub run_words : is_word (codes "check") (string_bytes first) ≡ false → is_word (codes "replay") (string_bytes first) ≡ true
         → form_of (map string_bytes words) ≡ replay_among (map string_bytes others)
     unfolding form_of
-    run_words check replay = ap form_of (split words first others some is are) ∙ (rw (room, check, replay) refl)
+    run_words check replay = ap form_of (parted words first others some is are) ∙ (rw (room, check, replay) refl)
 
     pub made_words : is_word (codes "check") (string_bytes first) ≡ false → is_word (codes "replay") (string_bytes first) ≡ false
         → is_word (codes "make") (string_bytes first) ≡ true → form_of (map string_bytes words) ≡ make_among (map string_bytes others)
     unfolding form_of
-    made_words check replay make = ap form_of (split words first others some is are) ∙ (rw (room, check, replay, make) refl)
+    made_words check replay make = ap form_of (parted words first others some is are) ∙ (rw (room, check, replay, make) refl)
 
     module _ (check : is_word (codes "check") (string_bytes first) ≡ false) (replay : is_word (codes "replay") (string_bytes first) ≡ false)
         (make : is_word (codes "make") (string_bytes first) ≡ false) where
       pub drilled_words : is_word (codes "drill") (string_bytes first) ≡ true → form_of (map string_bytes words) ≡ drill_among (map string_bytes others)
       unfolding form_of
-      drilled_words drill = ap form_of (split words first others some is are) ∙ (rw (room, check, replay, make, drill) refl)
+      drilled_words drill = ap form_of (parted words first others some is are) ∙ (rw (room, check, replay, make, drill) refl)
 
-      pub other_words : is_word (codes "drill") (string_bytes first) ≡ false → form_of (map string_bytes words) ≡ no_form
-      unfolding form_of
-      other_words drill = ap form_of (split words first others some is are) ∙ (rw (room, check, replay, make, drill) refl)
+      module _ (drill : is_word (codes "drill") (string_bytes first) ≡ false) where
+        pub split_words : is_word (codes "split") (string_bytes first) ≡ true
+            → form_of (map string_bytes words) ≡ edge_among split_in (map string_bytes others)
+        unfolding form_of
+        split_words split = ap form_of (parted words first others some is are) ∙ (rw (room, check, replay, make, drill, split) refl)
+
+        pub join_words : is_word (codes "split") (string_bytes first) ≡ false → is_word (codes "join") (string_bytes first) ≡ true
+            → form_of (map string_bytes words) ≡ edge_among join_in (map string_bytes others)
+        unfolding form_of
+        join_words split join = ap form_of (parted words first others some is are) ∙ (rw (room, check, replay, make, drill, split, join) refl)
+
+        pub other_words : is_word (codes "split") (string_bytes first) ≡ false → is_word (codes "join") (string_bytes first) ≡ false
+            → form_of (map string_bytes words) ≡ no_form
+        unfolding form_of
+        other_words split join = ap form_of (parted words first others some is are) ∙ (rw (room, check, replay, make, drill, split, join) refl)
 
 pub no_words : (words : List (String Global)) → length words < 1 → form_of (map string_bytes words) ≡ no_form
 unfolding form_of
@@ -219,3 +237,18 @@ pub two_drilled : (others : List (String Global)) (size sessions : String Global
     → sessions ≡ get_or others 1 sessions
     → drill_among (map string_bytes others) ≡ drill_of (number_up_to 100 (string_bytes size)) (number_up_to 16 (string_bytes sessions))
 two_drilled others size sessions two is_size is_sessions = ap drill_among (two_words others size sessions two is_size is_sessions)
+
+-- ---- the words behind `split` and `join`
+pub few_edge_words : (reading : List (List ℕ) → Option Operation) (others : List (String Global)) → length others < 2
+    → edge_among reading (map string_bytes others) ≡ no_form
+few_edge_words reading [] few = refl
+few_edge_words reading (a ∷ []) few = refl
+few_edge_words reading (a ∷ b ∷ rest) few = absurd (omega (arith, few))
+
+pub edge_words : (reading : List (List ℕ) → Option Operation) (others : List (String Global)) (cell out : String Global)
+    (numbers : List (String Global)) → 2 ≤ length others → cell ≡ get_or others 0 cell → out ≡ get_or others 1 out → numbers ≡ drop 2 others
+    → edge_among reading (map string_bytes others) ≡ edge_of (string_bytes cell) (string_bytes out) (reading (map string_bytes numbers))
+edge_words reading [] cell out numbers many is_cell is_out are = absurd (omega (arith, many))
+edge_words reading (a ∷ []) cell out numbers many is_cell is_out are = absurd (omega (arith, many))
+edge_words reading (a ∷ b ∷ rest) cell out numbers many is_cell is_out are =
+    λ i. edge_of (string_bytes (sym is_cell i)) (string_bytes (sym is_out i)) (reading (map string_bytes (sym are i)))

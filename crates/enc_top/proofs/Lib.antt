@@ -10,3 +10,5 @@ pub mod Completed
 pub mod GeneratedWork
 mod Reports
 mod RoomAnswers
+mod Numbers
+mod EdgeWork

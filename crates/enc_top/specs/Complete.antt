@@ -1,5 +1,5 @@
 -- Input files that leave a call no refusal. This project's own.
-use Rattle.std.specs.Prelude.{◌≡◌, ◌⊎◌, ℕ, ◌<◌, ◌≤◌, List, [], length, slice_index_or, Some, Ok}
+use Rattle.std.specs.Prelude.{◌≡◌, ◌⊎◌, ℕ, ◌<◌, ◌≤◌, List, [], length, slice_index_or, None, Some, Ok}
 use Rattle.cell_make.specs.GeneratedCell.{generated_cell}
 use Rattle.enc_outside.specs.Files.{Files}
 use Rattle.file_spec.specs.DecodedCell.{decoded_cell}
@@ -12,7 +12,9 @@ use Rattle.text_spec.specs.declared.command.Command.{Command}
 use Rattle.room_laws.specs.Orders.{quotas_of}
 use Rattle.enc_top.specs.Inputs.{cell_limit, order_limit, script_limit}
 use Rattle.enc_top.specs.Outcome.{IsSmooth, Outside}
-use Rattle.enc_top.specs.Words.{Form, check_form, form_of, make_form, drill_form, no_form, replay_form, room_form}
+use Rattle.enc_top.specs.declared.operation.Operation.{Operation}
+use Rattle.enc_top.specs.Operations.{commit_refusal, operation_edits, operation_refusal}
+use Rattle.enc_top.specs.Words.{Form, check_form, form_of, make_form, drill_form, edge_form, no_form, replay_form, room_form}
 use Rattle.report_text.specs.declared.status.Status.{Status}
 use Rattle.report_text.specs.declared.status.Status.TheVariants.{Done, NoMemory}
 
@@ -45,7 +47,13 @@ pub record IsGoodOrder (quotas name : List ℕ) (files : Files) : Type 0 where
   pub file : IsThere order_limit name (order_line sessions) files
   pub order : IsOrder quotas sessions
 
--- the input files of a form are a cell, scripts and an order of them; the generated cell has not too many findings
+-- nothing speaks against an operation on a cell's edges
+pub record IsGoodOperation (c : Cell) (operation : Operation) : Type 0 where
+  pub possible : operation_refusal c operation ≡ None
+  pub taken : commit_refusal c (operation_edits c operation) ≡ None
+
+-- the input files of a form are a cell, scripts and an order of them; the generated cell has not too many findings; nothing speaks against an
+-- operation
 abbrev pub AreGood : Form → Files → Type 0
 AreGood (check_form cell) files = IsGoodCell cell files
 AreGood (replay_form cell out order scripts) files = IsGoodCell cell files
@@ -53,6 +61,7 @@ AreGood (replay_form cell out order scripts) files = IsGoodCell cell files
 AreGood (room_form cell out scripts) files = IsGoodCell cell files × ((commands : List (List Command)) × AreGoodScripts scripts files commands)
 AreGood (make_form n out) files = Unit {0}
 AreGood (drill_form n sessions) files = finding_total (generated_cell n) ≤ finding_limit
+AreGood (edge_form cell out operation) files = (good : IsGoodCell cell files) × IsGoodOperation good.start operation
 AreGood no_form files = ⊥
 
 -- where the files are told and good, no device failed and no rendezvous may give up, all is done, unless memory ran out

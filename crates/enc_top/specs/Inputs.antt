@@ -16,8 +16,10 @@ use Rattle.room_laws.specs.Orders.{quotas_of}
 use Rattle.script_text.specs.Faults.{IsFirstFault}
 use Rattle.text_spec.specs.declared.command.Command.{Command}
 use Rattle.history_spec.specs.Steps.{finding_limit}
-use Rattle.enc_top.specs.Task.{Task, check_task, drill_task, make_task, run_task}
-use Rattle.enc_top.specs.Words.{Form, check_form, replay_form, room_form, make_form, drill_form, no_form}
+use Rattle.enc_top.specs.declared.operation.Operation.{Operation}
+use Rattle.enc_top.specs.Operations.{operated}
+use Rattle.enc_top.specs.Task.{Task, check_task, drill_task, edge_task, make_task, run_task}
+use Rattle.enc_top.specs.Words.{Form, check_form, replay_form, room_form, make_form, drill_form, edge_form, no_form}
 use Rattle.report_text.specs.declared.status.Status.{Status}
 use Rattle.report_text.specs.declared.status.Status.TheVariants.{
   Done,
@@ -124,6 +126,10 @@ RoomIs c out scripts files = AndThen (ScriptsAre scripts files) (λ commands ans
 abbrev pub drill_answer : ℕ → ℕ → Result Task Status
 drill_answer n sessions = if nat_lt finding_limit (finding_total (generated_cell n)) then Err TooManyFindings else Ok (drill_task n sessions)
 
+-- an operation on edges of a cell
+abbrev pub EdgeWorkIs : Cell → List ℕ → Operation → Result Task Status → Type 0
+EdgeWorkIs c out operation = AndThen (λ left. operated c operation ≡ left) (λ d answer. answer ≡ Ok (edge_task d out))
+
 -- what is done: the text of the cell is put, or the report of the run, and then the cell that is left is written; the generated cell and the drill
 -- on it are told by a line
 abbrev pub OutputIs : Form → Files → Result Task Status → Type 0
@@ -132,6 +138,7 @@ OutputIs (replay_form cell out order scripts) files = AndThen (CellIs cell files
 OutputIs (room_form cell out scripts) files = AndThen (CellIs cell files) (λ c. RoomIs c out scripts files)
 OutputIs (make_form n out) files = λ answer. answer ≡ Ok (make_task n out)
 OutputIs (drill_form n sessions) files = λ answer. answer ≡ drill_answer n sessions
+OutputIs (edge_form cell out operation) files = AndThen (CellIs cell files) (λ c. EdgeWorkIs c out operation)
 OutputIs no_form files = λ answer. answer ≡ Err Usage
 
 -- two answers to what words and files ask for are one; of sessions in threads, two reports may be in different orders
@@ -197,6 +204,7 @@ IsReached (replay_form cell out order scripts) files name = (name ≡ cell) ⊎ 
 IsReached (room_form cell out scripts) files name = (name ≡ cell) ⊎ ((c : Cell) × CellIs cell files (Ok c) × IsReachedScript scripts files name)
 IsReached (make_form n out) files name = ⊥
 IsReached (drill_form n sessions) files name = ⊥
+IsReached (edge_form cell out operation) files name = name ≡ cell
 IsReached no_form files name = ⊥
 
 -- what a step's answer tells, with what it gave seen through a function: where the files are told, the relation of the step
@@ -239,6 +247,7 @@ IsInputOf (replay_form cell out order scripts) name = (name ≡ cell) ⊎ ((name
 IsInputOf (room_form cell out scripts) name = (name ≡ cell) ⊎ IsAmong scripts name
 IsInputOf (make_form n out) name = ⊥
 IsInputOf (drill_form n sessions) name = ⊥
+IsInputOf (edge_form cell out operation) name = name ≡ cell
 IsInputOf no_form name = ⊥
 
 -- an answer of a judging step: the expected one, or out of memory

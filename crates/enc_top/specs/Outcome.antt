@@ -12,10 +12,12 @@ use Rattle.text_spec.specs.OrderLine.{IsOrder, order_line}
 use Rattle.text_spec.specs.ScriptLines.{is_shared}
 use Rattle.text_spec.specs.declared.command.Command.{Command}
 use Rattle.room_laws.specs.Orders.{quotas_of}
+use Rattle.enc_top.specs.declared.operation.Operation.{Operation}
+use Rattle.enc_top.specs.Operations.{OperationKeeps, operated}
 use Rattle.enc_top.specs.Inputs.{CellIs, IsInputOf, IsReached, IsRoomRun, IsRunOf, OrderIs, OutputIs, ScriptsAre, drill_answer}
 use Rattle.enc_top.specs.Output.{Adds, AddsFrom, AddsFront, IsBegun}
-use Rattle.enc_top.specs.Task.{Task, check_task, make_task, task_of}
-use Rattle.enc_top.specs.Words.{Form, check_form, replay_form, room_form, make_form, drill_form, no_form, form_of}
+use Rattle.enc_top.specs.Task.{Task, check_task, edge_task, make_task, task_of}
+use Rattle.enc_top.specs.Words.{Form, check_form, replay_form, room_form, make_form, drill_form, edge_form, no_form, form_of}
 use Rattle.report_text.specs.declared.status.Status.{Status}
 use Rattle.report_text.specs.declared.status.Status.TheVariants.{
   Done,
@@ -54,6 +56,7 @@ IsBuilt (replay_form cell out order scripts) = Unit {0}
 IsBuilt (room_form cell out scripts) = Unit {0}
 IsBuilt (make_form n out) = Unit {0}
 IsBuilt (drill_form n sessions) = Unit {0}
+IsBuilt (edge_form cell out operation) = Unit {0}
 IsBuilt no_form = ⊥
 
 -- the text of a cell, where the files are told that of the file
@@ -79,6 +82,20 @@ pub record IsMakeOf (n : ℕ) (out : List ℕ) (task : Task) : Type 0 where
   pub is : task ≡ make_task n out
   pub read_back : decoded_cell (encoded_cell (generated_cell n)) ≡ Ok (generated_cell n)
 
+-- the cell that an operation leaves keeps where each feature runs, and its file is read as that cell
+pub record IsLeftBy (start left : Cell) (operation : Operation) : Type 0 where
+  pub is_left : operated start operation ≡ Ok left
+  pub kept : OperationKeeps start left operation
+  pub read_back : decoded_cell (encoded_cell left) ≡ Ok left
+
+-- the text of the cell that an operation leaves, where the files are told that of the file, and that cell
+pub record IsEdgeWorkOf (cell out : List ℕ) (operation : Operation) (files : Option Files) (task : Task) : Type 0 where
+  pub start : Cell
+  pub told : IfSome files (λ fs. CellIs cell fs (Ok start))
+  pub left : Cell
+  pub left_by : IsLeftBy start left operation
+  pub is : task ≡ edge_task left out
+
 -- what the form may do: put the text of a cell, or the report of scripts on a cell in an order and then write the cell that is left
 abbrev pub IsOutput : Form → Option Files → Task → Type 0
 IsOutput (check_form cell) files task = IsCheckOf cell files task
@@ -86,6 +103,7 @@ IsOutput (replay_form cell out order scripts) files task = IsReplayOf cell out o
 IsOutput (room_form cell out scripts) files task = IsRoomOf cell out scripts files task
 IsOutput (make_form n out) files task = IsMakeOf n out task
 IsOutput (drill_form n sessions) files task = drill_answer n sessions ≡ Ok task
+IsOutput (edge_form cell out operation) files task = IsEdgeWorkOf cell out operation files task
 IsOutput no_form files task = ⊥
 
 -- where the files are told, this is what they ask for
@@ -145,6 +163,11 @@ IsStuckAt (room_form cell out scripts) files desk serial = (1 ≤ desk) × (desk
     × IfSome files (IsStuckIn cell scripts desk serial)
 IsStuckAt other files desk serial = ⊥
 
+-- the words ask for an operation on edges
+abbrev pub IsOnEdges : Form → Type 0
+IsOnEdges (edge_form cell out operation) = Unit {0}
+IsOnEdges other = ⊥
+
 -- `sticks`: whether a rendezvous may give up
 abbrev pub IsCauseOf : Type 0 → Form → Outside → Outside → Status → Type 0
 IsCauseOf sticks form before after Done = (task : Task) × IsOutput form before.files task × IsAsked before form (Ok task) × IsFinished task before after
@@ -159,8 +182,8 @@ IsCauseOf sticks form before after (TooLarge name) = IsInputOf form name × IsRe
 IsCauseOf sticks form before after NoMemory = IsBuilt form × IsSilent before after
 IsCauseOf sticks form before after (BadOrder place) = IsRefused form before after (BadOrder place)
 IsCauseOf sticks form before after TooManyFindings = IsRefused form before after TooManyFindings
-IsCauseOf sticks form before after (Refused refusal) = ⊥
-IsCauseOf sticks form before after (OpRefused cause) = ⊥
+IsCauseOf sticks form before after (Refused refusal) = IsOnEdges form × IsRefused form before after (Refused refusal)
+IsCauseOf sticks form before after (OpRefused cause) = IsOnEdges form × IsRefused form before after (OpRefused cause)
 IsCauseOf sticks form before after (Stuck desk serial) = sticks × IsSilent before after × IsStuckAt form before.files desk serial
 
 abbrev pub IsCause : Type 0 → List (List ℕ) → Outside → Outside → Status → Type 0
@@ -212,10 +235,22 @@ pub record IsMadeReadBack (n : ℕ) (out : List ℕ) (new : Files) : Type 0 wher
   pub there : new out ≡ Some bytes
   pub decoded : decoded_cell bytes ≡ Ok (generated_cell n)
 
+-- where an operation on edges is done, the bytes of OUT are read as a cell in which each feature runs where it ran
+pub record IsEdgeReadBack (cell out : List ℕ) (operation : Operation) (old new : Files) : Type 0 where
+  pub start : Cell
+  pub cell_is : CellIs cell old (Ok start)
+  pub left : Cell
+  pub is_left : operated start operation ≡ Ok left
+  pub kept : OperationKeeps start left operation
+  pub bytes : List ℕ
+  pub there : new out ≡ Some bytes
+  pub decoded : decoded_cell bytes ≡ Ok left
+
 abbrev pub IsFormReadBack : Form → Outside → Outside → Files → Files → Type 0
 IsFormReadBack (replay_form cell out order scripts) before after old new = IsOutReadBack cell out order scripts old new
 IsFormReadBack (room_form cell out scripts) before after old new = IsRoomReadBack cell out scripts before after old new
 IsFormReadBack (make_form n out) before after old new = IsMadeReadBack n out new
+IsFormReadBack (edge_form cell out operation) before after old new = IsEdgeReadBack cell out operation old new
 IsFormReadBack other before after old new = Unit {0}
 
 abbrev pub IsReadBackFrom : List (List ℕ) → Outside → Outside → Status → Type 0
@@ -236,6 +271,10 @@ IsAskedBy sticks form files before after (Err (TooLarge name)) = IsInputOf form 
 IsAskedBy sticks form files before after (Err (BadOrder place)) = IsBuilt form × IfSome files (λ fs. OutputIs form fs (Err (BadOrder place)))
 IsAskedBy sticks form files before after (Err TooManyFindings) = IsBuilt form × IfSome files (λ fs. OutputIs form fs (Err TooManyFindings))
 IsAskedBy sticks form files before after (Err (Stuck desk serial)) = sticks × IsStuckAt form files desk serial
+IsAskedBy sticks form files before after (Err (Refused refusal)) =
+    IsOnEdges form × IsBuilt form × IfSome files (λ fs. OutputIs form fs (Err (Refused refusal)))
+IsAskedBy sticks form files before after (Err (OpRefused cause)) =
+    IsOnEdges form × IsBuilt form × IfSome files (λ fs. OutputIs form fs (Err (OpRefused cause)))
 IsAskedBy sticks form files before after (Err other) = ⊥
 
 -- the work was done whole, or a device failed in its course

@@ -36,6 +36,10 @@ make_task n out = record {
 abbrev pub drill_task : ℕ → ℕ → Task
 drill_task n sessions = record { text = drill_line n sessions (drill_counts n sessions); file = None }
 
+-- the text of a cell that an operation leaves is put, and the cell is written under a name
+abbrev pub edge_task : Cell → List ℕ → Task
+edge_task d out = record { text = cell_text d; file = Some (out, encoded_cell d) }
+
 abbrev pub file_of : Export → List ℕ × List ℕ
 file_of export = (string_bytes export.name, export.bytes.items)
 

@@ -1,8 +1,32 @@
 -- The forms of words of a call.
-use Rattle.std.specs.Prelude.{ℕ, ◌&&◌, Bool, false, nat_le, List, [], ◌∷◌, Option, None, Some, length, find, codes, nat_eq, if◌then◌else◌}
+use Rattle.std.specs.Prelude.{
+  ℕ,
+  ◌^◌,
+  ◌&&◌,
+  Bool,
+  false,
+  nat_eq,
+  nat_le,
+  nat_lt,
+  List,
+  [],
+  ◌∷◌,
+  length,
+  find,
+  Option,
+  None,
+  Some,
+  option_map,
+  option_and_then,
+  codes,
+  if◌then◌else◌,
+}
 use Rattle.std.specs.List.{range_with_len}
 use Rattle.std.specs.Cmp.Lexicographic.{pointwise}
 use Rattle.std.specs.Fmt.{decimal}
+use Rattle.std.specs.Str.Parse.{digits_value}
+use Rattle.enc_top.specs.declared.operation.Operation.{Operation}
+use Rattle.enc_top.specs.declared.operation.Operation.TheVariants.{Split, Join}
 
 abbrev pub is_word : List ℕ → List ℕ → Bool
 is_word word text = pointwise nat_eq text word
@@ -15,6 +39,10 @@ is_written_as text n = pointwise nat_eq (decimal n) text
 abbrev pub number_up_to : ℕ → List ℕ → Option ℕ
 number_up_to limit text = find (is_written_as text) (range_with_len 1 limit)
 
+-- the number that fits 32 bits that a text is, decimal without leading zeros
+abbrev pub number_in : List ℕ → Option ℕ
+number_in text = if nat_lt (digits_value 10 text) (2 ^ 32) && is_written_as text (digits_value 10 text) then Some (digits_value 10 text) else None
+
 abbrev pub is_between : ℕ → ℕ → ℕ → Bool
 is_between low high n = nat_le low n && nat_le n high
 
@@ -25,6 +53,7 @@ pub data Form : Type 0 where
   room_form : (cell out : List ℕ) → List (List ℕ) → Form
   make_form : ℕ → (out : List ℕ) → Form
   drill_form : (n sessions : ℕ) → Form
+  edge_form : (cell out : List ℕ) → Operation → Form
   no_form : Form
 
 -- the words behind `check`: CELL
@@ -61,6 +90,25 @@ abbrev pub drill_among : List (List ℕ) → Form
 drill_among (n ∷ sessions ∷ []) = drill_of (number_up_to 100 n) (number_up_to 16 sessions)
 drill_among other = no_form
 
+-- the words behind `split`: CELL OUT E K V F, and those behind `join`: CELL OUT E F, the numbers all from 0 to 4,294,967,295
+abbrev pub split_in : List (List ℕ) → Option Operation
+split_in (edge ∷ at ∷ node ∷ fresh ∷ []) =
+    option_and_then (λ e. option_and_then (λ k. option_and_then (λ v. option_map (Split e k v) (number_in fresh)) (number_in node)) (number_in at))
+    (number_in edge)
+split_in other = None
+
+abbrev pub join_in : List (List ℕ) → Option Operation
+join_in (edge ∷ other ∷ []) = option_and_then (λ e. option_map (Join e) (number_in other)) (number_in edge)
+join_in other = None
+
+abbrev pub edge_of : (cell out : List ℕ) → Option Operation → Form
+edge_of cell out None = no_form
+edge_of cell out (Some operation) = edge_form cell out operation
+
+abbrev pub edge_among : (List (List ℕ) → Option Operation) → List (List ℕ) → Form
+edge_among reading (cell ∷ out ∷ numbers) = edge_of cell out (reading numbers)
+edge_among reading other = no_form
+
 -- the first word is `room`
 abbrev pub begins_with_room : List (List ℕ) → Bool
 begins_with_room [] = false
@@ -73,4 +121,6 @@ form_of (first ∷ others) =
     (if is_word (codes "check") first then check_among others else
     (if is_word (codes "replay") first then replay_among others else
     (if is_word (codes "make") first then make_among others else
-    (if is_word (codes "drill") first then drill_among others else no_form))))
+    (if is_word (codes "drill") first then drill_among others else
+    (if is_word (codes "split") first then edge_among split_in others else
+    (if is_word (codes "join") first then edge_among join_in others else no_form))))))

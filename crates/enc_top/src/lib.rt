@@ -1,10 +1,12 @@
 //! The program as one call over a file store and an output sink.
 #![tactic(auto)]
 
+mod edge;
 mod input;
 mod inputs;
 mod law;
 mod made;
+mod operation;
 mod output;
 mod room;
 mod top;

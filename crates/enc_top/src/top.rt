@@ -12,6 +12,7 @@ ghost use Rattle.enc_top.specs.Outcome.{IsAskedBy, IsCause, IsExact, IsReadBackF
 ghost use Rattle.enc_top.specs.Task.{run_task, task_of};
 ghost use Rattle.enc_top.specs.Words.{begins_with_room as spec_begins_with_room, check_among, form_of, no_form, replay_among};
 
+use crate::edge::{join, split};
 use crate::inputs::{quotas_of, read_bench, read_cell, read_scripts, read_sessions};
 use crate::made::{drill, make};
 use crate::output::finish;
@@ -34,8 +35,10 @@ use std::thread::Threads;
 /// report of running k scripts on it in the order of the order file, and then writes the cell that is left as the file OUT;
 /// `room CELL OUT S1 .. Sk` does the same with each script in a thread of its own, in the order that comes about; `make N OUT` puts the line
 /// of the generated cell of N rows of N squares, and then writes the cell as the file OUT; `drill N K` puts the line of the run of K generated
-/// scripts on that cell, the sessions in turn. The words are those after the program's name. `meet` is called before each view and commit of
-/// a session in a thread.
+/// scripts on that cell, the sessions in turn. `split CELL OUT E K V F` splits edge E at its K-th point by the new node V and the new edge F, and
+/// `join CELL OUT E F` joins edge E with edge F behind it: each puts the numbers of records and all findings of the cell that this leaves, in
+/// which every feature runs where it ran, and then writes it as the file OUT. The words are those after the program's name. `meet` is called
+/// before each view and commit of a session in a thread.
 ///
 /// Whatever order the threads take: of `room` the report that is put is that of one thread that does each session's commands, once and in
 /// order, in the order that the report's first line tells, and OUT is the file of the cell that this leaves.
@@ -156,6 +159,12 @@ fn asked_work<R: Threads + Sync, H: Shelf>(
     }
     if first == "drill" {
         return drill(rt, alloc, others);
+    }
+    if first == "split" {
+        return split(rt, alloc, others, shelf);
+    }
+    if first == "join" {
+        return join(rt, alloc, others, shelf);
     }
     Err(Status::Usage)
 }

@@ -2,9 +2,10 @@
 
 ghost use Rattle.std.specs.Prelude.{◌≡◌, ◌<◌, ◌≤◌, IfSome, map, string_bytes, nat_eq, decimal};
 ghost use Rattle.std.specs.Cmp.Lexicographic.{pointwise};
-ghost use Rattle.enc_top.specs.Words.{begins_with_room as begins_with_room_lem, number_up_to as number_up_to_lem};
+ghost use Rattle.enc_top.specs.Words.{begins_with_room as begins_with_room_lem, number_in, number_up_to as number_up_to_lem};
 
 use itoa::Buffer;
+use text_lines::read_unsigned;
 
 /// Whether a word is a number, decimal without leading zeros.
 fn is_number(word: &str, number: u32) -> bool
@@ -26,6 +27,13 @@ pub fn number_up_to(word: &str, limit: u32) -> Option<u32>
         }
     }
     None
+}
+
+/// The number that fits 32 bits that a word is, decimal without leading zeros.
+pub fn number_of(word: &str) -> Option<u32>
+    ensures { result ≡ number_in word.now }
+{
+    read_unsigned(word.as_bytes())
 }
 
 /// Whether the first word is `room`.
