@@ -1,6 +1,7 @@
 mod calls;
 mod drawn;
 mod draws;
+mod edges;
 mod lines;
 mod room;
 mod square;
