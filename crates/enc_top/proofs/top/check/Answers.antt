@@ -1,10 +1,14 @@
-use Rattle.std.proofs.Common.{ℕ, List, None, ◌≡◌, ◌++◌, Ok, inl, length, sym, ap, ◌∙◌, subst, arith}
+use Rattle.std.proofs.Common.{ℕ, List, None, ◌≡◌, ◌++◌, Ok, Err, inl, inr, length, map, refl, string_bytes, sym, ap, ◌∙◌, subst, arith}
+use Rattle.std.proofs.lemmas.Result.{err_from_is_err_and}
 use Rattle.rule_spec.specs.Findings.{all_findings}
 use Rattle.text_spec.specs.CellText.{cell_text, text_with}
+use Rattle.report_text.specs.declared.status.Status.TheVariants.{NoMemory}
+use Rattle.enc_top.specs.declared.inputs.Checked.{Checked}
+use Rattle.enc_top.specs.Inputs.{CellIs, IsFile, IsInputOf, IsReached, OutputIs}
 use Rattle.enc_top.specs.Outcome.{IsAskedBy}
 use Rattle.enc_top.specs.Task.{check_task, task_of}
-use Rattle.enc_top.specs.Words.{check_form}
-use Rattle.enc_top.proofs.Answered.{both_told}
+use Rattle.enc_top.specs.Words.{check_among, check_form}
+use Rattle.enc_top.proofs.Answered.{asked_status, both_told, status_of_more, tells_first}
 use Rattle.enc_top.proofs.FormWords.{one_word}
 use Rattle.enc_top.proofs.top.check.Goals as goal
 
@@ -22,3 +26,29 @@ returns-clause-asked g c =
     subst (λ f. IsAskedBy ⊥ f (g.H.Shelf.files c.args.shelf.now) (g.H.Shelf.read_faults c.args.shelf.now)
     (g.H.Shelf.read_faults c.read_cell.new.shelf) (Ok (record { text = c.push_cell.new.out; export = None }))) (sym form)
     (record { start = cell; told = c.in-Ok.ensures.tells; is = is }, told)
+
+pub returns-in-Err-clause-asked : goal.returns-in-Err-clause-asked
+returns-in-Err-clause-asked g c =
+    let one : length c.args.others.now ≡ 1 = omega (arith, c.in-len1.len_at_least, c.in-len1.len_below) in
+    let form = one_word c.args.others.now c.name-item.result one c.name-item.is ∙ ap check_form (sym c.as_str.ensures.value) in
+    let cell = c.as_str.result.now in
+    let files = g.H.Shelf.files c.args.shelf.now in
+    let before = g.H.Shelf.read_faults c.args.shelf.now in
+    let after = g.H.Shelf.read_faults c.read_cell.new.shelf in
+    let status = c.in-Err.status in
+    subst (λ f. IsAskedBy ⊥ f files before after (Err status)) (sym form)
+    (asked_status ⊥ (check_form cell) files before after status tt
+    (status_of_more (λ n. n ≡ cell) (IsInputOf (check_form cell)) status (λ n same. same) c.in-Err.ensures.status)
+    (tells_first (λ (checked : Checked). checked.cell) task_of (CellIs cell) (OutputIs (check_form cell)) (IsFile cell) (IsReached (check_form cell))
+    files before after status (λ fs bad. inr (status, bad, refl)) (λ fs n is. is) c.in-Err.ensures.tells))
+
+pub returns-in_err-push_cell-clause-asked : goal.returns-in_err-push_cell-clause-asked
+returns-in_err-push_cell-clause-asked g c =
+    let one : length c.args.others.now ≡ 1 = omega (arith, c.in-len1.len_at_least, c.in-len1.len_below) in
+    let form : check_among (map string_bytes c.args.others.now) ≡ check_form c.as_str.result.now =
+    one_word c.args.others.now c.name-item.result one c.name-item.is ∙ ap check_form (sym c.as_str.ensures.value) in
+    let files = g.H.Shelf.files c.args.shelf.now in
+    let before = g.H.Shelf.read_faults c.args.shelf.now in
+    let after = g.H.Shelf.read_faults c.read_cell.new.shelf in
+    let refused = err_from_is_err_and c.from_residual.result c.from_residual.ensures.1 in
+    rw (refused.1, refused.2) (subst (λ f. IsAskedBy ⊥ f files before after (Err NoMemory)) (sym form) tt)
