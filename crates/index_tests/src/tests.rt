@@ -1,0 +1,7 @@
+mod benches;
+mod drawn;
+mod looks;
+mod order;
+mod readers;
+mod rows;
+mod tiles;
