@@ -1,0 +1,2 @@
+pub mod ReadyRows
+pub mod SquareBudget
