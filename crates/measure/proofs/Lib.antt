@@ -1,1 +1,2 @@
 mod NumberedFeatures
+mod OneEdit

@@ -4,14 +4,15 @@ use Rattle.std.specs.Prelude.{◌==◌}
 use Rattle.std.specs.List.{All, AllByRecursion, IsDistinct}
 use Rattle.std.proofs.lemmas.Bool.Decides.{nat_tests}
 use Rattle.std.proofs.lemmas.List.{map-append}
-use Rattle.std.proofs.lemmas.List.Elements.{All-head, All-tail, All-push, All-weaker}
+use Rattle.std.proofs.lemmas.List.Elements.{All-head, All-nil, All-tail, All-push, All-weaker}
 use Rattle.s57_types.specs.declared.name.RecName.{RecName}
 use Rattle.s57_types.specs.declared.record.Rec.{Rec}
 use Rattle.s57_types.specs.declared.head.Head.{Head}
-use Rattle.s57_types.specs.Fitness.{unfitness}
+use Rattle.s57_types.specs.Fitness.{is_fit_head, unfitness}
+use Rattle.s57_types.specs.declared.name.Kind.TheVariants.{Vi, Vc, Ve, Fe}
 use Rattle.cell_spec.specs.Lookup.{name_of}
 use Rattle.cell_spec.specs.Names.{kind_rank, name_parts, same_name}
-use Rattle.chain_topo.specs.Readable.{IsReadable}
+use Rattle.cell_spec.specs.Writable.{AreOfKind, IsWritable}
 use Rattle.chain_topo.proofs.SmallRecords.{FitsAnywhere}
 
 pub no_features_distinct : IsDistinct same_name []
@@ -59,15 +60,23 @@ below_more rs r i below named =
     let last : (name_of r).id < i + 1 = omega (arith, number_of r i named) in
     All-push (λ s. (name_of s).id < i + 1) rs r (All-weaker (λ s. (name_of s).id < i) (λ s. (name_of s).id < i + 1) (λ s h. omega arith) rs below) last
 
+pub kinds_more : (rs : List Rec) (r : Rec) → AreOfKind Fe rs → (name_of r).kind ≡ Fe → AreOfKind Fe (rs ++ r ∷ [])
+kinds_more rs r kinds feature = All-push (λ s. (name_of s).kind ≡ Fe) rs r kinds feature
+
 -- a cell of features alone
-pub features-readable : (head : Head) (vi vc ve fe features : List Rec) → vi ≡ [] → vc ≡ [] → ve ≡ [] → fe ≡ features
-    → IsDistinct same_name (map name_of features) → length features ≤ 262144 → All FitsAnywhere features
-    → IsReadable (record { head = head; vi = vi; vc = vc; ve = ve; fe = fe })
-features-readable head vi vc ve fe features no_vi no_vc no_ve same distinct few fit =
+pub features-writable : (head : Head) (vi vc ve fe features : List Rec) → is_fit_head head ≡ true
+    → vi ≡ [] → vc ≡ [] → ve ≡ [] → fe ≡ features → IsDistinct same_name (map name_of features)
+    → AreOfKind Fe features → length features ≤ 262144 → All FitsAnywhere features → IsWritable (record { head = head; vi = vi; vc = vc; ve = ve; fe = fe })
+features-writable head vi vc ve fe features head_fit no_vi no_vc no_ve same distinct kinds few fit =
     let all : (vi ++ vc ++ ve ++ fe) ≡ features = (λ i. no_vi i ++ no_vc i ++ no_ve i ++ same i) in
     record {
-      distinct = subst (λ rs. IsDistinct same_name (map name_of rs)) (sym all) distinct;
-      count = omega (arith, ap length all);
-      fit = subst (All (λ r. unfitness head.nall r ≡ None)) (sym all)
+      head_fits = head_fit;
+      isolated_nodes = subst (AreOfKind Vi) (sym no_vi) (All-nil (λ x. (name_of x).kind ≡ Vi));
+      connected_nodes = subst (AreOfKind Vc) (sym no_vc) (All-nil (λ x. (name_of x).kind ≡ Vc));
+      edges = subst (AreOfKind Ve) (sym no_ve) (All-nil (λ x. (name_of x).kind ≡ Ve));
+      features = subst (AreOfKind Fe) (sym same) kinds;
+      records_fit = subst (All (λ r. unfitness head.nall r ≡ None)) (sym all)
           (All-weaker FitsAnywhere (λ r. unfitness head.nall r ≡ None) (λ r fits. fits head.nall) features fit);
+      names_distinct = subst (λ rs. IsDistinct same_name (map name_of rs)) (sym all) distinct;
+      not_too_many = omega (arith, ap length all, few);
     }

@@ -1,10 +1,9 @@
 //! The cases by their names.
 
-use crate::{cells, fields, lookups, table, versions};
-use std::fmt;
+use crate::{cells, fields, indexes, lookups, store, table, versions};
 
 /// What is timed.
-#[derive(Clone, Copy, Debug, PartialEq, Eq)]
+#[derive(Clone, Copy)]
 pub enum Case {
     /// A sum of bytes in memory: the speed of the machine.
     Baseline,
@@ -18,6 +17,10 @@ pub enum Case {
     Versions(versions::Work),
     /// Look-ups in a cell.
     Lookups(lookups::Work),
+    /// The store of a cell, copied and changed.
+    Store(store::Work),
+    /// The indexes of read sets and of tiles, changed.
+    Indexes(indexes::Work),
     /// Fields read or written; the size is how often.
     Fields(fields::Work),
     /// A generated cell read or written; the size is how often.
@@ -25,33 +28,33 @@ pub enum Case {
 }
 
 impl Case {
-    /// The case of a name.
+    /// The case of a name: of a name alone, or of a group and a work of it.
     pub fn of(name: &str) -> Option<Case> {
+        match name.split_once('_') {
+            Some((group, work)) => Case::of_group(group, work),
+            None => Case::alone(name),
+        }
+    }
+
+    fn alone(name: &str) -> Option<Case> {
         match name {
             "baseline" => Some(Case::Baseline),
             "segments" => Some(Case::Segments),
             "turns" => Some(Case::Turns),
-            _ => table::Work::of(name)
-                .map(Case::Table)
-                .or_else(|| versions::Work::of(name).map(Case::Versions))
-                .or_else(|| lookups::Work::of(name).map(Case::Lookups))
-                .or_else(|| fields::Work::of(name).map(Case::Fields))
-                .or_else(|| cells::Work::of(name).map(Case::Cells)),
+            _ => None,
         }
     }
-}
 
-impl fmt::Display for Case {
-    fn fmt<W: fmt::Write>(&self, f: &mut fmt::Formatter<W>) -> fmt::Result {
-        match self {
-            Case::Baseline => f.write_str("baseline"),
-            Case::Segments => f.write_str("segments"),
-            Case::Turns => f.write_str("turns"),
-            Case::Table(work) => work.fmt(f),
-            Case::Versions(work) => work.fmt(f),
-            Case::Lookups(work) => work.fmt(f),
-            Case::Fields(work) => work.fmt(f),
-            Case::Cells(work) => work.fmt(f),
-        }
+    fn of_group(group: &str, work: &str) -> Option<Case> {
+        Some(match group {
+            "table" => Case::Table(table::Work::of(work)?),
+            "versions" => Case::Versions(versions::Work::of(work)?),
+            "lookups" => Case::Lookups(lookups::Work::of(work)?),
+            "store" => Case::Store(store::Work::of(work)?),
+            "indexes" => Case::Indexes(indexes::Work::of(work)?),
+            "fields" => Case::Fields(fields::Work::of(work)?),
+            "cell" => Case::Cells(cells::Work::of(work)?),
+            _ => return None,
+        })
     }
 }

@@ -5,7 +5,6 @@ use cell_read::read_cell;
 use cell_write::write_cell;
 use s57_types::Cell;
 use std::alloc::{AllocError, Global};
-use std::fmt;
 
 /// The side of the cell in squares.
 const SIDE: u32 = 100;
@@ -14,7 +13,7 @@ const SIDE: u32 = 100;
 const CELL_LIMIT: usize = 16_777_216;
 
 /// What is done with the cell.
-#[derive(Clone, Copy, Debug, PartialEq, Eq)]
+#[derive(Clone, Copy)]
 pub enum Work {
     /// It is read from its file.
     Read,
@@ -23,22 +22,13 @@ pub enum Work {
 }
 
 impl Work {
-    /// The work of a name.
+    /// The work of a name within the group.
     pub fn of(name: &str) -> Option<Work> {
         match name {
-            "cell_read" => Some(Work::Read),
-            "cell_write" => Some(Work::Write),
+            "read" => Some(Work::Read),
+            "write" => Some(Work::Write),
             _ => None,
         }
-    }
-}
-
-impl fmt::Display for Work {
-    fn fmt<W: fmt::Write>(&self, f: &mut fmt::Formatter<W>) -> fmt::Result {
-        f.write_str(match self {
-            Work::Read => "cell_read",
-            Work::Write => "cell_write",
-        })
     }
 }
 

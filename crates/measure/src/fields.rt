@@ -3,13 +3,12 @@
 use s57_fields::{read_sg2d, read_sg3d, write_sg2d, write_sg3d};
 use s57_types::{Deep, Plane};
 use std::alloc::{AllocError, Global};
-use std::fmt;
 
 /// How many rows a field has.
 const ROWS: u32 = 8_000;
 
 /// What is done with a field.
-#[derive(Clone, Copy, Debug, PartialEq, Eq)]
+#[derive(Clone, Copy)]
 pub enum Work {
     /// Coordinates (SG2D) are read.
     ReadPlane,
@@ -22,26 +21,15 @@ pub enum Work {
 }
 
 impl Work {
-    /// The work of a name.
+    /// The work of a name within the group.
     pub fn of(name: &str) -> Option<Work> {
         match name {
-            "fields_read_plane" => Some(Work::ReadPlane),
-            "fields_write_plane" => Some(Work::WritePlane),
-            "fields_read_deep" => Some(Work::ReadDeep),
-            "fields_write_deep" => Some(Work::WriteDeep),
+            "read_plane" => Some(Work::ReadPlane),
+            "write_plane" => Some(Work::WritePlane),
+            "read_deep" => Some(Work::ReadDeep),
+            "write_deep" => Some(Work::WriteDeep),
             _ => None,
         }
-    }
-}
-
-impl fmt::Display for Work {
-    fn fmt<W: fmt::Write>(&self, f: &mut fmt::Formatter<W>) -> fmt::Result {
-        f.write_str(match self {
-            Work::ReadPlane => "fields_read_plane",
-            Work::WritePlane => "fields_write_plane",
-            Work::ReadDeep => "fields_read_deep",
-            Work::WriteDeep => "fields_write_deep",
-        })
     }
 }
 

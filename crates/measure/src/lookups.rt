@@ -1,20 +1,23 @@
 //! Look-ups in a cell of features: its lists sorted, then a million look-ups of one kind.
 
-ghost use Rattle.std.specs.Prelude.{◌≡◌, ◌≤◌, ◌<◌, ℕ, true, None, IfOk, length, map, vec_len, [], ◌∷◌};
+ghost use Rattle.std.specs.Prelude.{◌≡◌, ◌≤◌, ◌<◌, ℕ, true, None, IfOk, IfSome, length, map, vec_len, [], ◌∷◌};
 ghost use Rattle.std.specs.List.{All, IsDistinct, list_all};
 ghost use Rattle.s57_types.specs.declared.record.Spot.{Spot as SpecSpot};
-ghost use Rattle.s57_types.specs.Fitness.{is_vector_kind, unfitness};
+ghost use Rattle.s57_types.specs.Fitness.{is_fit_head, is_vector_kind, unfitness};
+ghost use Rattle.s57_types.specs.declared.name.Kind.TheVariants.{Fe};
 ghost use Rattle.cell_spec.specs.Lookup.{name_of as spec_name};
 ghost use Rattle.cell_spec.specs.Names.{name_parts, same_name};
-ghost use Rattle.chain_topo.specs.Readable.{IsReadable};
+ghost use Rattle.cell_spec.specs.Writable.{AreOfKind, IsWritable};
 
+use crate::table::next_number;
+use cell_spec::writable_cells_are_readable;
 use chain_topo::{ListLook, Look, Steps};
 use look_counter::start_counter;
+use record_fit::head_fits;
 use s57_types::{
     Attrs, Cell, Feature, Head, Items, Kind, Lnam, Partners, Rec, RecName, Recs, Spot, Text,
 };
 use std::alloc::{AllocError, Global};
-use std::fmt;
 use std::marker::Brand;
 use std::sync::ledger::{Blank, Ledger};
 
@@ -25,7 +28,7 @@ const ROUNDS: u32 = 1_000_000;
 const RECORD_LIMIT: u32 = 262_144;
 
 /// What is done with the cell.
-#[derive(Clone, Copy, Debug, PartialEq, Eq)]
+#[derive(Clone, Copy)]
 pub enum Work {
     /// Its lists are sorted.
     Build,
@@ -38,37 +41,20 @@ pub enum Work {
 }
 
 impl Work {
-    /// The work of a name.
+    /// The work of a name within the group.
     pub fn of(name: &str) -> Option<Work> {
         match name {
-            "lookups_build" => Some(Work::Build),
-            "lookups_gets" => Some(Work::Gets),
-            "lookups_refs" => Some(Work::Refs),
-            "lookups_bearers" => Some(Work::Bearers),
+            "build" => Some(Work::Build),
+            "gets" => Some(Work::Gets),
+            "refs" => Some(Work::Refs),
+            "bearers" => Some(Work::Bearers),
             _ => None,
         }
     }
 }
 
-impl fmt::Display for Work {
-    fn fmt<W: fmt::Write>(&self, f: &mut fmt::Formatter<W>) -> fmt::Result {
-        f.write_str(match self {
-            Work::Build => "lookups_build",
-            Work::Gets => "lookups_gets",
-            Work::Refs => "lookups_refs",
-            Work::Bearers => "lookups_bearers",
-        })
-    }
-}
-
-/// The next of a row of numbers that look random and are the same on every machine.
-fn next_number(seed: u64) -> u64 {
-    seed.wrapping_mul(6_364_136_223_846_793_005)
-        .wrapping_add(1_442_695_040_888_963_407)
-}
-
 /// A number below the bound, or 0.
-fn number_below(seed: u64, bound: u32) -> u32 {
+pub fn number_below(seed: u64, bound: u32) -> u32 {
     ((seed >> 20) % u64::from(bound.max(1))) as u32
 }
 
@@ -88,6 +74,7 @@ fn feature(alloc: Global, id: u32, foid: Lnam, places: Vec<Spot>) -> Rec
     requires targets { list_all (λ (s : SpecSpot). is_vector_kind s.to.kind) places.items ≡ true }
     requires few { length places.items ≤ 4 }
     ensures name { name_parts (spec_name result) ≡ 3 ∷ id ∷ [] }
+    ensures kind { (spec_name result).kind ≡ Fe }
     ensures fits { (nall : ℕ) → unfitness nall result ≡ None }
 {
     Rec::F(Feature {
@@ -105,11 +92,12 @@ fn feature(alloc: Global, id: u32, foid: Lnam, places: Vec<Spot>) -> Rec
 }
 
 /// A feature that points to a random edge and to a node, and shares its identifier with one other.
-fn numbered_feature(alloc: Global, id: u32, size: u32) -> Result<Rec, AllocError>
+pub fn numbered_feature(alloc: Global, id: u32, seed: u64, size: u32) -> Result<Rec, AllocError>
     ensures name { IfOk result (λ r. name_parts (spec_name r) ≡ 3 ∷ id ∷ []) }
+    ensures kind { IfOk result (λ r. (spec_name r).kind ≡ Fe) }
     ensures fits { IfOk result (λ r. (nall : ℕ) → unfitness nall r ≡ None) }
 {
-    let edge = number_below(next_number(u64::from(id)), size);
+    let edge = number_below(seed, size);
     let places = vec![in alloc; spot(Kind::Ve, edge), spot(Kind::Vc, id / 4)]?;
     let foid = Lnam {
         agen: 550,
@@ -122,11 +110,12 @@ fn numbered_feature(alloc: Global, id: u32, size: u32) -> Result<Rec, AllocError
 fn features(alloc: Global, size: u32) -> Result<Vec<Rec>, AllocError>
     ensures count { IfOk result (λ v. vec_len v ≡ size) }
     ensures distinct { IfOk result (λ v. IsDistinct same_name (map spec_name v.items)) }
+    ensures kinds { IfOk result (λ v. AreOfKind Fe v.items) }
     ensures fit { IfOk result (λ v. All (λ r. (nall : ℕ) → unfitness nall r ≡ None) v.items) }
 {
     let mut features = Vec::with_capacity(alloc, size as usize)?;
     for id in 0..size {
-        let feature = numbered_feature(alloc, id, size)?;
+        let feature = numbered_feature(alloc, id, next_number(u64::from(id)), size)?;
         features.push(feature)?;
     }
     Ok(features)
@@ -165,18 +154,30 @@ fn head(alloc: Global) -> Head {
     }
 }
 
-fn cell_of(alloc: Global, size: u32) -> Result<Cell, AllocError>
-    requires { size ≤ 262144 }
-    ensures { IfOk result (λ cell. IsReadable cell) }
+fn cell_of(alloc: Global, head: Head, size: u32) -> Result<Cell, AllocError>
+    requires few { size ≤ 262144 }
+    requires fits { is_fit_head head ≡ true }
+    ensures { IfOk result IsWritable }
 {
     let features = features(alloc, size)?;
     Ok(Cell {
-        head: head(alloc),
+        head,
         vi: Recs::make(alloc),
         vc: Recs::make(alloc),
         ve: Recs::make(alloc),
         fe: Items::of_vec(features),
     })
+}
+
+/// A cell of so many features, or none where a cell has no room for them.
+pub fn writable_cell(alloc: Global, size: u32) -> Result<Option<Cell>, AllocError>
+    ensures { IfOk result (λ cell. IfSome cell IsWritable) }
+{
+    let head = head(alloc);
+    if size > RECORD_LIMIT || !head_fits(&head) {
+        return Ok(None);
+    }
+    Ok(Some(cell_of(alloc, head, size)?))
 }
 
 fn sum_of_gets<L: Ledger>(look: &ListLook, size: u32, steps: &mut Steps<L>) -> u64 {
@@ -245,10 +246,10 @@ fn sum_of<L: Ledger>(look: &ListLook, work: Work, size: u32, blank: Blank) -> u6
 
 /// What the work answers in a cell of so many features, or 0 where a cell has no room for them.
 pub fn outcome(alloc: Global, work: Work, size: u32) -> Result<u64, AllocError> {
-    if size > RECORD_LIMIT {
+    writable_cells_are_readable();
+    let Some(cell) = writable_cell(alloc, size)? else {
         return Ok(0);
-    }
-    let cell = cell_of(alloc, size)?;
+    };
     let look = ListLook::make(alloc, &cell)?;
     Ok(sum_of::<Brand>(&look, work, size, Blank::new(1)))
 }

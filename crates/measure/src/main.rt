@@ -8,8 +8,12 @@ mod baseline;
 mod case;
 mod cells;
 mod fields;
+mod held;
+mod indexes;
 mod lookups;
 mod segments;
+mod squares;
+mod store;
 mod table;
 mod turns;
 mod versions;
@@ -37,6 +41,8 @@ fn outcome<R: Threads + Wait + Sync>(
         Case::Table(work) => table::outcome(alloc, work, size),
         Case::Versions(work) => versions::outcome(alloc, work, size),
         Case::Lookups(work) => lookups::outcome(alloc, work, size),
+        Case::Store(work) => store::outcome(alloc, work, size),
+        Case::Indexes(work) => indexes::outcome(alloc, work, size),
         Case::Fields(work) => fields::outcome(alloc, work, size),
         Case::Cells(work) => cells::outcome(alloc, work, size),
     }
@@ -46,34 +52,35 @@ fn outcome<R: Threads + Wait + Sync>(
 fn measure<R: Print + Eprint + Clock + Threads + Wait + Sync>(
     rt: &R,
     alloc: Global,
+    name: &str,
     case: Case,
     size: u32,
 ) -> io::Result<()> {
     let start = Instant::now(rt)?;
     let outcome = outcome(rt, alloc, case, size)?;
     let nanoseconds = start.elapsed(rt)?.as_nanos();
-    println!(rt; "{case} {size} {outcome}")?;
+    println!(rt; "{name} {size} {outcome}")?;
     eprintln!(rt; "{nanoseconds} ns")
 }
 
-/// The case and the size of the command line, if it has that form.
-fn read_words(rt: &(impl Env + AllocGlobal)) -> io::Result<Option<(Case, u32)>> {
+/// The name of a case, the case and the size of the command line, if it has that form.
+fn read_words(rt: &(impl Env + AllocGlobal)) -> io::Result<Option<(String, Case, u32)>> {
     let mut words = env::args(rt)?;
     let _program = words.next();
-    let (Some(case), Some(size), None) = (words.next(), words.next(), words.next()) else {
+    let (Some(name), Some(size), None) = (words.next(), words.next(), words.next()) else {
         return Ok(None);
     };
-    let (Some(case), Ok(size)) = (Case::of(case.as_str()), size.as_str().parse::<u32>()) else {
+    let (Some(case), Ok(size)) = (Case::of(name.as_str()), size.as_str().parse::<u32>()) else {
         return Ok(None);
     };
-    Ok(Some((case, size)))
+    Ok(Some((name, case, size)))
 }
 
 fn main(rt: HostRuntime) -> io::Result<ExitCode> {
-    let Some((case, size)) = read_words(&rt)? else {
+    let Some((name, case, size)) = read_words(&rt)? else {
         eprintln!(rt; "usage: measure CASE SIZE")?;
         return Ok(ExitCode::from(2));
     };
-    measure(&rt, rt.alloc(), case, size)?;
+    measure(&rt, rt.alloc(), name.as_str(), case, size)?;
     Ok(ExitCode::SUCCESS)
 }

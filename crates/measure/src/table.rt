@@ -2,13 +2,12 @@
 
 use row_table::{RowTable, is_ascending};
 use std::alloc::{AllocError, Global};
-use std::fmt;
 
 /// How many look-ups, or removals each followed by a put, a case makes.
 const ROUNDS: u32 = 1_000_000;
 
 /// What is done with a table.
-#[derive(Clone, Copy, Debug, PartialEq, Eq)]
+#[derive(Clone, Copy)]
 pub enum Work {
     /// Filled with rows that ascend already.
     Ascending,
@@ -21,26 +20,15 @@ pub enum Work {
 }
 
 impl Work {
-    /// The work of a name.
+    /// The work of a name within the group.
     pub fn of(name: &str) -> Option<Work> {
         match name {
-            "table_ascending" => Some(Work::Ascending),
-            "table_puts" => Some(Work::Puts),
-            "table_gets" => Some(Work::Gets),
-            "table_changes" => Some(Work::Changes),
+            "ascending" => Some(Work::Ascending),
+            "puts" => Some(Work::Puts),
+            "gets" => Some(Work::Gets),
+            "changes" => Some(Work::Changes),
             _ => None,
         }
-    }
-}
-
-impl fmt::Display for Work {
-    fn fmt<W: fmt::Write>(&self, f: &mut fmt::Formatter<W>) -> fmt::Result {
-        f.write_str(match self {
-            Work::Ascending => "table_ascending",
-            Work::Puts => "table_puts",
-            Work::Gets => "table_gets",
-            Work::Changes => "table_changes",
-        })
     }
 }
 

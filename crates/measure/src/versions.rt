@@ -1,11 +1,11 @@
 //! The table of which copies share pieces: looked up, and changed while an older version lives.
 
+use crate::held::hold;
 use crate::table::{ascending_rows, next_number, random_key};
 use row_table::is_ascending;
 use s57_types::Duplicate;
 use shared_table::{Shared, SharedTable};
 use std::alloc::{AllocError, Global};
-use std::fmt;
 
 /// How many look-ups a case makes.
 const GETS: u32 = 1_000_000;
@@ -17,7 +17,7 @@ const VERSIONS: u32 = 100_000;
 const HELD: usize = 16;
 
 /// What is done with a table.
-#[derive(Clone, Copy, Debug, PartialEq, Eq)]
+#[derive(Clone, Copy)]
 pub enum Work {
     /// Filled with rows that ascend already, with numbers as values.
     Ascending,
@@ -30,33 +30,19 @@ pub enum Work {
 }
 
 impl Work {
-    /// The work of a name.
+    /// The work of a name within the group.
     pub fn of(name: &str) -> Option<Work> {
         let (puts, held) = match name {
-            "versions_ascending" => return Some(Work::Ascending),
-            "versions_gets" => return Some(Work::Gets),
-            "versions_shared" => return Some(Work::Shared),
-            "versions_put" => (1, 0),
-            "versions_five_puts" => (5, 0),
-            "versions_put_held" => (1, HELD),
-            "versions_five_puts_held" => (5, HELD),
+            "ascending" => return Some(Work::Ascending),
+            "gets" => return Some(Work::Gets),
+            "shared" => return Some(Work::Shared),
+            "put" => (1, 0),
+            "five_puts" => (5, 0),
+            "put_held" => (1, HELD),
+            "five_puts_held" => (5, HELD),
             _ => return None,
         };
         Some(Work::Versions { puts, held })
-    }
-}
-
-impl fmt::Display for Work {
-    fn fmt<W: fmt::Write>(&self, f: &mut fmt::Formatter<W>) -> fmt::Result {
-        f.write_str(match self {
-            Work::Ascending => "versions_ascending",
-            Work::Gets => "versions_gets",
-            Work::Shared => "versions_shared",
-            Work::Versions { puts: 1, held: 0 } => "versions_put",
-            Work::Versions { held: 0, .. } => "versions_five_puts",
-            Work::Versions { puts: 1, .. } => "versions_put_held",
-            Work::Versions { .. } => "versions_five_puts_held",
-        })
     }
 }
 
@@ -134,10 +120,7 @@ fn make_versions(
         seed = next_number(seed);
         let last = table.share()?;
         put_near(alloc, table, random_key(seed, size), puts, u64::from(round))?;
-        if !held.is_empty() {
-            let oldest = round as usize % held.len();
-            held[oldest] = last;
-        }
+        hold(held, round as usize, last);
     }
     Ok(())
 }

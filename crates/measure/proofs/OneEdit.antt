@@ -1,0 +1,39 @@
+-- A writable cell takes an edit that replaces a feature of it.
+use Rattle.std.proofs.Common.{◌≡◌, List, ◌+◌, ◌≤◌, ◌&&◌, true, false, Some, is_some, [], ◌∷◌, length, find, sym, ap, ◌∙◌, refl, arith}
+use Rattle.std.specs.Prelude.{◌==◌, nat_le, nat_lt, if◌then◌else◌}
+use Rattle.std.proofs.lemmas.Bool.Decides.{nat_tests}
+use Rattle.s57_types.specs.RecordFields.{identification_length, length_limit}
+use Rattle.s57_types.specs.declared.name.Kind.TheVariants.{Fe}
+use Rattle.s57_types.specs.declared.name.RecName.{RecName}
+use Rattle.s57_types.specs.declared.record.Rec.{Rec}
+use Rattle.s57_types.specs.declared.record.Rec.TheVariants.{H}
+use Rattle.s57_types.specs.declared.cell.Cell.{Cell}
+use Rattle.s57_types.specs.Heads.{head_name}
+use Rattle.cell_spec.specs.declared.edit.Edit.TheVariants.{Set}
+use Rattle.cell_spec.specs.Edits.{apply_edits, find_their_records, head_after, is_applicable}
+use Rattle.cell_spec.specs.Lookup.{all_records, is_named, listed_record, lookup_record, name_of}
+use Rattle.cell_spec.specs.Names.{same_name, kind_rank}
+use Rattle.cell_spec.specs.Readable.{WritableCellsAreReadable}
+use Rattle.cell_spec.specs.Writable.{IsWritable, record_limit}
+use Rattle.edit_sets.specs.FormFault.{IsFormed}
+use Rattle.answer_laws.specs.EditedCells.{CountsAfter, FormedEditsFindTheirRecords}
+
+-- a feature is no head
+listed_when : (c : Cell) (n : RecName) → n.kind ≡ Fe → lookup_record c n ≡ listed_record c n
+listed_when c n feature =
+    let other : same_name n head_name ≡ false = ap (λ k. kind_rank k == kind_rank head_name.kind && n.id == head_name.id) feature in
+    λ i. if other i then Some (H c.head) else find (is_named n) (all_records c)
+
+is_found : (c : Cell) (r : Rec) → (name_of r).kind ≡ Fe → is_some (lookup_record c (name_of r)) ≡ true → find_their_records (Set r ∷ []) c ≡ true
+is_found c r feature some = ap (λ b. b && true) (sym (ap is_some (listed_when c (name_of r) feature)) ∙ some)
+
+pub one_edit_is_taken : (c : Cell) (r : Rec) (guards : List RecName) → IsWritable c → IsFormed c.head.nall (Set r ∷ []) guards
+    → FormedEditsFindTheirRecords → WritableCellsAreReadable → CountsAfter
+    → (name_of r).kind ≡ Fe → is_some (lookup_record c (name_of r)) ≡ true → is_applicable (Set r ∷ []) c ≡ true
+one_edit_is_taken c r guards w formed find readable counts feature some =
+    let found = find c (Set r ∷ []) guards (readable c w) formed (is_found c r feature some) in
+    let after = counts (Set r ∷ []) c found in
+    let few = w.not_too_many in
+    let room : length (all_records (apply_edits (Set r ∷ []) c)) ≤ record_limit = omega (arith, after, few) in
+    let within : nat_le (length (all_records (apply_edits (Set r ∷ []) c))) record_limit ≡ true = grind (arith, nat_tests) in
+    λ i. is_found c r feature some i && (within i && true)
