@@ -1,6 +1,8 @@
 //! The indexed store: loaded, copied, and changed by edits of one record.
 
-ghost use Rattle.std.specs.Prelude.{◌≡◌, ◌<◌, IsTrue, true};
+ghost use Rattle.std.specs.Prelude.{◌≡◌, ◌<◌, ◌∷◌, [], IfSome, IsTrue, true};
+ghost use Rattle.std.specs.Borrow.{Bor};
+ghost use Rattle.cell_spec.specs.declared.edit.Edit.{Edit as SpecEdit};
 ghost use Rattle.cell_spec.specs.Edits.{is_applicable};
 
 use crate::held::{copies_of, hold};
@@ -76,10 +78,25 @@ fn sets_of(alloc: Global, size: u32, nall: u8) -> Result<Vec<EditSet>, AllocErro
     Ok(sets)
 }
 
-/// Whether a store has the feature that the one edit of a set replaces.
-#[tactic(auto, using(crate::proofs::OneEdit::one_edit_is_taken))]
-fn is_taken<L: Ledger>(store: &RecordStore, set: &EditSet, steps: &mut Steps<L>) -> bool
-    requires { set.now.nall ≡ store.now.head.nall }
+/// The edit of a set that has no other.
+fn only_edit(set: &EditSet) -> Option<&Edit>
+    ensures { IfSome result (λ (edit : Bor SpecEdit). set.now.edits ≡ edit.now ∷ []) }
+{
+    match set.edits() {
+        [edit] => Some(edit),
+        _ => None,
+    }
+}
+
+/// Whether a store has the feature that the only edit of a set replaces.
+fn is_taken<L: Ledger>(
+    store: &RecordStore,
+    set: &EditSet,
+    edit: &Edit,
+    steps: &mut Steps<L>,
+) -> bool
+    requires level { set.now.nall ≡ store.now.head.nall }
+    requires only { set.now.edits ≡ edit.now ∷ [] }
     ensures { IsTrue result → is_applicable set.now.edits store.now ≡ true }
 {
     set.known();
@@ -87,11 +104,12 @@ fn is_taken<L: Ledger>(store: &RecordStore, set: &EditSet, steps: &mut Steps<L>)
     writable_cells_are_readable();
     formed_edits_find_their_records();
     counts_after_edits();
-    match set.edits() {
-        [Edit::Set(rec)] => {
-            let name = name_of(rec);
-            name.kind == Kind::Fe && store.get(name, steps).is_some()
-        }
+    let Edit::Set(rec) = edit else {
+        return false;
+    };
+    let name = name_of(rec);
+    match name.kind {
+        Kind::Fe => store.get(name, steps).is_some(),
         _ => false,
     }
 }
@@ -104,7 +122,10 @@ fn change<L: Ledger>(
     steps: &mut Steps<L>,
 ) -> Result<RecordStore, AllocError> {
     let last = store.copy(alloc)?;
-    if set.nall() == last.head().nall && is_taken(&last, set, steps) {
+    if let Some(edit) = only_edit(set)
+        && set.nall() == last.head().nall
+        && is_taken(&last, set, edit, steps)
+    {
         store.install(last.plan(alloc, set)?);
     }
     Ok(last)
