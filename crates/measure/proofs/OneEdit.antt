@@ -1,11 +1,10 @@
 -- A writable cell takes an edit that replaces a feature of it.
-use Rattle.std.proofs.Common.{◌≡◌, subst, Bool, Option, List, ◌+◌, ◌≤◌, ◌&&◌, true, false, Some, is_some, [], ◌∷◌, length, find, sym, ap, ◌∙◌, refl, arith}
-use Rattle.std.specs.Prelude.{◌==◌, nat_le, nat_lt, if◌then◌else◌, IsTrue}
+use Rattle.std.proofs.Common.{◌≡◌, subst, Bool, Option, List, ◌≤◌, ◌&&◌, true, false, Some, is_some, [], ◌∷◌, length, find, sym, ap, ◌∙◌, arith}
+use Rattle.std.specs.Prelude.{◌==◌, nat_le, if◌then◌else◌, IsTrue}
 use Rattle.std.specs.Borrow.{Bor}
 use Rattle.std.specs.Option.{option_copied}
 use Rattle.row_table.proofs.Runs.{is_some-copied}
 use Rattle.std.proofs.lemmas.Bool.Decides.{nat_tests}
-use Rattle.s57_types.specs.RecordFields.{identification_length, length_limit}
 use Rattle.s57_types.specs.declared.name.Kind.TheVariants.{Fe}
 use Rattle.s57_types.specs.declared.name.RecName.{RecName}
 use Rattle.s57_types.specs.declared.record.Rec.{Rec}
@@ -14,7 +13,7 @@ use Rattle.s57_types.specs.declared.cell.Cell.{Cell}
 use Rattle.s57_types.specs.Heads.{head_name}
 use Rattle.cell_spec.specs.declared.edit.Edit.{Edit}
 use Rattle.cell_spec.specs.declared.edit.Edit.TheVariants.{Set}
-use Rattle.cell_spec.specs.Edits.{apply_edits, find_their_records, head_after, is_applicable}
+use Rattle.cell_spec.specs.Edits.{apply_edits, find_their_records, is_applicable}
 use Rattle.cell_spec.specs.Lookup.{all_records, is_named, listed_record, lookup_record, name_of}
 use Rattle.cell_spec.specs.Names.{same_name, kind_rank}
 use Rattle.cell_spec.specs.Readable.{WritableCellsAreReadable}

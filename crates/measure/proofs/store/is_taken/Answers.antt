@@ -1,4 +1,4 @@
-use Rattle.std.proofs.Common.{sym, subst}
+use Rattle.std.proofs.Common.{subst}
 use Rattle.edit_sets.specs.FormFault.{IsFormed}
 use Rattle.measure.proofs.OneEdit.{one_edit_is_taken}
 use Rattle.measure.proofs.store.is_taken.Goals as goal
