@@ -81,25 +81,29 @@ figure() {
     local how=$1 name=$2 size=$3 column=3 unit base=0
     case $how in
         each) column=1 unit=${size}e-6 ;;
+        user:*) column=1 unit=${how##*:}e-6 ;;
         clock | net:*) unit=1e6 ;;
         calls) unit=$((size - 1))e6 ;;
     esac
     [ ! -f "$work/base.$name.times" ] || base=$(time_of "base.$name" $column 1)
-    awk -v time="$(time_of "main.$name" $column 1)" -v base="$base" -v unit="$unit" 'BEGIN { printf "%.2f", (time - base) / unit }'
+    awk -v time="$(time_of "main.$name" $column 1)" -v base="$base" -v unit="$unit" 'BEGIN { printf "%.3f", (time - base) / unit }'
 }
 
 # a row of times: `measure`, then each work of plain Rust with the ratio to it
 timed_row() {
-    local how=$1 measured=$2 size=$3 name ours theirs
+    local how=$1 measured=$2 size=$3 name ours theirs fill
     shift 3
     rm -f "$work"/main.* "$work"/base.*
     take_turns main "$measured" "$size" "$@"
     case $how in
-        net:*) take_turns base "${case_name}_${how#net:}" "$size" "$@" ;;
+        net:* | user:*)
+            fill=${how#*:}
+            take_turns base "${case_name}_${fill%:*}" "$size" "$@"
+            ;;
         calls) take_turns base "$measured" 1 "$@" ;;
     esac
     ours=$(figure "$how" measure "$size")
-    printf '%-20s %8s %10s %-14s' "$measured" "$size" "$ours" "$how"
+    printf '%-20s %8s %10s %-20s' "$measured" "$size" "$ours" "$how"
     for name in "$@"; do
         theirs=$(figure "$how" "$name" "$size")
         printf ' %10s %-6s %5s' "$theirs" "$name" "$(awk -v a="$ours" -v b="$theirs" 'BEGIN { if (b > 0) printf "%.2f", a / b }')"
@@ -127,7 +131,7 @@ turns_row() {
 memory_row() {
     local measured=$1 size=$2 name
     shift 2
-    printf '%-20s %8s %10s MB            ' "$measured" "$size" "$(megabytes "$work/measure" "$measured" "$size")"
+    printf '%-20s %8s %10s MB                  ' "$measured" "$size" "$(megabytes "$work/measure" "$measured" "$size")"
     for name in "$@"; do
         printf ' %10s %-6s' "$(megabytes "$work/plain" "$(plain_work "$name" "$measured")" "$size")" "$name"
     done
