@@ -17,7 +17,7 @@ struct Edge {
     ends: u32,
 }
 
-fn edge(id: u32, begins: u32, ends: u32) -> Edge {
+fn edge_between(id: u32, begins: u32, ends: u32) -> Edge {
     Edge { id, begins, ends }
 }
 
@@ -53,10 +53,10 @@ fn forty_split_edges_are_joined_again(rt: HostRuntime) -> Result<(), Fail> {
     let mut state = 3;
     for round in 0..40u32 {
         let edge = match round % 4 {
-            0 => edge(1, 1, 2),
-            1 => edge(2, 3, 4),
-            2 => edge(3, 1, 3),
-            _ => edge(4, 2, 4),
+            0 => edge_between(1, 1, 2),
+            1 => edge_between(2, 3, 4),
+            2 => edge_between(3, 1, 3),
+            _ => edge_between(4, 2, 4),
         };
         let count = draw(&mut state) % 6 + 1;
         let at = draw(&mut state) % count + 2;
