@@ -10,7 +10,7 @@ loop-rec-init c =
     let cell = c.args.cell in
     let parts = c.into_parts-head.ensures in
     let listed : (c.into_parts-head.result.1 ++ c.into_parts-head.result.2 ++ c.into_parts-head.result.3 ++ c.into_parts-head.result.4)
-        ≡ all_records cell = λ i. parts.vi i ++ parts.vc i ++ parts.ve i ++ parts.fe i in
+    ≡ all_records cell = λ i. parts.vi i ++ parts.vc i ++ parts.ve i ++ parts.fe i in
     let items = c.into_iter-rec-iterator.ensures.into_iter_gives.0 ∙ c.in_ok-all.ensures ∙ listed in
     subst (λ rest. IsLeft cell rest c.in_ok-records.records) (sym items)
     (subst (IsLeft cell (all_records cell)) (sym (c.in_ok-records.ensures ∙ ap empty_of parts.head))
