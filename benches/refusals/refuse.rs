@@ -1,5 +1,5 @@
-//! Preloaded into a process, this refuses one of its allocations: the one whose number, counted from 1, stands in the variable REFUSE.
-//! Without the variable it refuses none. At the end of the process the number of its allocations goes to standard error.
+//! Preloaded into a process, this refuses one of its allocations: the one whose number, counted from 1, stands in the variable REFUSE. It then says
+//! `refused` on standard error. Without the variable it refuses none.
 
 use std::ffi::{c_char, c_int, c_long, c_void};
 use std::ptr::null_mut;
@@ -20,7 +20,11 @@ static COUNT: AtomicI64 = AtomicI64::new(0);
 static REFUSED: AtomicI64 = AtomicI64::new(0);
 
 fn is_refused() -> bool {
-    COUNT.fetch_add(1, SeqCst) + 1 == REFUSED.load(SeqCst)
+    let is_it = COUNT.fetch_add(1, SeqCst) + 1 == REFUSED.load(SeqCst);
+    if is_it {
+        unsafe { dprintf(2, c"refused\n".as_ptr()) };
+    }
+    is_it
 }
 
 #[unsafe(no_mangle)]
@@ -39,14 +43,6 @@ extern "C" fn begin() {
     REFUSED.store(if text.is_null() { 0 } else { unsafe { atol(text) } }, SeqCst);
 }
 
-extern "C" fn end() {
-    unsafe { dprintf(2, c"allocations %ld\n".as_ptr(), COUNT.load(SeqCst)) };
-}
-
 #[used]
 #[unsafe(link_section = ".init_array")]
 static BEGIN: extern "C" fn() = begin;
-
-#[used]
-#[unsafe(link_section = ".fini_array")]
-static END: extern "C" fn() = end;

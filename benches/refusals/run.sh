@@ -11,18 +11,18 @@ trap 'rm -rf "$work"' EXIT
 rustc -O --edition 2021 --crate-type cdylib -o "$work/refuse.so" "$here/refuse.rs"
 (cd "$top/crates/$crate" && rt test) >"$work/log" 2>&1 || { tail "$work/log" >&2; exit 1; }
 
-# a run of the test in which the allocation of a number is refused, none for 0: what it wrote goes to `said`
+# a run of the test in which the allocation of a number is refused: what it wrote goes to `said`
 run_test() {
     REFUSE=$1 LD_PRELOAD=$work/refuse.so "$top/crates/$crate/out/${crate}_tests" "$test" >"$work/said" 2>&1
 }
 
-run_test 0
-total=$(sed -n 's/^allocations //p' "$work/said")
 failed=0
-for number in $(seq "$total"); do
-    run_test "$number" && grep -q '^test result: ok' "$work/said" || { failed=$((failed + 1)); echo "allocation $number:"; tail -3 "$work/said"; }
-    sed -n '1p' "$work/said" >>"$work/ended"
+number=1
+while run_test "$number" && is_well=yes || is_well=no; grep -q '^refused$' "$work/said"; do
+    [ "$is_well" = yes ] && grep -q '^test result: ok' "$work/said" || { failed=$((failed + 1)); echo "allocation $number:"; tail -3 "$work/said"; }
+    grep -v '^refused$' "$work/said" | head -1 >>"$work/ended"
+    number=$((number + 1))
 done
-echo "$test: $total allocations, each refused in a run of its own, $failed runs failed"
+echo "$test: $((number - 1)) allocations, each refused in a run of its own, $failed runs failed"
 sort "$work/ended" | uniq -c | sort -rn
 [ "$failed" = 0 ]
