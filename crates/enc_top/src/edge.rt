@@ -41,7 +41,8 @@ pub(crate) fn split<R: Threads + Sync, H: Shelf>(
     others: &[String],
     shelf: &mut H,
 ) -> Result<Work, Status>
-    ensures asked { IsAskedBy ⊥ (edge_among split_in (map string_bytes others.now)) (H.files shelf.old) (H.read_faults shelf.old) (H.read_faults shelf.new) result }
+    ensures asked { IsAskedBy ⊥ (edge_among split_in (map string_bytes others.now))
+        (H.files shelf.old) (H.read_faults shelf.old) (H.read_faults shelf.new) result }
     ensures files { H.files shelf.new ≡ H.files shelf.old }
     ensures write_faults { H.write_faults shelf.new ≡ H.write_faults shelf.old }
 {
@@ -61,7 +62,8 @@ pub(crate) fn join<R: Threads + Sync, H: Shelf>(
     others: &[String],
     shelf: &mut H,
 ) -> Result<Work, Status>
-    ensures asked { IsAskedBy ⊥ (edge_among join_in (map string_bytes others.now)) (H.files shelf.old) (H.read_faults shelf.old) (H.read_faults shelf.new) result }
+    ensures asked { IsAskedBy ⊥ (edge_among join_in (map string_bytes others.now))
+        (H.files shelf.old) (H.read_faults shelf.old) (H.read_faults shelf.new) result }
     ensures files { H.files shelf.new ≡ H.files shelf.old }
     ensures write_faults { H.write_faults shelf.new ≡ H.write_faults shelf.old }
 {
