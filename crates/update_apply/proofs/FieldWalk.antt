@@ -1,0 +1,168 @@
+-- The fields of a record from a place on.
+use Rattle.std.proofs.Common.{
+  ◌≡◌,
+  ℕ,
+  ◌+◌,
+  ◌≤◌,
+  ◌<◌,
+  ◌||◌,
+  Bool,
+  true,
+  false,
+  cond,
+  not,
+  List,
+  [],
+  ◌∷◌,
+  ◌++◌,
+  length,
+  take,
+  drop,
+  Option,
+  Some,
+  None,
+  Result,
+  Ok,
+  Err,
+  refl,
+  sym,
+  ap,
+  ◌∙◌,
+}
+use Rattle.std.specs.Prelude.{slice_get, find, filter, if◌then◌else◌, nat_eq, IfOk, OnOk}
+use Rattle.std.specs.Cmp.Lexicographic.{pointwise}
+use Rattle.std.specs.List.{list_any, flat_map}
+use Rattle.std.specs.Option.{option_map, option_or, ok_or}
+use Rattle.std.specs.Result.{result_unwrap_or}
+use Rattle.std.proofs.lemmas.List.{append-nil, drop_more, take_more, drop_all}
+use Rattle.std.proofs.lemmas.List.Concat.{flat_map-append}
+use Rattle.std.proofs.lemmas.List.Elements.{filter-append}
+use Rattle.std.proofs.lemmas.List.Folds.{list_any-append}
+use Rattle.std.proofs.Math.Bool.{or-false}
+use Rattle.std.proofs.lemmas.Option.{slice_get_within, get_or_from_slice_get}
+use Rattle.frame_spec.specs.RecordFrame.{Field}
+use Rattle.field_spec.specs.declared.fault.FieldFault.{FieldFault}
+use Rattle.file_spec.specs.FieldTags.{is_tagged, tag_text}
+use Rattle.file_spec.specs.RecordReading.{field_fault, record_type, type_of_leading, rows_of}
+use Rattle.file_spec.specs.declared.fault.RecordFault.{RecordFault}
+use Rattle.file_spec.specs.declared.fault.RecordFault.TheVariants.{ForeignTag, MissingField}
+use Rattle.file_spec.specs.declared.tag.FieldTag.{FieldTag}
+use Rattle.file_spec.specs.declared.tag.FieldTag.TheVariants as tags
+use Rattle.file_spec.specs.declared.tag.RecordType.{RecordType}
+use Rattle.update_spec.specs.ControlFields.{control_in}
+use Rattle.update_spec.specs.UpdateFields.{control_fault, update_field_fault, update_fields_fault}
+use Rattle.update_spec.specs.declared.control.ControlTag.{ControlTag}
+
+-- the item at a place, the items before it and those after it
+pub drop_at : {X : Type 0} (xs : List X) (k : ℕ) (x : X) → slice_get xs k ≡ Some x → drop k xs ≡ x ∷ drop (k + 1) xs
+drop_at xs k x is =
+    drop_more xs k x (slice_get_within xs k x is) ∙ ap (λ y. y ∷ drop (k + 1) xs) (get_or_from_slice_get xs k x x is)
+
+pub take_at : {X : Type 0} (xs : List X) (k : ℕ) (x : X) → slice_get xs k ≡ Some x → take (k + 1) xs ≡ take k xs ++ (x ∷ [])
+take_at xs k x is =
+    take_more xs k x (slice_get_within xs k x is) ∙ ap (λ y. take k xs ++ (y ∷ [])) (get_or_from_slice_get xs k x x is)
+
+-- the first item that passes a test, from a place on
+pub find_here : {X : Type 0} (p : X → Bool) (xs : List X) (k : ℕ) (x : X) → slice_get xs k ≡ Some x → p x ≡ true → find p (drop k xs) ≡ Some x
+find_here p xs k x is holds = ap (find p) (drop_at xs k x is) ∙ ap (λ b. cond b (Some x) (find p (drop (k + 1) xs))) holds
+
+pub find_later : {X : Type 0} (p : X → Bool) (xs : List X) (k : ℕ) (x : X) → slice_get xs k ≡ Some x → p x ≡ false
+    → find p (drop k xs) ≡ find p (drop (k + 1) xs)
+find_later p xs k x is fails = ap (find p) (drop_at xs k x is) ∙ ap (λ b. cond b (Some x) (find p (drop (k + 1) xs))) fails
+
+pub any_more : {X : Type 0} (p : X → Bool) (xs : List X) (k : ℕ) (x : X) → slice_get xs k ≡ Some x
+    → list_any p (take (k + 1) xs) ≡ (list_any p (take k xs) || p x)
+any_more p xs k x is = ap (list_any p) (take_at xs k x is) ∙ list_any-append p (take k xs) (x ∷ []) ∙ ap (λ b. list_any p (take k xs) || b) (or-false (p x))
+
+abbrev is_number_field : Field → Bool
+is_number_field f = pointwise nat_eq f.tag (tag_text tags.RecordNumber)
+
+-- the type of a record by the field that leads it
+pub type_by_leading : (fields : List Field) (name : List ℕ) (kind : Option RecordType)
+    → option_map (λ (f : Field). f.tag) (find (λ field. not (is_number_field field)) fields) ≡ Some name
+    → ((bytes : List ℕ) → kind ≡ type_of_leading (record { tag = name; bytes = bytes })) → record_type fields ≡ ok_or kind ForeignTag
+type_by_leading fields name kind leads is = by (find (λ field. not (is_number_field field)) fields) refl leads
+  where
+    by : (found : Option Field) → find (λ field. not (is_number_field field)) fields ≡ found
+        → option_map (λ (f : Field). f.tag) found ≡ Some name → record_type fields ≡ ok_or kind ForeignTag
+    by None e leads = absurd cc
+    by (Some f) e leads =
+        let named : f.tag ≡ name = cc in
+        let same : type_of_leading f ≡ kind = ap (λ t. type_of_leading (record { tag = t; bytes = f.bytes })) named ∙ sym (is f.bytes) in
+        rw e (ap (λ k. ok_or k ForeignTag) same)
+
+pub type_missing : (fields : List Field) → option_map (λ (f : Field). f.tag) (find (λ field. not (is_number_field field)) fields) ≡
+    None → record_type fields ≡ Err MissingField
+type_missing fields none = by (find (λ field. not (is_number_field field)) fields) refl none
+  where
+    by : (found : Option Field) → find (λ field. not (is_number_field field)) fields ≡ found
+        → option_map (λ (f : Field). f.tag) found ≡ None → record_type fields ≡ Err MissingField
+    by None e none = rw e refl
+    by (Some f) e none = absurd cc
+
+-- the fault of a field, or that of the fields after it
+pub fault_step : (nall : ℕ) (type : RecordType) (fields : List Field) (k : ℕ) (f : Field) → slice_get fields k ≡ Some f
+    → update_fields_fault nall type (take k fields) (drop k fields) ≡ option_or (update_field_fault nall type (take k fields) f)
+    (update_fields_fault nall type (take (k + 1) fields) (drop (k + 1) fields))
+unfolding update_fields_fault
+fault_step nall type fields k f is =
+    ap (update_fields_fault nall type (take k fields)) (drop_at fields k f is)
+    ∙ ap (λ before. option_or (update_field_fault nall type (take k fields) f) (update_fields_fault nall type before (drop (k + 1) fields)))
+    (sym (take_at fields k f is))
+
+-- behind the last field there is no fault
+pub fault_end : (nall : ℕ) (type : RecordType) (fields : List Field) (k : ℕ) → length fields ≤ k
+    → update_fields_fault nall type (take k fields) (drop k fields) ≡ None
+unfolding update_fields_fault
+fault_end nall type fields k past = ap (update_fields_fault nall type (take k fields)) (drop_all k fields past)
+
+-- the rows of a tag, with those of one field more if it is one
+module _ {X : Type 0} (tag : FieldTag) (content : List ℕ → Result (List X) FieldFault) (fields : List Field) (k : ℕ) (f : Field)
+    (is : slice_get fields k ≡ Some f) where
+  rows_joined : rows_of tag content (take (k + 1) fields) ≡ rows_of tag content (take k fields) ++ rows_of tag content (f ∷ [])
+  rows_joined = ap (rows_of tag content) (take_at fields k f is) ∙ ap (flat_map _) (filter-append (is_tagged tag) (take k fields) (f ∷ []))
+      ∙ flat_map-append _ (filter (is_tagged tag) (take k fields)) (filter (is_tagged tag) (f ∷ []))
+
+  pub rows_here : is_tagged tag f ≡ true → rows_of tag content (take (k + 1) fields) ≡ rows_of tag content (take k fields)
+      ++ result_unwrap_or (content f.bytes) []
+  rows_here tagged = rows_joined ∙ ap (λ rows. rows_of tag content (take k fields) ++ rows) (rw tagged (append-nil (result_unwrap_or (content f.bytes) [])))
+
+  pub rows_elsewhere : is_tagged tag f ≡ false → rows_of tag content (take (k + 1) fields) ≡ rows_of tag content (take k fields)
+  rows_elsewhere other = rows_joined ∙ ap (λ rows. rows_of tag content (take k fields) ++ rows) (rw other refl) ∙ append-nil (rows_of tag content (take k fields))
+
+-- what a comparison of a field's name with a tag's text tells
+not_false : (b : Bool) → not b ≡ false → b ≡ true
+not_false true is = refl
+not_false false is = absurd cc
+
+not_true : (b : Bool) → not b ≡ true → b ≡ false
+not_true true is = absurd cc
+not_true false is = refl
+
+pub same_tag : (tag : FieldTag) (f : Field) (text : List ℕ) (differ : Bool) → text ≡ tag_text tag → differ ≡ not (pointwise nat_eq f.tag text)
+    → differ ≡ false → is_tagged tag f ≡ true
+same_tag tag f text differ is differs fails =
+    ap (pointwise nat_eq f.tag) (sym is) ∙ not_false (pointwise nat_eq f.tag text) (sym differs ∙ fails)
+
+pub other_tag : (tag : FieldTag) (f : Field) (text : List ℕ) (differ : Bool) → text ≡ tag_text tag → differ ≡ not (pointwise nat_eq f.tag text)
+    → differ ≡ true → is_tagged tag f ≡ false
+other_tag tag f text differ is differs holds =
+    ap (pointwise nat_eq f.tag) (sym is) ∙ not_true (pointwise nat_eq f.tag text) (sym differs ∙ holds)
+
+-- which definition says the fault of a field
+pub control_step : (nall : ℕ) (type : RecordType) (before : List Field) (f : Field) (tag : ControlTag) → control_in type f ≡ Some tag
+    → update_field_fault nall type before f ≡ control_fault tag before f
+control_step nall type before f tag is = rw is refl
+
+pub common_step : (nall : ℕ) (type : RecordType) (before : List Field) (f : Field) → control_in type f ≡ None
+    → update_field_fault nall type before f ≡ field_fault nall type before f
+common_step nall type before f is = rw is refl
+
+-- what is known of a result, after one step more
+pub if_ok : {X E : Type 0} (P Q : X → Type 0) (r : Result X E) → IfOk r P → ((x : X) → P x → Q x) → IfOk r Q
+if_ok P Q (Ok x) is next = next x is
+if_ok P Q (Err e) is next = tt
+
+pub on_ok : {T E P Q : Type 0} (r : Result T E) → OnOk r P → (P → Q) → OnOk r Q
+on_ok (Ok x) p next = next p
+on_ok (Err e) p next = tt

@@ -1,0 +1,15 @@
+use Rattle.std.proofs.Common.{◌≡◌, ◌≤◌, ◌+◌, ◌-◌, [], length, false}
+use Rattle.file_spec.specs.FileRecords.{records_after}
+use Rattle.update_spec.specs.UpdatedCell.{edits_with}
+use Rattle.update_apply.proofs.file.read_following.Given as goal
+
+abbrev pub invariant-loop-at : goal.invariant-loop-at
+invariant-loop-at l = record {
+  within : l.at ≤ length l.bytes;
+  counted : l.number ≤ l.at + 3;
+  walk : edits_with l.look l.level l.number l.edits (records_after l.bytes l.at false) ≡ edits_with l.look l.level 3 []
+      (records_after l.bytes l.start false);
+}
+
+abbrev pub decreases-loop-at : goal.decreases-loop-at
+decreases-loop-at l = length l.bytes - l.at

@@ -1,0 +1,2 @@
+pub mod FileParts
+pub mod Gives

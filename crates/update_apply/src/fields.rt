@@ -1,0 +1,162 @@
+//! The first fault of the fields of a record.
+
+ghost use Rattle.std.specs.Prelude.{◌≡◌, ◌≤◌, ◌<◌, ◌+◌, ◌&&◌, ℕ, List, [], not, length, drop, take, IfOk, Result};
+ghost use Rattle.std.specs.List.{list_any};
+ghost use Rattle.std.specs.Option.{option_or};
+ghost use Rattle.std.specs.Result.{result_err};
+ghost use Rattle.field_spec.specs.declared.fault.FieldFault.{FieldFault as SpecFault};
+ghost use Rattle.file_spec.specs.FieldTags.{is_tagged, may_repeat};
+ghost use Rattle.file_spec.specs.RecordFaults.{of_field};
+ghost use Rattle.file_spec.specs.RecordReading.{content_fault, field_fault};
+ghost use Rattle.s57_fields.specs.Gives.{Gives};
+ghost use Rattle.update_spec.specs.UpdateFields.{control_fault, update_fields_fault};
+
+use crate::control::read_control;
+use crate::tags::{control_in, control_text, may_repeat, stands_before, tag_in, tag_text};
+use field_spec::FieldFault;
+use file_spec::{FieldTag, RecordFault, RecordType};
+use iso_frame::Frame;
+use s57_fields::{
+    FieldRefusal, read_attf, read_attv, read_dsid, read_dspm, read_dssi, read_ffpt, read_foid,
+    read_frid, read_fspt, read_natf, read_sg2d, read_sg3d, read_vrid, read_vrpt,
+};
+use std::alloc::{AllocError, Global};
+use update_spec::ControlTag;
+
+/// What a reader of a field finds wrong with its bytes, if anything.
+fn fault_of<T: Drop>(read: Result<T, FieldRefusal>) -> Result<Option<FieldFault>, AllocError>
+    ensures { (content : Result T SpecFault) → Gives read content → IfOk result (λ fault. fault ≡ result_err content) }
+{
+    match read {
+        Ok(_) => Ok(None),
+        Err(FieldRefusal::BadField) => Ok(Some(FieldFault::BadField)),
+        Err(FieldRefusal::BadText) => Ok(Some(FieldFault::BadText)),
+        Err(FieldRefusal::NoMemory) => Err(AllocError),
+    }
+}
+
+/// The fault of the bytes of a field, if they have one; national attributes are at the level NALL.
+fn content_fault(
+    alloc: Global,
+    nall: u8,
+    tag: FieldTag,
+    bytes: &[u8],
+) -> Result<Option<FieldFault>, AllocError>
+    ensures { IfOk result (λ fault. fault ≡ content_fault nall tag bytes.now) }
+{
+    match tag {
+        FieldTag::RecordNumber => Ok(None),
+        FieldTag::Dsid => fault_of(read_dsid(alloc, bytes)),
+        FieldTag::Dssi => fault_of(read_dssi(alloc, bytes)),
+        FieldTag::Dspm => fault_of(read_dspm(alloc, bytes)),
+        FieldTag::Frid => fault_of(read_frid(alloc, bytes)),
+        FieldTag::Foid => fault_of(read_foid(alloc, bytes)),
+        FieldTag::Attf => fault_of(read_attf(alloc, bytes)),
+        FieldTag::Natf => fault_of(read_natf(alloc, nall, bytes)),
+        FieldTag::Ffpt => fault_of(read_ffpt(alloc, bytes)),
+        FieldTag::Fspt => fault_of(read_fspt(alloc, bytes)),
+        FieldTag::Vrid => fault_of(read_vrid(alloc, bytes)),
+        FieldTag::Attv => fault_of(read_attv(alloc, bytes)),
+        FieldTag::Vrpt => fault_of(read_vrpt(alloc, bytes)),
+        FieldTag::Sg2d => fault_of(read_sg2d(alloc, bytes)),
+        FieldTag::Sg3d => fault_of(read_sg3d(alloc, bytes)),
+    }
+}
+
+/// What the fault of a field makes of its record.
+fn of_field(fault: FieldFault) -> RecordFault
+    ensures { result ≡ of_field fault }
+{
+    match fault {
+        FieldFault::BadField => RecordFault::BadField,
+        FieldFault::BadText => RecordFault::BadText,
+    }
+}
+
+/// Whether a tag that may stand once stands among the first so many fields.
+fn stands_twice(frame: &Frame<'_>, tag: FieldTag, k: usize) -> bool
+    requires { k ≤ length frame.now.fields }
+    ensures { result ≡ (list_any (is_tagged tag) (take k frame.now.fields) && not (may_repeat tag)) }
+{
+    if may_repeat(tag) {
+        return false;
+    }
+    stands_before(frame, &tag_text(tag), k)
+}
+
+/// The fault of a field that may stand in a cell's record, behind so many fields.
+fn common_fault(
+    alloc: Global,
+    nall: u8,
+    kind: RecordType,
+    frame: &Frame<'_>,
+    k: usize,
+    name: &[u8; 4],
+    bytes: &[u8],
+) -> Result<Option<RecordFault>, AllocError>
+    requires { k ≤ length frame.now.fields }
+    ensures { IfOk result (λ fault. fault ≡ field_fault nall kind (take k frame.now.fields) (record { tag = name.now; bytes = bytes.now })) }
+{
+    let Some(tag) = tag_in(kind, name) else {
+        return Ok(Some(RecordFault::ForeignTag));
+    };
+    if stands_twice(frame, tag, k) {
+        return Ok(Some(RecordFault::RepeatedField));
+    }
+    match content_fault(alloc, nall, tag, bytes)? {
+        Some(fault) => Ok(Some(of_field(fault))),
+        None => Ok(None),
+    }
+}
+
+/// The fault of a control field behind so many fields.
+fn control_fault(frame: &Frame<'_>, k: usize, tag: ControlTag, bytes: &[u8]) -> Option<RecordFault>
+    requires { k ≤ length frame.now.fields }
+    ensures { (name : List ℕ) → result ≡ control_fault tag (take k frame.now.fields) (record { tag = name; bytes = bytes.now }) }
+{
+    if stands_before(frame, &control_text(tag), k) {
+        return Some(RecordFault::RepeatedField);
+    }
+    match read_control(bytes) {
+        Some(_) => None,
+        None => Some(RecordFault::BadField),
+    }
+}
+
+/// The fault of the field at a place behind the fields before it.
+fn field_fault(
+    alloc: Global,
+    nall: u8,
+    kind: RecordType,
+    frame: &Frame<'_>,
+    k: usize,
+) -> Result<Option<RecordFault>, AllocError>
+    requires { k < length frame.now.fields }
+    ensures { IfOk result (λ fault. update_fields_fault nall kind (take k frame.now.fields) (drop k frame.now.fields) ≡ option_or fault (update_fields_fault nall kind (take (k + 1) frame.now.fields) (drop (k + 1) frame.now.fields))) }
+{
+    let (name, bytes) = frame.field(k);
+    match control_in(kind, &name) {
+        Some(tag) => Ok(control_fault(frame, k, tag, bytes)),
+        None => common_fault(alloc, nall, kind, frame, k, &name, bytes),
+    }
+}
+
+/// The fault of the first field that has one; national attributes are at the level NALL.
+///
+/// An `Err` means out of memory.
+pub fn fields_fault(
+    alloc: Global,
+    nall: u8,
+    kind: RecordType,
+    frame: &Frame<'_>,
+) -> Result<Option<RecordFault>, AllocError>
+    ensures { IfOk result (λ fault. fault ≡ update_fields_fault nall kind [] frame.now.fields) }
+{
+    let count = frame.count();
+    for k in 0..count {
+        if let Some(fault) = field_fault(alloc, nall, kind, frame, k)? {
+            return Ok(Some(fault));
+        }
+    }
+    Ok(None)
+}

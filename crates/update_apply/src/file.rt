@@ -1,0 +1,219 @@
+//! Update files.
+
+ghost use Rattle.std.specs.Prelude.{◌≡◌, ◌+◌, ◌<◌, ◌≤◌, ◌++◌, [], length, false, IfOk, IfErr, MatchResult, Ok, OnOk, option_to_list};
+ghost use Rattle.cell_spec.specs.Writable.{IsWritable};
+ghost use Rattle.file_spec.specs.FileRecords.{records_after};
+ghost use Rattle.file_spec.specs.RecordFaults.{of_frame};
+ghost use Rattle.update_spec.specs.UpdateHead.{update_identification};
+ghost use Rattle.update_spec.specs.UpdatedCell.{edits_of_update, edits_with};
+ghost use Rattle.update_spec.specs.declared.fault.UpdateFault.TheVariants.{Record};
+ghost use Rattle.update_apply.specs.FileParts.{edits_behind, edits_of_data};
+ghost use Rattle.update_apply.specs.Gives.{GivesFile, GivesNext, IsUpdate, IsUpdateRefusal, RefusesAt};
+ghost use Rattle.update_apply.specs.declared.refusal.StepRefusal.TheVariants.{Fault};
+
+use crate::head::update_identification;
+use crate::record::record_update;
+use crate::refusal::{StepRefusal, UpdateRefusal};
+use cell_spec::{Edit, writable_cells_are_readable};
+use chain_topo::ListLook;
+use edit_sets::{EditSet, FormRefusal};
+use file_spec::RecordFault;
+use iso_frame::{FrameFault, next_record};
+use s57_types::{Cell, Head, HeadEdit, Items};
+use std::alloc::{AllocError, Global};
+use update_spec::UpdateFault;
+
+/// The refusal of a record whose frame has a fault.
+fn of_frame(fault: FrameFault) -> StepRefusal
+    ensures { result ≡ Fault (Record (of_frame fault)) }
+{
+    let fault = match fault {
+        FrameFault::Short => RecordFault::Short,
+        FrameFault::BadLeader => RecordFault::BadLeader,
+        FrameFault::BadDirectory => RecordFault::BadDirectory,
+    };
+    StepRefusal::Fault(UpdateFault::Record(fault))
+}
+
+/// Adds the edit of a record, if it stands for one.
+fn push_edit(edits: &mut Items<Edit>, edit: Option<Edit>) -> Result<(), AllocError>
+    ensures { OnOk result (edits.new ≡ edits.old ++ option_to_list edit) }
+{
+    match edit {
+        Some(edit) => edits.push(edit),
+        None => Ok(()),
+    }
+}
+
+/// Adds the edit of the record of a number, which begins at a place, and answers the record's length.
+fn read_next(
+    alloc: Global,
+    look: &ListLook<'_>,
+    nall: u8,
+    level: u8,
+    number: u32,
+    bytes: &[u8],
+    at: usize,
+    edits: &mut Items<Edit>,
+) -> Result<usize, StepRefusal>
+    requires nall { nall ≡ look.now.head.nall }
+    requires before_end { at < length bytes.now }
+    ensures within { IfOk result (λ n. (0 < n) × (at + n ≤ length bytes.now)) }
+    ensures step { IfOk result (λ n. edits_with look.now level number edits.old (records_after bytes.now at false) ≡ edits_with look.now level (number + 1) edits.new (records_after bytes.now (at + n) false)) }
+    ensures fault { IfErr result (λ e. RefusesAt number at e (edits_with look.now level number edits.old (records_after bytes.now at false))) }
+{
+    let frame = match next_record(bytes, at, false) {
+        Ok(frame) => frame,
+        Err(fault) => return Err(of_frame(fault)),
+    };
+    let edit = match record_update(alloc, look, nall, level, number, edits.as_slice(), &frame) {
+        Ok(edit) => edit,
+        Err(refusal) => return Err(refusal),
+    };
+    push_edit(edits, edit)?;
+    Ok(frame.length())
+}
+
+/// The edits of the records from a place on, which are those from number 3 on.
+fn read_following(
+    alloc: Global,
+    look: &ListLook<'_>,
+    nall: u8,
+    level: u8,
+    bytes: &[u8],
+    start: usize,
+) -> Result<Items<Edit>, UpdateRefusal>
+    requires nall { nall ≡ look.now.head.nall }
+    requires within { start ≤ length bytes.now }
+    requires small { length bytes.now ≤ 16777216 }
+    ensures { GivesFile result (edits_with look.now level 3 [] (records_after bytes.now start false)) }
+{
+    let mut edits = Items::make(alloc);
+    let mut at = start;
+    let mut number: u32 = 3;
+    while at < bytes.len() {
+        match read_next(alloc, look, nall, level, number, bytes, at, &mut edits) {
+            Ok(length) => at += length,
+            Err(refusal) => return Err(refusal.at(number, at as u32)),
+        }
+        number += 1;
+    }
+    Ok(edits)
+}
+
+/// The identification of an update at a place, and the place behind it.
+fn identification_at(
+    alloc: Global,
+    head: &Head,
+    bytes: &[u8],
+    at: usize,
+) -> Result<((HeadEdit, u8), usize), StepRefusal>
+    requires { at ≤ length bytes.now }
+    ensures next { GivesNext bytes.now false 2 at (update_identification head.now) result }
+    ensures within { IfOk result (λ x. x.1 ≤ length bytes.now) }
+{
+    let frame = match next_record(bytes, at, false) {
+        Ok(frame) => frame,
+        Err(fault) => return Err(of_frame(fault)),
+    };
+    match update_identification(alloc, head, &frame) {
+        Ok(general) => Ok((general, at + frame.length())),
+        Err(refusal) => Err(refusal),
+    }
+}
+
+/// The edits of the records behind the identification, which begin at a place, and that of the head.
+fn read_behind(
+    alloc: Global,
+    cell: &Cell,
+    look: &ListLook<'_>,
+    edit: HeadEdit,
+    level: u8,
+    bytes: &[u8],
+    at: usize,
+) -> Result<Items<Edit>, UpdateRefusal>
+    requires look { look.now ≡ cell.now }
+    requires within { at ≤ length bytes.now }
+    requires small { length bytes.now ≤ 16777216 }
+    ensures { GivesFile result (edits_behind cell.now (edit, level) (records_after bytes.now at false)) }
+{
+    match read_following(alloc, look, cell.head.nall, level, bytes, at) {
+        Ok(mut edits) => {
+            edits.push(Edit::Head(edit))?;
+            Ok(edits)
+        }
+        Err(refusal) => Err(refusal),
+    }
+}
+
+/// The edits of the data records, which begin at a place.
+fn read_data(
+    alloc: Global,
+    cell: &Cell,
+    look: &ListLook<'_>,
+    bytes: &[u8],
+    at: usize,
+) -> Result<Items<Edit>, UpdateRefusal>
+    requires look { look.now ≡ cell.now }
+    requires within { at ≤ length bytes.now }
+    requires small { length bytes.now ≤ 16777216 }
+    ensures { GivesFile result (edits_of_data cell.now (length bytes.now) (records_after bytes.now at false)) }
+{
+    match identification_at(alloc, &cell.head, bytes, at) {
+        Ok(((edit, level), next)) => read_behind(alloc, cell, look, edit, level, bytes, next),
+        Err(refusal) => Err(refusal.at(2, at as u32)),
+    }
+}
+
+/// The edits of an update file of at most 16,777,216 bytes, or its first fault.
+fn read_edits(
+    alloc: Global,
+    cell: &Cell,
+    look: &ListLook<'_>,
+    bytes: &[u8],
+) -> Result<Items<Edit>, UpdateRefusal>
+    requires look { look.now ≡ cell.now }
+    requires small { length bytes.now ≤ 16777216 }
+    ensures { GivesFile result (edits_of_update cell.now bytes.now) }
+{
+    match next_record(bytes, 0, true) {
+        Ok(descriptive) => read_data(alloc, cell, look, bytes, descriptive.length()),
+        Err(fault) => Err(of_frame(fault).at(1, 0)),
+    }
+}
+
+/// The set of the edits that an update of a cell stands for.
+fn set_of(
+    alloc: Global,
+    cell: &Cell,
+    bytes: &[u8],
+    edits: &[Edit],
+) -> Result<EditSet, UpdateRefusal>
+    requires writable { IsWritable cell.now }
+    requires edits { edits_of_update cell.now bytes.now ≡ Ok edits.now }
+    ensures { MatchResult result (IsUpdate cell.now bytes.now) (IsUpdateRefusal cell.now bytes.now) }
+{
+    writable_cells_are_readable();
+    match EditSet::make(alloc, edits, &[], cell.head.nall) {
+        Ok(set) => Ok(set),
+        Err(FormRefusal::NoMemory) => Err(UpdateRefusal::NoMemory),
+        Err(FormRefusal::Fault(_)) => unreachable!(),
+    }
+}
+
+/// The edits that an update file of at most 16,777,216 bytes stands for, one for each vector and feature record and one of the head, or
+/// the file's first fault: a data descriptive record, whose fields aren't looked at, the data set identification of an update, at most one
+/// data set geographic reference, which has no effect, and vector and feature records in any order (S-57 Part 3, 7 and 8.4). The cell that
+/// they make is the one that the records make one after the other.
+pub fn update_edits(alloc: Global, cell: &Cell, bytes: &[u8]) -> Result<EditSet, UpdateRefusal>
+    requires writable { IsWritable cell.now }
+    requires small { length bytes.now ≤ 16777216 }
+    ensures { MatchResult result (IsUpdate cell.now bytes.now) (IsUpdateRefusal cell.now bytes.now) }
+{
+    writable_cells_are_readable();
+    let look = ListLook::make(alloc, cell)?;
+    match read_edits(alloc, cell, &look, bytes) {
+        Ok(edits) => set_of(alloc, cell, bytes, edits.as_slice()),
+        Err(refusal) => Err(refusal),
+    }
+}
