@@ -10,6 +10,7 @@ use Rattle.std.proofs.Common.{
   ◌-◌,
   ◌==◌,
   ◌&&◌,
+  ◌||◌,
   Bool,
   true,
   false,
@@ -46,9 +47,10 @@ use Rattle.std.proofs.lemmas.Bool.{le-ltb, leb-true}
 use Rattle.std.proofs.lemmas.List.Elements.{recursion_from_All}
 use Rattle.std.proofs.lemmas.List.Folds.{list_all-append}
 use Rattle.frame_spec.specs.RecordFrame.{Field}
+use Rattle.frame_spec.specs.WrittenRecord.{record_length, field_lengths}
 use Rattle.s57_types.specs.Subfield.{Subfield, unsigned_of, text_of, wide_text_of, fixed_of, is_plain}
-use Rattle.s57_types.specs.FieldRows.{attribute_row, partner_row, dsid_row}
-use Rattle.s57_types.specs.RecordFields.{written_length, length_limit, identification_length, parameter_fields, dsid_of_head}
+use Rattle.s57_types.specs.FieldRows.{attribute_row, partner_row, dsid_row, dspm_row}
+use Rattle.s57_types.specs.RecordFields.{written_length, length_limit, identification_length, parameter_fields, dsid_of_head, dspm_of_head}
 use Rattle.s57_types.specs.Fitness.{attribute_texts, has_good_names, has_good_texts, is_feature_kind, is_fit_head, is_vector_kind, unfitness}
 use Rattle.s57_types.specs.Heads.{has_plain_texts}
 use Rattle.s57_types.specs.declared.cell.Cell.{Cell}
@@ -74,7 +76,7 @@ use Rattle.file_spec.specs.RecordReading.{rows_of}
 use Rattle.file_spec.specs.declared.tag.FieldTag.{FieldTag}
 use Rattle.file_spec.specs.declared.tag.FieldTag.TheVariants as tags
 use Rattle.decode_laws.proofs.Contents.{and_true, attribute_is_plain, attributes_are_plain, end_names_vector, partner_is_plain, place_names_vector}
-use Rattle.decode_laws.proofs.Records.{IsGood, demanded, rows_pass}
+use Rattle.decode_laws.proofs.Records.{IsGood, demanded}
 use Rattle.answer_laws.proofs.Among.{Among, found, known_of}
 use Rattle.update_spec.specs.ControlFields.{instruction_of}
 use Rattle.update_spec.specs.UpdatedAttributes.{is_delete_value, place_of_code, updated_attributes, with_given, with_place, without_place}
@@ -158,6 +160,21 @@ attributes_pass test level (x ∷ given) attrs g all =
     let parts = both_parts (test x) (list_all test given) g in
     attributes_pass test level given (with_given level attrs x) parts.1 (taken_pass test level attrs x parts.0 all)
 
+-- ---- rows that were read
+flat_pass : {A X : Type 0} (test : X → Bool) (g : A → List X) → ((a : A) → list_all test (g a) ≡ true) → (fs : List A) → list_all test (flat_map g fs) ≡ true
+flat_pass test g each [] = refl
+flat_pass test g each (a ∷ fs) = all_joined test (g a) (flat_map g fs) (each a) (flat_pass test g each fs)
+
+pub rows_pass : {X : Type 0} (tag : FieldTag) (content : List ℕ → Result (List X) FieldFault) (test : X → Bool)
+    → ((b : List ℕ) (xs : List X) → content b ≡ Ok xs → list_all test xs ≡ true)
+    → (fields : List Field) → list_all test (rows_of tag content fields) ≡ true
+rows_pass {X = X} tag content test each fields = flat_pass test (λ (f : Field). result_unwrap_or (content f.bytes) [])
+    (λ f. by f (content f.bytes) refl) (filter (is_tagged tag) fields)
+  where
+    by : (f : Field) (r : Result (List X) FieldFault) → content f.bytes ≡ r → list_all test (result_unwrap_or r []) ≡ true
+    by f (Ok xs) is = each f.bytes xs is
+    by f (Err e) is = refl
+
 -- ---- texts of rows, one after the other
 pub texts_flat : {X : Type 0} (row : X → List Subfield) (xs : List X) → list_all (λ x. list_all is_plain (row x)) xs ≡ true
     → list_all is_plain (flat_map row xs) ≡ true
@@ -195,7 +212,7 @@ none_kept : {X : Type 0} (p : X → Bool) (xs : List X) → list_any p xs ≡ fa
 none_kept p [] none = refl
 none_kept {X = X} p (x ∷ xs) none = by (p x) none (none_kept p xs)
   where
-    by : (b : Bool) → cond b true (list_any p xs) ≡ false → (list_any p xs ≡ false → filter p xs ≡ []) → cond b (x ∷ filter p xs) (filter p xs) ≡ []
+    by : (b : Bool) → (b || list_any p xs) ≡ false → (list_any p xs ≡ false → filter p xs ≡ []) → cond b (x ∷ filter p xs) (filter p xs) ≡ []
     by true none rest = absurd cc
     by false none rest = rest none
 
@@ -330,7 +347,7 @@ pub head_texts : (h : Head) (d : Dsid) (s : Dssi) → list_all is_plain (dsid_ro
 head_texts h d s old new =
     let kept = dsid_texts (dsid_of_head h) old in
     let told = dsid_texts d new in
-    and_true _ _ kept.0 (and_true _ _ told.1.0 (and_true _ _ kept.1.1.0 (and_true _ _ told.1.1.1.0 (and_true _ true kept.1.1.1.1 refl))))
+    and_true _ _ kept.0 (and_true _ _ told.1 (and_true _ _ kept.2 (and_true _ _ told.3 (and_true _ true kept.4 refl))))
 
 third_of : (a b texts d e f : Bool) → (a && b && texts && d && e && f) ≡ true → texts ≡ true
 third_of a b texts d e f all =
@@ -341,4 +358,6 @@ third_of a b texts d e f all =
 
 pub head_row_is_plain : (h : Head) → is_fit_head h ≡ true → list_all is_plain (dsid_row (dsid_of_head h)) ≡ true
 unfolding is_fit_head
-head_row_is_plain h fit = third_of _ _ (list_all is_plain (dsid_row (dsid_of_head h))) _ _ _ fit
+head_row_is_plain h fit =
+    third_of (nat_le h.aall 1) (nat_le h.nall 2) (list_all is_plain (dsid_row (dsid_of_head h))) (list_all is_plain (dspm_row (dspm_of_head h)))
+    (nat_le (identification_length h) length_limit) (nat_le (record_length (field_lengths (parameter_fields 0 h))) length_limit) fit

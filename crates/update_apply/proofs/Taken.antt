@@ -75,12 +75,13 @@ use Rattle.decode_laws.proofs.Contents.{
   places_name_vectors,
   vrid_names_vector,
 }
-use Rattle.decode_laws.proofs.Records.{IsGood, demanded, passed, required_is, rows_pass, step}
+use Rattle.decode_laws.proofs.Records.{IsGood, demanded, passed, required_is, step}
 use Rattle.update_apply.proofs.GoodRecords.{
   attributes_pass,
   feature_rows,
   fits_when_short,
   nationals_are_plain,
+  rows_pass,
   target_feature_is_good,
   target_vector_is_good,
   texts_flat,
