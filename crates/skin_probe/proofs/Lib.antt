@@ -1,0 +1,7 @@
+pub mod Sums
+pub mod Crossings
+pub mod Named
+pub mod Rows
+pub mod EdgeSums
+pub mod BalancedSides
+pub mod Lines

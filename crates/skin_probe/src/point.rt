@@ -1,0 +1,74 @@
+//! The areas round a point.
+
+ghost use Rattle.std.specs.Prelude.{◌≡◌, IfOk};
+ghost use Rattle.skin_probe.specs.Sheet.{sheet_of, winds_round};
+ghost use Rattle.skin_probe.specs.Sorts.{is_of_sort};
+ghost use Rattle.skin_probe.specs.Totals.{unbalanced_total, winding_total};
+ghost use Rattle.skin_probe.specs.WindingLaws.{AreSumsByEdges};
+
+use crate::area::AreaSort;
+use crate::balance::unbalanced_sides;
+use crate::law::{balanced_sides_equal_winding, winding_sum_by_edges};
+use crate::sheet::{ProbeSheet, SortWinds, probe_sort};
+use cell_bench::Bench;
+use chain_topo::Steps;
+use geo_exact::Point;
+use std::alloc::{AllocError, Global};
+use std::sync::ledger::Ledger;
+
+/// How many findings SideUnbalanced the cell of a bench has.
+fn unbalanced_of(bench: &Bench) -> u32
+    ensures { result ≡ unbalanced_total bench.now }
+{
+    bench.known();
+    let table = bench.findings();
+    unbalanced_sides(table)
+}
+
+/// What is told of the areas of a sort in the cell of a bench.
+fn winds_of_sort<L: Ledger>(
+    alloc: Global,
+    bench: &Bench,
+    sort: AreaSort,
+    at: Point,
+    steps: &mut Steps<L>,
+) -> Result<SortWinds, AllocError>
+    ensures rounds { IfOk result (λ winds. winds.rounds ≡ winds_round (is_of_sort sort) bench.now at) }
+    ensures total { IfOk result (λ winds. winds.total ≡ winding_total (is_of_sort sort) bench.now at) }
+{
+    let store = bench.store();
+    let winds = probe_sort(alloc, store, sort, at, steps)?;
+    Ok(winds)
+}
+
+/// The areas of Group 1 and those of the coverage that go round a point, its latitude `y` and its longitude `x` in integer coordinate
+/// units, each with its winding number; the two sums; and how many sides are unbalanced.
+///
+/// Whatever the boundaries, the two sums are sums over the edges of the cell: how much more often such areas use the edge forward than in
+/// reverse, times the edge's own part. So where no side is unbalanced they are equal.
+///
+/// An `Err` means out of memory.
+pub fn probe<L: Ledger>(
+    alloc: Global,
+    bench: &Bench,
+    y: i32,
+    x: i32,
+    steps: &mut Steps<L>,
+) -> Result<ProbeSheet, AllocError>
+    ensures sheet { IfOk result (λ sheet. sheet ≡ sheet_of bench.now (y, x)) }
+    ensures by_edges { IfOk result (λ sheet. AreSumsByEdges bench.now (y, x) sheet.sums) }
+    ensures balanced { IfOk result (λ sheet. sheet.unbalanced ≡ 0 → sheet.sums.0 ≡ sheet.sums.1) }
+{
+    bench.known();
+    winding_sum_by_edges();
+    balanced_sides_equal_winding();
+    let group1 = winds_of_sort(alloc, bench, AreaSort::Group1, (y, x), steps)?;
+    let cover = winds_of_sort(alloc, bench, AreaSort::Coverage, (y, x), steps)?;
+    let unbalanced = unbalanced_of(bench);
+    Ok(ProbeSheet {
+        group1: group1.rounds,
+        cover: cover.rounds,
+        sums: (group1.total, cover.total),
+        unbalanced,
+    })
+}
