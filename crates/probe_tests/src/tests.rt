@@ -1,3 +1,5 @@
+mod benches;
 mod drawn;
 mod lines;
 mod north;
+mod points;

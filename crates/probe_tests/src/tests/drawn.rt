@@ -2,17 +2,12 @@
 
 ghost use Rattle.std.specs.Prelude.{◌≡◌, ◌<◌};
 
-use super::lines::{NUMBER, area, edge, node};
+use super::benches::{bench_with, check_point};
 use super::north;
-use cell_bench::Bench;
-use cell_make::make_cell;
-use cell_spec::{Edit, Rows};
 use chain_topo::Steps;
 use check_words::segments_of;
-use edit_sets::EditSet;
 use geo_exact::Point;
 use look_counter::start_counter;
-use skin_probe::probe;
 use std::alloc::{AllocError, Global};
 use std::marker::Brand;
 use std::process::Abort;
@@ -61,38 +56,6 @@ fn drawn_orientations(alloc: Global, state: &mut u32) -> Result<Vec<u8>, AllocEr
     Ok(orientations)
 }
 
-/// Adds the line and the area to a generated square.
-fn bench_with<L: Ledger>(
-    rt: &impl Abort,
-    alloc: Global,
-    points: &[Point],
-    orientations: &[u8],
-    steps: &mut Steps<L>,
-) -> Result<Bench, AllocError> {
-    let mut bench = match Bench::load(alloc, make_cell(alloc, 1)?, steps) {
-        Ok(bench) => bench,
-        Err(_) => panic!(rt; "the square isn't loaded"),
-    };
-    let inner = points.get(1..points.len().saturating_sub(1)).unwrap_or(&[]);
-    let first = points.first().copied().unwrap_or((0, 0));
-    let edits = [
-        Edit::Add(node(alloc, first)?),
-        Edit::Add(edge(alloc, inner)?),
-        Edit::Add(area(alloc, orientations)?),
-    ];
-    let set = match EditSet::make(alloc, &edits, &[], bench.head().nall) {
-        Ok(set) => set,
-        Err(_) => panic!(rt; "the edits have a fault of form"),
-    };
-    let plan = match bench.plan(alloc, &set, &Rows::make(alloc), &[], steps) {
-        Ok(plan) => plan,
-        Err(_) => panic!(rt; "the square doesn't take the edits"),
-    };
-    bench.reserve(alloc, &plan)?;
-    bench.install(plan);
-    Ok(bench)
-}
-
 /// How often an area goes along the line forward, less in reverse.
 fn excess(orientations: &[u8]) -> i64 {
     let mut excess = 0i64;
@@ -104,26 +67,6 @@ fn excess(orientations: &[u8]) -> i64 {
         }
     }
     excess
-}
-
-/// Checks what is told of a point against the other way of counting.
-fn check_point<L: Ledger>(
-    rt: &impl Abort,
-    alloc: Global,
-    bench: &Bench,
-    at: Point,
-    wanted: i64,
-    steps: &mut Steps<L>,
-) -> Result<(), AllocError> {
-    let sheet = probe(alloc, bench, at.0, at.1, steps)?;
-    assert_eq!(rt; sheet.sums, (wanted, 0));
-    if wanted == 0 {
-        assert!(rt; sheet.group1.is_empty());
-    } else {
-        assert_eq!(rt; sheet.group1.as_slice(), [(NUMBER, wanted)].as_slice());
-    }
-    assert!(rt; sheet.cover.is_empty());
-    Ok(())
 }
 
 /// Checks all points of the square in which the line lies, but those on it.

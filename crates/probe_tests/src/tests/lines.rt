@@ -11,6 +11,12 @@ use std::alloc::{AllocError, Global};
 /// The numbers of the node, the edge and the area, which no record of the generated cell has.
 pub(crate) const NUMBER: u32 = 100;
 
+/// The area.
+pub(crate) const AREA_NAME: RecName = RecName {
+    kind: Fe,
+    id: NUMBER,
+};
+
 fn named(kind: Kind) -> RecName {
     RecName { kind, id: NUMBER }
 }
