@@ -1,4 +1,5 @@
-use Rattle.std.proofs.Common.{pos, int_lt, of_z, to_z, to_z-of_z, w8, ap, ◌∙◌}
+use Rattle.std.proofs.Common.{pos, int_lt, of_z, to_z, w8, ap, ◌∙◌}
+use Rattle.std.proofs.lemmas.Int.{to_z-of_z}
 use Rattle.std.specs.Int.{int_signum}
 use Rattle.geometry_spec.specs.Points.{orientation_of}
 use Rattle.skin_probe.proofs.Crossings.{left_is_east, sign_fits}

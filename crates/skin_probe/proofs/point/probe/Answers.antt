@@ -1,4 +1,5 @@
-use Rattle.std.proofs.Common.{◌≡◌, ℤ, rules, SFits, of_z, to_z, to_z-of_z, w64, subst, sym, ◌∙◌}
+use Rattle.std.proofs.Common.{◌≡◌, ℤ, rules, SFits, of_z, to_z, w64, subst, sym, ◌∙◌}
+use Rattle.std.proofs.lemmas.Int.{to_z-of_z}
 use Rattle.skin_probe.specs.WindingLaws.{AreSumsByEdges, both_totals}
 use Rattle.skin_probe.proofs.point.probe.Goals as goal
 

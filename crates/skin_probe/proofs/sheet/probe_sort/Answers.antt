@@ -1,4 +1,5 @@
-use Rattle.std.proofs.Common.{◌≡◌, ℕ, ℤ, List, filter, map, rules, SFits, to_z-of_z, w64, ap, ◌∙◌}
+use Rattle.std.proofs.Common.{◌≡◌, ℕ, ℤ, List, filter, map, rules, SFits, w64, ap, ◌∙◌}
+use Rattle.std.proofs.lemmas.Int.{to_z-of_z}
 use Rattle.s57_types.specs.declared.record.Feature.{Feature}
 use Rattle.skin_probe.specs.Sheet.{goes_round, wind_of}
 use Rattle.skin_probe.specs.Sorts.{is_of_sort}

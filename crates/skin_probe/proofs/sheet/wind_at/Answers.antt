@@ -1,4 +1,5 @@
-use Rattle.std.proofs.Common.{rules, SFits, to_z-of_z, w64, ◌∙◌}
+use Rattle.std.proofs.Common.{rules, SFits, w64, ◌∙◌}
+use Rattle.std.proofs.lemmas.Int.{to_z-of_z}
 use Rattle.skin_probe.proofs.sheet.wind_at.Goals as goal
 
 pub returns : goal.returns
