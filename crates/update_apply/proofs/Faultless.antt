@@ -1,59 +1,17 @@
 -- A list of edits without a fault, with one edit more.
-use Rattle.std.proofs.Common.{
-  ◌≡◌,
-  ℕ,
-  zero,
-  suc,
-  ◌+◌,
-  ◌<◌,
-  ◌≤◌,
-  ◌||◌,
-  ◌&&◌,
-  ◌==◌,
-  Bool,
-  true,
-  false,
-  List,
-  [],
-  ◌∷◌,
-  ◌++◌,
-  length,
-  take,
-  Option,
-  None,
-  Some,
-  inl,
-  inr,
-  refl,
-  sym,
-  ap,
-  subst,
-  ◌∙◌,
-  arith,
-  nat_lt,
-  slice_get,
-  option_map,
-  option_and_then,
-  length-append,
-  zero-add,
-}
-use Rattle.std.specs.Prelude.{if◌then◌else◌}
+use Rattle.std.proofs.Common.{◌≡◌, ℕ, zero, suc, ◌+◌, ◌<◌, ◌≤◌, ◌==◌, Bool, true, false, List, [], ◌∷◌, ◌++◌, length, take, None, Some, inl, inr, refl, sym, ap, ◌∙◌, arith, nat_lt, slice_get, option_and_then, length-append, zero-add}
 use Rattle.std.specs.List.{list_all, list_any}
 use Rattle.std.proofs.lemmas.Bool.{cases_lt, le-ltb}
 use Rattle.std.proofs.lemmas.Bool.Decides.{nat_tests}
 use Rattle.std.proofs.lemmas.List.{take-append-le}
 use Rattle.std.proofs.lemmas.List.Folds.{list_all-append, list_any-append}
-use Rattle.std.proofs.Math.Bool.{or-false}
 use Rattle.std.proofs.Math.Seq.{take-append_seam}
-use Rattle.s57_types.specs.declared.name.RecName.{RecName}
 use Rattle.s57_types.specs.declared.cell.Cell.{Cell}
 use Rattle.cell_spec.specs.declared.edit.Edit.{Edit}
-use Rattle.cell_spec.specs.Edits.{name_of_edit, apply_edits, has_its_record, find_their_records}
+use Rattle.cell_spec.specs.Edits.{name_of_edit, apply_edits, find_their_records}
 use Rattle.cell_spec.specs.Readable.{IsReadable}
 use Rattle.edit_sets.specs.FormFault.{edit_fault, fault_at, first_edit_fault, form_fault, has_edit_of, unfitness_of_edit}
 use Rattle.edit_sets.specs.Counts.{count_fault}
-use Rattle.edit_sets.specs.declared.fault.FormFault.{FormFault}
-use Rattle.edit_sets.specs.declared.fault.FormFault.TheVariants.{Empty, TooMany, Twice, Unfit}
 use Rattle.edit_sets.proofs.FirstFaults.{each_none, none_at}
 use Rattle.edit_sets.proofs.Formed.{formed, no_fault}
 use Rattle.answer_laws.specs.EditedAnswers.{FindTheirRecords}

@@ -1,35 +1,6 @@
 -- The fields of a record from a place on.
-use Rattle.std.proofs.Common.{
-  ◌≡◌,
-  ℕ,
-  ◌+◌,
-  ◌≤◌,
-  ◌<◌,
-  ◌||◌,
-  Bool,
-  true,
-  false,
-  cond,
-  not,
-  List,
-  [],
-  ◌∷◌,
-  ◌++◌,
-  length,
-  take,
-  drop,
-  Option,
-  Some,
-  None,
-  Result,
-  Ok,
-  Err,
-  refl,
-  sym,
-  ap,
-  ◌∙◌,
-}
-use Rattle.std.specs.Prelude.{slice_get, find, filter, if◌then◌else◌, nat_eq, IfOk, OnOk}
+use Rattle.std.proofs.Common.{◌≡◌, ℕ, ◌+◌, ◌≤◌, ◌||◌, Bool, true, false, cond, not, List, [], ◌∷◌, ◌++◌, length, take, drop, Option, Some, None, Result, Ok, Err, refl, sym, ap, ◌∙◌}
+use Rattle.std.specs.Prelude.{slice_get, find, filter, nat_eq, IfOk, OnOk}
 use Rattle.std.specs.Cmp.Lexicographic.{pointwise}
 use Rattle.std.specs.List.{list_any, flat_map}
 use Rattle.std.specs.Option.{option_map, option_or, ok_or}
@@ -44,7 +15,6 @@ use Rattle.frame_spec.specs.RecordFrame.{Field}
 use Rattle.field_spec.specs.declared.fault.FieldFault.{FieldFault}
 use Rattle.file_spec.specs.FieldTags.{is_tagged, tag_text}
 use Rattle.file_spec.specs.RecordReading.{field_fault, record_type, type_of_leading, rows_of}
-use Rattle.file_spec.specs.declared.fault.RecordFault.{RecordFault}
 use Rattle.file_spec.specs.declared.fault.RecordFault.TheVariants.{ForeignTag, MissingField}
 use Rattle.file_spec.specs.declared.tag.FieldTag.{FieldTag}
 use Rattle.file_spec.specs.declared.tag.FieldTag.TheVariants as tags

@@ -1,29 +1,5 @@
 -- The edits of an update with the next record of its file, and the records that must be there.
-use Rattle.std.proofs.Common.{
-  ◌≡◌,
-  ◌≤◌,
-  ◌<◌,
-  ◌+◌,
-  ℕ,
-  Bool,
-  false,
-  List,
-  [],
-  ◌++◌,
-  length,
-  Option,
-  Some,
-  None,
-  Result,
-  Ok,
-  Err,
-  refl,
-  ap,
-  ◌∙◌,
-  inl,
-  inr,
-  arith,
-}
+use Rattle.std.proofs.Common.{◌≡◌, ◌≤◌, ◌<◌, ◌+◌, ℕ, Bool, false, List, ◌++◌, length, Option, Result, Ok, Err, refl, ap, ◌∙◌, inl, inr, arith}
 use Rattle.std.specs.Prelude.{option_to_list}
 use Rattle.std.proofs.lemmas.Bool.{lt-ltb, cases_lt}
 use Rattle.frame_spec.specs.FrameDecision.{frame_at}
@@ -31,7 +7,6 @@ use Rattle.frame_spec.specs.RecordFrame.{Field, FrameView}
 use Rattle.frame_spec.specs.declared.fault.FrameFault.{FrameFault}
 use Rattle.frame_spec.specs.declared.fault.FrameFault.TheVariants as frames
 use Rattle.s57_types.specs.declared.cell.Cell.{Cell}
-use Rattle.s57_types.specs.declared.fault.CellFault.{CellFault}
 use Rattle.cell_spec.specs.declared.edit.Edit.{Edit}
 use Rattle.file_spec.specs.FileRecords.{FileRecord, records_after, record_then}
 use Rattle.file_spec.specs.RecordFaults.{◌>>=◌, of_frame}

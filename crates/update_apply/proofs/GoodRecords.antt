@@ -1,44 +1,5 @@
 -- The names and texts of what an update makes: they were read, or are those of the cell, so they can be written.
-use Rattle.std.proofs.Common.{
-  ◌≡◌,
-  inl,
-  inr,
-  ℕ,
-  zero,
-  suc,
-  ◌+◌,
-  ◌-◌,
-  ◌==◌,
-  ◌&&◌,
-  ◌||◌,
-  Bool,
-  true,
-  false,
-  cond,
-  not,
-  List,
-  [],
-  ◌∷◌,
-  ◌++◌,
-  length,
-  take,
-  drop,
-  find,
-  filter,
-  nat_le,
-  nat_lt,
-  Option,
-  None,
-  Some,
-  Result,
-  Ok,
-  Err,
-  refl,
-  sym,
-  ap,
-  subst,
-  ◌∙◌,
-}
+use Rattle.std.proofs.Common.{◌≡◌, inl, inr, ℕ, zero, suc, ◌+◌, ◌-◌, ◌==◌, ◌&&◌, ◌||◌, Bool, true, false, cond, not, List, [], ◌∷◌, ◌++◌, length, take, drop, filter, nat_le, nat_lt, Option, None, Some, Result, Ok, Err, refl, sym, ap, subst, ◌∙◌}
 use Rattle.std.specs.Prelude.{if◌then◌else◌, slice_set}
 use Rattle.std.specs.List.{list_all, list_any, flat_map}
 use Rattle.std.specs.Option.{option_and_then}
@@ -54,7 +15,6 @@ use Rattle.s57_types.specs.RecordFields.{written_length, length_limit, identific
 use Rattle.s57_types.specs.Fitness.{attribute_texts, has_good_names, has_good_texts, is_feature_kind, is_fit_head, is_vector_kind, unfitness}
 use Rattle.s57_types.specs.Heads.{has_plain_texts}
 use Rattle.s57_types.specs.declared.cell.Cell.{Cell}
-use Rattle.s57_types.specs.declared.fault.Unfit.{Unfit}
 use Rattle.s57_types.specs.declared.fault.Unfit.TheVariants.{BadName, BadText, TooLong}
 use Rattle.s57_types.specs.declared.field.Dsid.{Dsid}
 use Rattle.s57_types.specs.declared.field.Dssi.{Dssi}
@@ -71,7 +31,6 @@ use Rattle.field_spec.proofs.Written.{both_parts}
 use Rattle.cell_spec.specs.Lookup.{all_records, head_and_records, is_named, lookup_record}
 use Rattle.cell_spec.specs.Readable.{IsReadable}
 use Rattle.file_spec.specs.FieldTags.{is_tagged}
-use Rattle.file_spec.specs.RecordFaults.{demand}
 use Rattle.file_spec.specs.RecordReading.{rows_of}
 use Rattle.file_spec.specs.declared.tag.FieldTag.{FieldTag}
 use Rattle.file_spec.specs.declared.tag.FieldTag.TheVariants as tags

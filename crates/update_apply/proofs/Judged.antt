@@ -1,32 +1,5 @@
 -- A record of an update is judged alike by the cell before the update and by the one that the records before it left.
-use Rattle.std.proofs.Common.{
-  ◌≡◌,
-  ℕ,
-  ◌+◌,
-  ◌==◌,
-  ◌&&◌,
-  Bool,
-  true,
-  false,
-  not,
-  is_some,
-  List,
-  [],
-  length,
-  nat_le,
-  nat_lt,
-  find,
-  Option,
-  None,
-  Some,
-  Result,
-  Ok,
-  Err,
-  refl,
-  sym,
-  ap,
-  ◌∙◌,
-}
+use Rattle.std.proofs.Common.{◌≡◌, ℕ, ◌+◌, ◌==◌, ◌&&◌, Bool, true, false, not, is_some, List, [], length, nat_le, nat_lt, Option, None, Some, Result, Ok, refl, sym, ap, ◌∙◌}
 use Rattle.std.specs.Prelude.{if◌then◌else◌}
 use Rattle.std.specs.List.{list_any}
 use Rattle.std.specs.Option.{option_and_then, ok_or}
@@ -59,7 +32,7 @@ use Rattle.file_spec.specs.declared.tag.FieldTag.TheVariants as tags
 use Rattle.file_spec.specs.declared.tag.RecordType.{RecordType}
 use Rattle.file_spec.specs.declared.tag.RecordType.TheVariants as types
 use Rattle.answer_laws.specs.EditedAnswers.{FindTheirRecords, edited_answer, record_after}
-use Rattle.answer_laws.proofs.Among.{Among, any_passes, found}
+use Rattle.answer_laws.proofs.Among.{any_passes, found}
 use Rattle.answer_laws.proofs.EditedHead.{level_kept}
 use Rattle.answer_laws.proofs.EditedNames.{record_is}
 use Rattle.answer_laws.proofs.FreeNames.{IsFree, no_edit, nothing_added, record_stays}

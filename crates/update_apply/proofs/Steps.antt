@@ -1,10 +1,10 @@
 -- What a refused step makes of the steps behind it.
-use Rattle.std.proofs.Common.{◌≡◌, ℕ, Option, None, Some, Result, Ok, Err, refl, ap, sym, subst, ◌∙◌}
+use Rattle.std.proofs.Common.{◌≡◌, ℕ, Result, Ok, Err, ap, sym, subst}
 use Rattle.std.specs.Result.{IsErrAnd}
 use Rattle.s57_types.specs.declared.fault.CellFault.{CellFault}
-use Rattle.file_spec.specs.RecordFaults.{◌>>=◌, ◌>>◌}
+use Rattle.file_spec.specs.RecordFaults.{◌>>=◌}
 use Rattle.update_spec.specs.declared.fault.UpdateFault.{UpdateFault}
-use Rattle.update_apply.specs.Gives.{GivesUpdate, Refuses, GivesFile, RefusesAt, RefusesFile, refusal_at}
+use Rattle.update_apply.specs.Gives.{GivesUpdate, Refuses, RefusesAt, RefusesFile, refusal_at}
 use Rattle.update_apply.specs.declared.refusal.StepRefusal.{StepRefusal}
 use Rattle.update_apply.specs.declared.refusal.StepRefusal.TheVariants.{Fault, NoMemory}
 use Rattle.update_apply.specs.declared.refusal.UpdateRefusal.{UpdateRefusal}

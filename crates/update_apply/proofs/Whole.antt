@@ -1,39 +1,6 @@
 -- The edits of an update, applied at once, make the cell that its records make one after the other.
-use Rattle.std.proofs.Common.{
-  ◌≡◌,
-  ℕ,
-  ◌+◌,
-  ◌≤◌,
-  ◌<◌,
-  Bool,
-  true,
-  false,
-  cond,
-  not,
-  List,
-  [],
-  ◌∷◌,
-  ◌++◌,
-  length,
-  nat_lt,
-  nat_eq,
-  Option,
-  None,
-  Some,
-  Result,
-  Ok,
-  Err,
-  refl,
-  sym,
-  ap,
-  subst,
-  ◌∙◌,
-  arith,
-  length-append,
-}
-use Rattle.std.specs.Prelude.{option_to_list, filter, filter_map}
-use Rattle.std.specs.Cmp.Lexicographic.{pointwise}
-use Rattle.std.specs.List.{list_all, list_any}
+use Rattle.std.proofs.Common.{◌≡◌, ℕ, ◌+◌, ◌≤◌, true, false, List, [], ◌∷◌, ◌++◌, length, Option, None, Some, Result, Ok, Err, refl, sym, ap, subst, ◌∙◌, arith, length-append}
+use Rattle.std.specs.Prelude.{option_to_list, filter_map}
 use Rattle.std.specs.Result.{result_map_both}
 use Rattle.std.proofs.lemmas.Bool.{ltb-true}
 use Rattle.std.proofs.lemmas.List.{append-nil}
@@ -49,8 +16,8 @@ use Rattle.s57_types.specs.declared.head.HeadEdit.{HeadEdit}
 use Rattle.s57_types.specs.declared.record.Rec.{Rec}
 use Rattle.field_spec.specs.Contents.{dsid_content, dssi_content}
 use Rattle.cell_spec.specs.declared.edit.Edit.{Edit}
-use Rattle.cell_spec.specs.declared.edit.Edit.TheVariants.{Add, Set, Del, Head}
-use Rattle.cell_spec.specs.Edits.{name_of_edit, added_by, edited_record, apply_edits, has_its_record, find_their_records}
+use Rattle.cell_spec.specs.declared.edit.Edit.TheVariants.{Head}
+use Rattle.cell_spec.specs.Edits.{name_of_edit, edited_record, apply_edits, has_its_record, find_their_records}
 use Rattle.cell_spec.specs.Names.{same_name}
 use Rattle.cell_spec.specs.Readable.{IsReadable}
 use Rattle.cell_spec.specs.Writable.{IsWritable}
@@ -60,17 +27,16 @@ use Rattle.edit_sets.specs.FormFault.{GuardedEdits, IsSetOf, first_edit_fault, f
 use Rattle.edit_sets.specs.declared.fault.FormFault.{FormFault}
 use Rattle.answer_laws.proofs.AddedUp.{all_kept}
 use Rattle.file_spec.specs.FileRecords.{FileRecord, file_records}
-use Rattle.file_spec.specs.RecordFaults.{◌>>=◌, ◌>>◌, demand}
+use Rattle.file_spec.specs.RecordFaults.{◌>>=◌}
 use Rattle.file_spec.specs.RecordReading.{required}
 use Rattle.file_spec.specs.declared.tag.FieldTag.TheVariants as tags
 use Rattle.file_spec.specs.declared.tag.RecordType.TheVariants as types
 use Rattle.update_spec.specs.UpdateFaults.{of_record, update_fault_at}
 use Rattle.update_spec.specs.UpdateFields.{checked_fields}
 use Rattle.update_spec.specs.UpdateHead.{head_update, identification_fault, is_identification, told_by_values, update_identification}
-use Rattle.update_spec.specs.UpdateRecords.{record_update, update_limit}
+use Rattle.update_spec.specs.UpdateRecords.{record_update}
 use Rattle.update_spec.specs.UpdatedCell.{after_update, edits_of_records, edits_of_update, edits_with, told_by, told_by_next, updated_by_records, updated_cell, with_updates}
 use Rattle.update_spec.specs.declared.fault.UpdateFault.{UpdateFault}
-use Rattle.update_spec.specs.declared.fault.UpdateFault.TheVariants.{Record}
 use Rattle.update_apply.specs.Gives.{IsUpdate, IsUpdateRefusal, RefusesFile}
 use Rattle.update_apply.specs.declared.refusal.UpdateRefusal.{UpdateRefusal}
 use Rattle.update_apply.specs.declared.refusal.UpdateRefusal.TheVariants as update

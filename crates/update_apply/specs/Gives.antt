@@ -3,7 +3,6 @@ use Rattle.std.specs.Prelude.{◌≡◌, ℕ, Bool, true, false, List, [], lengt
 use Rattle.frame_spec.specs.RecordFrame.{Field}
 use Rattle.s57_types.specs.declared.cell.Cell.{Cell}
 use Rattle.s57_types.specs.declared.fault.CellFault.{CellFault}
-use Rattle.cell_spec.specs.declared.edit.Edit.{Edit}
 use Rattle.cell_spec.specs.Edits.{apply_edits, find_their_records}
 use Rattle.edit_sets.specs.FormFault.{GuardedEdits}
 use Rattle.file_spec.specs.FileRecords.{records_after}

@@ -1,5 +1,5 @@
 -- The faults of the records of an update file, and how they are told.
-use Rattle.std.specs.Prelude.{ℕ, Result, Ok, Err}
+use Rattle.std.specs.Prelude.{ℕ, Result}
 use Rattle.std.specs.Result.{result_map_both}
 use Rattle.s57_types.specs.declared.fault.CellFault.{CellFault}
 use Rattle.file_spec.specs.RecordFaults.{code_of}

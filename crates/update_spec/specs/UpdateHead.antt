@@ -1,6 +1,6 @@
 -- The first data record of an update, and what it makes of the cell's head (S-57 Part 3, 7.3.1 and 8.4.1; which values the head takes over is
 -- this project's own).
-use Rattle.std.specs.Prelude.{ℕ, ◌+◌, ◌==◌, ◌&&◌, ◌||◌, Bool, false, not, nat_le, nat_lt, nat_eq, List, [], length, Option, Some, None, Result, Ok, Err, if◌then◌else◌}
+use Rattle.std.specs.Prelude.{ℕ, ◌+◌, ◌==◌, ◌&&◌, ◌||◌, Bool, false, not, nat_le, nat_lt, nat_eq, List, length, Option, Some, None, Result, Ok, if◌then◌else◌}
 use Rattle.std.specs.Cmp.Lexicographic.{pointwise}
 use Rattle.std.specs.List.{list_all}
 use Rattle.frame_spec.specs.FrameDecision.{is_digit}

@@ -1,6 +1,6 @@
 -- The edit that a record of an update stands for, or the record's first fault: in the order of the steps below (S-57 Part 3, 8.4; Appendix B.1;
 -- the order is this project's own).
-use Rattle.std.specs.Prelude.{ℕ, ◌+◌, ◌==◌, ◌&&◌, Bool, not, is_some, nat_le, nat_lt, List, [], length, Option, Some, None, Result, Ok, Err, if◌then◌else◌}
+use Rattle.std.specs.Prelude.{ℕ, ◌+◌, ◌==◌, ◌&&◌, Bool, not, is_some, nat_le, nat_lt, List, length, Option, Some, None, Result, Ok, Err, if◌then◌else◌}
 use Rattle.std.specs.List.{list_any}
 use Rattle.std.specs.Option.{option_and_then, ok_or}
 use Rattle.frame_spec.specs.RecordFrame.{Field}

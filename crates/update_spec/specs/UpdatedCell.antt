@@ -8,7 +8,7 @@ use Rattle.cell_spec.specs.declared.edit.Edit.{Edit}
 use Rattle.cell_spec.specs.declared.edit.Edit.TheVariants.{Head}
 use Rattle.cell_spec.specs.Edits.{apply_edits}
 use Rattle.file_spec.specs.FileRecords.{FileRecord, file_records}
-use Rattle.file_spec.specs.RecordFaults.{◌>>=◌, ◌>>◌, of_frame}
+use Rattle.file_spec.specs.RecordFaults.{◌>>=◌, of_frame}
 use Rattle.file_spec.specs.declared.fault.RecordFault.TheVariants.{Short}
 use Rattle.update_spec.specs.UpdateFaults.{update_fault_at}
 use Rattle.update_spec.specs.UpdateHead.{update_identification}

@@ -1,4 +1,4 @@
-use Rattle.std.proofs.Common.{◌≡◌, List, Ok, true, false, sym, ap, ◌∙◌}
+use Rattle.std.proofs.Common.{List, Ok, true, sym, ap, ◌∙◌}
 use Rattle.std.specs.Prelude.{ℤ}
 use Rattle.file_spec.specs.RecordFaults.{◌>>=◌}
 use Rattle.update_spec.specs.UpdatedRows.{updated_list, updated_rows}

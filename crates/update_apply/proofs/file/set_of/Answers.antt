@@ -1,5 +1,4 @@
-use Rattle.std.proofs.Common.{◌≡◌, ◌≤◌, ◌<◌, [], length, subst, arith}
-use Rattle.cell_spec.specs.Readable.{IsReadable}
+use Rattle.std.proofs.Common.{[], subst, arith}
 use Rattle.edit_sets.specs.FormFault.{IsFormRefusal}
 use Rattle.update_apply.proofs.Whole.{few_edits, no_form_fault, set_is}
 use Rattle.update_apply.proofs.file.set_of.Goals as goal

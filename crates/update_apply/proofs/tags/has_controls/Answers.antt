@@ -1,5 +1,4 @@
-use Rattle.std.proofs.Common.{◌≡◌, ◌||◌, is_some, take, sym, ap, ◌∙◌}
-use Rattle.std.specs.List.{list_any}
+use Rattle.std.proofs.Common.{◌||◌, is_some, take, sym, ap, ◌∙◌}
 use Rattle.frame_spec.specs.RecordFrame.{Field}
 use Rattle.update_spec.specs.ControlFields.{control_in, has_controls}
 use Rattle.update_apply.proofs.FieldWalk.{any_more}
