@@ -1,6 +1,6 @@
 //! Update files.
 
-ghost use Rattle.std.specs.Prelude.{◌≡◌, ◌+◌, ◌<◌, ◌≤◌, ◌++◌, [], length, false, IfOk, IfErr, MatchResult, Ok, OnOk, option_to_list};
+ghost use Rattle.std.specs.Prelude.{◌≡◌, ◌+◌, ◌<◌, ◌≤◌, ◌++◌, [], length, false, IfOk, IfErr, MatchResult, Ok, option_to_list};
 ghost use Rattle.cell_spec.specs.Writable.{IsWritable};
 ghost use Rattle.file_spec.specs.FileRecords.{records_after};
 ghost use Rattle.file_spec.specs.RecordFaults.{of_frame};
@@ -11,6 +11,7 @@ ghost use Rattle.update_apply.specs.FileParts.{edits_behind, edits_of_data};
 ghost use Rattle.update_apply.specs.Gives.{GivesFile, GivesNext, IsUpdate, IsUpdateRefusal, RefusesAt};
 ghost use Rattle.update_apply.specs.declared.refusal.StepRefusal.TheVariants.{Fault};
 
+use crate::earlier::Earlier;
 use crate::head::update_identification;
 use crate::record::record_update;
 use crate::refusal::{StepRefusal, UpdateRefusal};
@@ -19,7 +20,7 @@ use chain_topo::ListLook;
 use edit_sets::{EditSet, FormRefusal};
 use file_spec::RecordFault;
 use iso_frame::{FrameFault, next_record};
-use s57_types::{Cell, Head, HeadEdit, Items};
+use s57_types::{Cell, Head, HeadEdit};
 use std::alloc::{AllocError, Global};
 use update_spec::UpdateFault;
 
@@ -35,17 +36,17 @@ fn of_frame(fault: FrameFault) -> StepRefusal
     StepRefusal::Fault(UpdateFault::Record(fault))
 }
 
-/// Adds the edit of a record, if it stands for one.
-fn push_edit(edits: &mut Items<Edit>, edit: Option<Edit>) -> Result<(), AllocError>
-    ensures { OnOk result (edits.new ≡ edits.old ++ option_to_list edit) }
+/// Earlier edits with that of a record, if it stands for one.
+fn with_edit(earlier: Earlier, edit: Option<Edit>) -> Result<Earlier, AllocError>
+    ensures { IfOk result (λ more. more ≡ earlier ++ option_to_list edit) }
 {
     match edit {
-        Some(edit) => edits.push(edit),
-        None => Ok(()),
+        Some(edit) => earlier.with(edit),
+        None => Ok(earlier),
     }
 }
 
-/// Adds the edit of the record of a number, which begins at a place, and answers the record's length.
+/// Earlier edits with that of the record of a number, which begins at a place, and the record's length.
 fn read_next(
     alloc: Global,
     look: &ListLook<'_>,
@@ -54,24 +55,24 @@ fn read_next(
     number: u32,
     bytes: &[u8],
     at: usize,
-    edits: &mut Items<Edit>,
-) -> Result<usize, StepRefusal>
+    earlier: Earlier,
+) -> Result<(Earlier, usize), StepRefusal>
     requires nall { nall ≡ look.now.head.nall }
     requires before_end { at < length bytes.now }
-    ensures within { IfOk result (λ n. (0 < n) × (at + n ≤ length bytes.now)) }
-    ensures step { IfOk result (λ n. edits_with look.now level number edits.old (records_after bytes.now at false) ≡ edits_with look.now level (number + 1) edits.new (records_after bytes.now (at + n) false)) }
-    ensures fault { IfErr result (λ e. RefusesAt number at e (edits_with look.now level number edits.old (records_after bytes.now at false))) }
+    ensures within { IfOk result (λ x. (0 < x.1) × (at + x.1 ≤ length bytes.now)) }
+    ensures step { IfOk result (λ x. edits_with look.now level number earlier (records_after bytes.now at false) ≡ edits_with look.now level (number + 1) x.0 (records_after bytes.now (at + x.1) false)) }
+    ensures fault { IfErr result (λ e. RefusesAt number at e (edits_with look.now level number earlier (records_after bytes.now at false))) }
 {
     let frame = match next_record(bytes, at, false) {
         Ok(frame) => frame,
         Err(fault) => return Err(of_frame(fault)),
     };
-    let edit = match record_update(alloc, look, nall, level, number, edits.as_slice(), &frame) {
+    let edit = match record_update(alloc, look, nall, level, number, &earlier, &frame) {
         Ok(edit) => edit,
         Err(refusal) => return Err(refusal),
     };
-    push_edit(edits, edit)?;
-    Ok(frame.length())
+    let more = with_edit(earlier, edit)?;
+    Ok((more, frame.length()))
 }
 
 /// The edits of the records from a place on, which are those from number 3 on.
@@ -82,23 +83,26 @@ fn read_following(
     level: u8,
     bytes: &[u8],
     start: usize,
-) -> Result<Items<Edit>, UpdateRefusal>
+) -> Result<Earlier, UpdateRefusal>
     requires nall { nall ≡ look.now.head.nall }
     requires within { start ≤ length bytes.now }
     requires small { length bytes.now ≤ 16777216 }
     ensures { GivesFile result (edits_with look.now level 3 [] (records_after bytes.now start false)) }
 {
-    let mut edits = Items::make(alloc);
+    let mut earlier = Earlier::none(alloc);
     let mut at = start;
     let mut number: u32 = 3;
     while at < bytes.len() {
-        match read_next(alloc, look, nall, level, number, bytes, at, &mut edits) {
-            Ok(length) => at += length,
+        match read_next(alloc, look, nall, level, number, bytes, at, earlier) {
+            Ok((more, length)) => {
+                earlier = more;
+                at += length;
+            }
             Err(refusal) => return Err(refusal.at(number, at as u32)),
         }
         number += 1;
     }
-    Ok(edits)
+    Ok(earlier)
 }
 
 /// The identification of an update at a place, and the place behind it.
@@ -131,17 +135,14 @@ fn read_behind(
     level: u8,
     bytes: &[u8],
     at: usize,
-) -> Result<Items<Edit>, UpdateRefusal>
+) -> Result<Earlier, UpdateRefusal>
     requires look { look.now ≡ cell.now }
     requires within { at ≤ length bytes.now }
     requires small { length bytes.now ≤ 16777216 }
     ensures { GivesFile result (edits_behind cell.now (edit, level) (records_after bytes.now at false)) }
 {
     match read_following(alloc, look, cell.head.nall, level, bytes, at) {
-        Ok(mut edits) => {
-            edits.push(Edit::Head(edit))?;
-            Ok(edits)
-        }
+        Ok(earlier) => Ok(earlier.with(Edit::Head(edit))?),
         Err(refusal) => Err(refusal),
     }
 }
@@ -153,7 +154,7 @@ fn read_data(
     look: &ListLook<'_>,
     bytes: &[u8],
     at: usize,
-) -> Result<Items<Edit>, UpdateRefusal>
+) -> Result<Earlier, UpdateRefusal>
     requires look { look.now ≡ cell.now }
     requires within { at ≤ length bytes.now }
     requires small { length bytes.now ≤ 16777216 }
@@ -171,7 +172,7 @@ fn read_edits(
     cell: &Cell,
     look: &ListLook<'_>,
     bytes: &[u8],
-) -> Result<Items<Edit>, UpdateRefusal>
+) -> Result<Earlier, UpdateRefusal>
     requires look { look.now ≡ cell.now }
     requires small { length bytes.now ≤ 16777216 }
     ensures { GivesFile result (edits_of_update cell.now bytes.now) }

@@ -4,6 +4,7 @@
 mod attributes;
 mod control;
 mod coordinates;
+mod earlier;
 mod feature;
 mod fields;
 mod file;

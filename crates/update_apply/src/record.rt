@@ -2,13 +2,13 @@
 
 ghost use Rattle.std.specs.Prelude.{◌≡◌, ◌&&◌};
 ghost use Rattle.std.specs.List.{list_any};
-ghost use Rattle.edit_sets.specs.FormFault.{has_edit_of};
 ghost use Rattle.file_spec.specs.FieldTags.{is_tagged};
 ghost use Rattle.file_spec.specs.declared.tag.FieldTag.TheVariants as tags;
 ghost use Rattle.update_spec.specs.UpdateFields.{checked_fields};
 ghost use Rattle.update_spec.specs.UpdateRecords.{are_mixed, feature_update, identifiers, is_next, no_update, record_update, vector_update};
 ghost use Rattle.update_apply.specs.Gives.{GivesUpdate};
 
+use crate::earlier::Earlier;
 use crate::feature::{feature_edit, feature_name};
 use crate::fields::fields_fault;
 use crate::given::required;
@@ -30,23 +30,11 @@ const UPDATE_LIMIT: usize = 4095;
 /// The number of the second data record.
 const SECOND_DATA_RECORD: u32 = 3;
 
-/// Whether one of some edits is about what has a name. They are 4,095 at most.
-fn has_edit_of(earlier: &[Edit], name: RecName) -> bool
-    ensures { result ≡ has_edit_of name earlier.now }
-{
-    for edit in earlier {
-        if edit.name() == name {
-            return true;
-        }
-    }
-    false
-}
-
 /// The fault of a record of a name behind those of earlier edits, if it has one: the name isn't new, or there is no room.
-fn next_fault(earlier: &[Edit], name: RecName) -> Option<UpdateFault>
+fn next_fault(earlier: &Earlier, name: RecName) -> Option<UpdateFault>
     ensures { result ≡ is_next earlier.now name }
 {
-    if has_edit_of(earlier, name) {
+    if earlier.has(name) {
         return Some(UpdateFault::Record(RecordFault::TwiceName));
     }
     if earlier.len() >= UPDATE_LIMIT {
@@ -76,7 +64,7 @@ fn vector_update(
     alloc: Global,
     look: &ListLook<'_>,
     nall: u8,
-    earlier: &[Edit],
+    earlier: &Earlier,
     frame: &Frame<'_>,
 ) -> Result<Edit, StepRefusal>
     requires { nall ≡ look.now.head.nall }
@@ -123,7 +111,7 @@ fn feature_update(
     look: &ListLook<'_>,
     nall: u8,
     level: u8,
-    earlier: &[Edit],
+    earlier: &Earlier,
     frame: &Frame<'_>,
 ) -> Result<Edit, StepRefusal>
     requires { nall ≡ look.now.head.nall }
@@ -163,7 +151,7 @@ pub fn record_update(
     nall: u8,
     level: u8,
     number: u32,
-    earlier: &[Edit],
+    earlier: &Earlier,
     frame: &Frame<'_>,
 ) -> Result<Option<Edit>, StepRefusal>
     requires { nall ≡ look.now.head.nall }

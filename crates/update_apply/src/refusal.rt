@@ -11,7 +11,7 @@ use std::alloc::AllocError;
 use update_spec::UpdateFault;
 
 /// Why a record of an update file was not read.
-#[derive(Clone, Copy, Debug, PartialEq, Eq)]
+#[derive(Clone, Copy)]
 pub enum StepRefusal {
     /// The first fault of the record.
     Fault(UpdateFault),

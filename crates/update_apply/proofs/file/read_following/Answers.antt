@@ -4,4 +4,4 @@ use Rattle.update_apply.proofs.file.read_following.Goals as goal
 
 pub returns : goal.returns
 returns c = let past : length c.args.bytes.now ≤ c.loop-at.at = omega arith in
-    sym c.loop-at.invariant.walk ∙ edits-end c.args.look.now c.args.level c.loop-at.number c.loop-at.edits c.args.bytes.now c.loop-at.at past
+    sym c.loop-at.invariant.walk ∙ edits-end c.args.look.now c.args.level c.loop-at.number c.loop-at.earlier c.args.bytes.now c.loop-at.at past

@@ -7,7 +7,7 @@ abbrev pub invariant-loop-at : goal.invariant-loop-at
 invariant-loop-at l = record {
   within : l.at ≤ length l.bytes;
   counted : l.number ≤ l.at + 3;
-  walk : edits_with l.look l.level l.number l.edits (records_after l.bytes l.at false) ≡ edits_with l.look l.level 3 []
+  walk : edits_with l.look l.level l.number l.earlier (records_after l.bytes l.at false) ≡ edits_with l.look l.level 3 []
       (records_after l.bytes l.start false);
 }
 
