@@ -41,6 +41,31 @@ fn winds_of_sort<L: Ledger>(
     Ok(winds)
 }
 
+/// What is told of the areas round a point.
+fn sheet_at<L: Ledger>(
+    alloc: Global,
+    bench: &Bench,
+    at: Point,
+    steps: &mut Steps<L>,
+) -> Result<ProbeSheet, AllocError>
+    ensures sheet { IfOk result (λ sheet. sheet ≡ sheet_of bench.now at) }
+    ensures by_edges { IfOk result (λ sheet. AreSumsByEdges bench.now at sheet.sums) }
+    ensures balanced { IfOk result (λ sheet. sheet.unbalanced ≡ 0 → sheet.sums.0 ≡ sheet.sums.1) }
+{
+    bench.known();
+    winding_sum_by_edges();
+    balanced_sides_equal_winding();
+    let group1 = winds_of_sort(alloc, bench, AreaSort::Group1, at, steps)?;
+    let cover = winds_of_sort(alloc, bench, AreaSort::Coverage, at, steps)?;
+    let unbalanced = unbalanced_of(bench);
+    Ok(ProbeSheet {
+        group1: group1.rounds,
+        cover: cover.rounds,
+        sums: (group1.total, cover.total),
+        unbalanced,
+    })
+}
+
 /// The areas of Group 1 and those of the coverage that go round a point, its latitude `y` and its longitude `x` in integer coordinate
 /// units, each with its winding number; the two sums; and how many sides are unbalanced.
 ///
@@ -59,16 +84,5 @@ pub fn probe<L: Ledger>(
     ensures by_edges { IfOk result (λ sheet. AreSumsByEdges bench.now (y, x) sheet.sums) }
     ensures balanced { IfOk result (λ sheet. sheet.unbalanced ≡ 0 → sheet.sums.0 ≡ sheet.sums.1) }
 {
-    bench.known();
-    winding_sum_by_edges();
-    balanced_sides_equal_winding();
-    let group1 = winds_of_sort(alloc, bench, AreaSort::Group1, (y, x), steps)?;
-    let cover = winds_of_sort(alloc, bench, AreaSort::Coverage, (y, x), steps)?;
-    let unbalanced = unbalanced_of(bench);
-    Ok(ProbeSheet {
-        group1: group1.rounds,
-        cover: cover.rounds,
-        sums: (group1.total, cover.total),
-        unbalanced,
-    })
+    sheet_at(alloc, bench, (y, x), steps)
 }

@@ -1,7 +1,6 @@
-use Rattle.std.proofs.Common.{◌≡◌, ℤ, rules, SFits, of_z, to_z, w64, subst, sym, ◌∙◌}
+use Rattle.std.proofs.Common.{rules, SFits, w64, sym, ◌∙◌}
 use Rattle.std.proofs.lemmas.Int.{to_z-of_z}
-use Rattle.skin_probe.specs.WindingLaws.{AreSumsByEdges, both_totals}
-use Rattle.skin_probe.proofs.point.probe.Goals as goal
+use Rattle.skin_probe.proofs.point.sheet_at.Goals as goal
 
 pub returns-clause-sheet : goal.returns-clause-sheet
 returns-clause-sheet g c =
@@ -17,14 +16,13 @@ returns-clause-sheet g c =
 
 pub returns-clause-by_edges : goal.returns-clause-by_edges
 returns-clause-by_edges g c =
-    let at = (c.args.y, c.args.x) in
     let one : SFits w64 c.in_ok-group1.group1.total = search rules in
     let two : SFits w64 c.in_ok-cover.cover.total = search rules in
-    let sums : (to_z w64 (of_z w64 c.in_ok-group1.group1.total), to_z w64 (of_z w64 c.in_ok-cover.cover.total)) ≡ both_totals c.args.bench.now at =
-        λ i. ((to_z-of_z w64 c.in_ok-group1.group1.total one ∙ c.in_ok-group1.ensures.total) i,
-            (to_z-of_z w64 c.in_ok-cover.cover.total two ∙ c.in_ok-cover.ensures.total) i) in
-    subst (λ (pair : ℤ × ℤ). AreSumsByEdges c.args.bench.now at pair) (sym sums)
-        (c.winding_sum_by_edges.ensures c.args.bench.now c.known.ensures.writable at)
+    let by_edges = c.winding_sum_by_edges.ensures c.args.bench.now c.known.ensures.writable c.args.at in
+    record {
+      group1 = to_z-of_z w64 c.in_ok-group1.group1.total one ∙ c.in_ok-group1.ensures.total ∙ by_edges.group1;
+      coverage = to_z-of_z w64 c.in_ok-cover.cover.total two ∙ c.in_ok-cover.ensures.total ∙ by_edges.coverage;
+    }
 
 pub returns-clause-balanced : goal.returns-clause-balanced
 returns-clause-balanced g c = λ none.
@@ -32,5 +30,5 @@ returns-clause-balanced g c = λ none.
     let two : SFits w64 c.in_ok-cover.cover.total = search rules in
     to_z-of_z w64 c.in_ok-group1.group1.total one ∙ c.in_ok-group1.ensures.total
     ∙ c.balanced_sides_equal_winding.ensures c.args.bench.now c.known.ensures.writable (sym c.unbalanced_of-unbalanced.ensures ∙ none)
-        (c.args.y, c.args.x)
+        c.args.at
     ∙ sym (to_z-of_z w64 c.in_ok-cover.cover.total two ∙ c.in_ok-cover.ensures.total)
