@@ -1,8 +1,34 @@
 -- The read sets of the subjects of a cell's records are those of all its records, sides and identifiers.
-use Rattle.std.proofs.Common.{◌≡◌, inl, inr, ◌&&◌, ◌||◌, Bool, true, false, List, [], ◌∷◌, Option, None, Some, cond, is_some, map, length, refl, sym, ap, ◌∙◌}
+use Rattle.std.proofs.Common.{
+  ◌≡◌,
+  inl,
+  inr,
+  ◌&&◌,
+  ◌||◌,
+  Bool,
+  true,
+  false,
+  List,
+  [],
+  ◌∷◌,
+  Option,
+  None,
+  Some,
+  cond,
+  is_some,
+  map,
+  length,
+  refl,
+  sym,
+  ap,
+  ◌∙◌,
+  subst,
+}
 use Rattle.std.specs.Prelude.{All, IsTrue, nat_lt, flat_map, option_and_then}
 use Rattle.std.proofs.lemmas.List.Elements.{All-from_recursion}
 use Rattle.std.specs.Cmp.{both_ways, eq_by_cmp_equiv}
+use Rattle.std.specs.List.Sorted.{IsStrictlySortedBy}
+use Rattle.std.specs.Map.{keys_of}
 use Rattle.std.proofs.lemmas.Bool.{both_ways as contradiction, or_right, true_from_ne_false}
 use Rattle.s57_types.specs.declared.name.RecName.{RecName}
 use Rattle.s57_types.specs.declared.name.Lnam.{Lnam}
@@ -14,24 +40,26 @@ use Rattle.cell_spec.specs.declared.key.Key.{Key}
 use Rattle.cell_spec.specs.declared.key.Subject.{Subject}
 use Rattle.cell_spec.specs.declared.key.Subject.TheVariants.{Rec, Side, Pair, Ident}
 use Rattle.cell_spec.specs.Lookup.{all_records, identities_of, is_named, listed_record, lookup_identity, lookup_record, name_of}
-use Rattle.cell_spec.specs.Names.{identity_order, same_name, same_subject, subject_order}
+use Rattle.cell_spec.specs.Names.{identity_order, same_name, subject_order}
 use Rattle.cell_spec.specs.Writable.{IsWritable}
+use Rattle.cell_spec.specs.Ascending.{ascending}
+use Rattle.cell_spec.proofs.Ascending.{holds, holds-ascending, sorted-ascending}
 use Rattle.cell_spec.proofs.Orders.{exact_identities, names_tie, one_when_same, same_from_either, total_identities, total_names}
 use Rattle.cell_spec.proofs.SubjectOrder.{exact_subjects, total_subjects}
 use Rattle.rule_spec.specs.Affected.{is_single}
 use Rattle.rule_spec.specs.Findings.{is_subject}
 use Rattle.rule_spec.specs.Reads.{read_set}
 use Rattle.rule_spec.specs.Records.{edge_named, is_edge_name, vector_of}
-use Rattle.row_table.proofs.Ascending.{IsAscending-empty}
+use Rattle.row_table.specs.Rows.{IsAscending}
 use Rattle.answer_laws.proofs.Among.{Among, among_append, among_map, each_among, found, found_only, in_back, in_front, mapped, one_of_name}
 use Rattle.finding_laws.specs.Tables.{IsReadsOf}
 use Rattle.finding_laws.proofs.Identities.{borne_is}
 use Rattle.finding_laws.proofs.Listed.{no_edge, none_or_some}
 use Rattle.finding_laws.proofs.Lists.{among_flat, among_held, flattened, held_among}
-use Rattle.depend_map.specs.Changes.{ChangesSetTheirSubjects, after_changes, reads_after}
+use Rattle.finding_laws.proofs.Rows.{made_ascends, value_made}
+use Rattle.depend_map.specs.Changes.{kept_of}
 use Rattle.cell_bench.specs.Rejudging.{is_done}
-use Rattle.cell_bench.specs.Singles.{read_change, singles_in, singles_of}
-use Rattle.cell_bench.proofs.EditedTables.{one, turned}
+use Rattle.cell_bench.specs.Singles.{reads_row, singles_in, singles_of}
 use Rattle.cell_bench.proofs.HeadNames.{no_head}
 
 there : (o : Option Record) → is_some o ≡ true → (r : Record) × (o ≡ Some r)
@@ -120,50 +148,43 @@ module _ (c : Cell) (w : IsWritable c) where
       (λ e. held_among subject_order total_subjects s (singles_in c) (subject_listed s single e))
 
   -- ---- their read sets
-  read_by : (single tie rest : Bool) (keys : List Key) (had : Option (List Key))
-      → cond (single && rest) (Some keys) (cond (single && tie) (Some keys) had) ≡ cond (single && (tie || rest)) (Some keys) had
-  read_by true true true keys had = refl
-  read_by true true false keys had = refl
-  read_by true false true keys had = refl
-  read_by true false false keys had = refl
-  read_by false tie rest keys had = refl
+  abbrev singles : List Subject
+  singles = ascending subject_order (singles_in c)
 
-  own_change : (t s : Subject) (had : Option (List Key)) (tie : Bool) → same_subject t s ≡ tie
-      → cond (is_single t && tie) (Some (read_set c t)) had ≡ cond (is_single s && tie) (Some (read_set c s)) had
-  own_change t s had true is = ap (λ u. cond (is_single u && true) (Some (read_set c u)) had) (one t s is)
-  own_change t s had false is = nothing (is_single t) (Some (read_set c t)) ∙ sym (nothing (is_single s) (Some (read_set c s)))
-    where
-      nothing : (b : Bool) (x : Option (List Key)) → cond (b && false) x had ≡ had
-      nothing true x = refl
-      nothing false x = refl
-
-  reads_put : (ss : List Subject) (had : Option (List Key)) (s : Subject)
-      → reads_after had (map (read_change c) ss) s ≡ cond (is_single s && is_done ss s) (Some (read_set c s)) had
-  reads_put [] had s = nothing (is_single s)
-    where
-      nothing : (b : Bool) → had ≡ cond (b && false) (Some (read_set c s)) had
-      nothing true = refl
-      nothing false = refl
-  reads_put (t ∷ ss) had s =
-      reads_put ss (cond (is_single t && same_subject t s) (Some (read_set c t)) had) s
-      ∙ ap (λ before. cond (is_single s && is_done ss s) (Some (read_set c s)) before) (own_change t s had (same_subject t s) refl)
-      ∙ read_by (is_single s) (same_subject t s) (is_done ss s) (read_set c s) had
-      ∙ ap (λ b. cond (is_single s && (b || is_done ss s)) (Some (read_set c s)) had) (turned t s)
+  abbrev one_of_single : Subject × List Key → Bool
+  one_of_single row = is_single row.0
 
   listed_by : (s : Subject) (single : Bool) → is_single s ≡ single
-      → cond (single && is_done (singles_in c) s) (Some (read_set c s)) None ≡ cond (single && is_subject c s) (Some (read_set c s)) None
-  listed_by s true is = ap (λ b. cond b (Some (read_set c s)) None) (all_singles s is)
-  listed_by s false is = refl
+      → cond (holds subject_order s singles && single) (Some (read_set c s)) None ≡ cond (single && is_subject c s) (Some (read_set c s)) None
+  listed_by s true is = ap (λ b. cond b (Some (read_set c s)) None)
+      (and_true (holds subject_order s singles) ∙ holds-ascending subject_order exact_subjects s (singles_in c) ∙ all_singles s is)
+    where
+      and_true : (b : Bool) → (b && true) ≡ b
+      and_true true = refl
+      and_true false = refl
+  listed_by s false is = none (holds subject_order s singles)
+    where
+      none : (b : Bool) → cond (b && false) (Some (read_set c s)) None ≡ None
+      none true = refl
+      none false = refl
 
-  pub singles_read : ChangesSetTheirSubjects → IsReadsOf c (after_changes [] (map (read_change c) (singles_in c)))
-  singles_read sets = record {
-    ascending = sets.ascending [] (map (read_change c) (singles_in c)) (IsAscending-empty (List Key) subject_order);
-    exact = λ s.
-        sets.reads [] (map (read_change c) (singles_in c)) s (IsAscending-empty (List Key) subject_order)
-        ∙ reads_put (singles_in c) None s ∙ listed_by s (is_single s) refl;
+  keys_are : (ss : List Subject) → keys_of (map (reads_row c) ss) ≡ ss
+  keys_are [] = refl
+  keys_are (s ∷ ss) = ap (λ those. s ∷ those) (keys_are ss)
+
+  pub singles_ascend : IsAscending subject_order (map (reads_row c) singles)
+  singles_ascend = subst (IsStrictlySortedBy subject_order) (sym (keys_are singles)) (sorted-ascending subject_order total_subjects (singles_in c))
+
+  pub singles_read : IsReadsOf c (kept_of (map (reads_row c) singles))
+  singles_read = record {
+    ascending = made_ascends subject_order total_subjects exact_subjects (read_set c) one_of_single singles
+        (sorted-ascending subject_order total_subjects (singles_in c));
+    exact = λ s. value_made subject_order total_subjects exact_subjects (read_set c) one_of_single s singles ∙ listed_by s (is_single s) refl;
   }
 
-  pub singles_there : All (λ s. IsTrue (is_single s || is_subject c s)) (singles_in c)
+  pub singles_there : All (λ s. IsTrue (is_single s || is_subject c s)) singles
   singles_there =
-      All-from_recursion (λ s. (is_single s || is_subject c s) ≡ true) (singles_in c)
-      (each_among (λ s. (is_single s || is_subject c s) ≡ true) (singles_in c) (λ s at. or_right (is_single s) (is_subject c s) (listed_subject s at)))
+      All-from_recursion (λ s. (is_single s || is_subject c s) ≡ true) singles
+      (each_among (λ s. (is_single s || is_subject c s) ≡ true) singles (λ s at. or_right (is_single s) (is_subject c s)
+      (listed_subject s (among_held subject_order exact_subjects s (singles_in c)
+      (sym (holds-ascending subject_order exact_subjects s (singles_in c)) ∙ held_among subject_order total_subjects s singles at)))))

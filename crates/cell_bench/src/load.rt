@@ -8,7 +8,9 @@ ghost use Rattle.cell_findings.specs.AllFindings.{IsAllOf};
 ghost use Rattle.cell_bench.specs.Benches.{IsLoadRefusal, IsLoaded};
 ghost use Rattle.rule_spec.specs.Affected.{is_single};
 ghost use Rattle.rule_spec.specs.Findings.{is_subject};
-ghost use Rattle.cell_bench.specs.Singles.{read_change, singles_in};
+ghost use Rattle.cell_bench.specs.Singles.{reads_row, singles_in};
+ghost use Rattle.cell_spec.specs.Ascending.{ascending};
+ghost use Rattle.cell_spec.specs.Names.{subject_order};
 ghost use Rattle.cell_bench.specs.Verdicts.{total_of};
 
 use crate::bench::Bench;
@@ -18,9 +20,9 @@ use crate::singles::{names_of, singles_of};
 use crate::table::rows_of;
 use crate::verdicts::Verdicts;
 use cell_findings::{Findings as FlatFindings, find_all, tiles_of};
-use cell_spec::Subject;
+use cell_spec::{Keys, Subject};
 use chain_topo::Steps;
-use depend_map::{DependMap, ReadChange, changes_set_their_subjects};
+use depend_map::DependMap;
 use finding_laws::listed_tables_are_right;
 use record_store::RecordStore;
 use s57_types::Cell;
@@ -86,42 +88,37 @@ fn verdicts_of(alloc: Global, cell: &Cell, findings: &FlatFindings) -> Result<Ve
     Ok(verdicts)
 }
 
-// The read sets of subjects.
-fn changes_of<L: Ledger>(
+// Subjects with the keys that they read.
+fn rows_read<L: Ledger>(
     alloc: Global,
     store: &RecordStore,
     subjects: &[Subject],
     steps: &mut Steps<L>,
-) -> Result<Vec<ReadChange>, AllocError>
+) -> Result<Vec<(Subject, Keys)>, AllocError>
     requires { All (λ s. IsTrue (is_single s || is_subject store.now s)) subjects.now }
-    ensures { IfOk result (λ changes. changes.items ≡ map (read_change store.now) subjects.now) }
+    ensures { IfOk result (λ rows. rows.items ≡ map (reads_row store.now) subjects.now) }
 {
-    let mut changes = Vec::new(alloc);
+    let mut rows = Vec::with_capacity(alloc, subjects.len())?;
     for subject in subjects {
         let row = row_of(alloc, store, *subject, steps)?;
-        changes.push(ReadChange {
-            subject: *subject,
-            reads: Some(row.reads),
-        })?;
+        rows.push((*subject, row.reads))?;
     }
-    Ok(changes)
+    Ok(rows)
 }
 
-// The read sets of a cell's records, sides and identifiers.
+// The read sets of a cell's records, sides and identifiers, which ascend: all at once, since one put after the other costs more than
+// judging does.
 fn reads_of<L: Ledger>(
     alloc: Global,
     store: &RecordStore,
     subjects: &[Subject],
     steps: &mut Steps<L>,
 ) -> Result<DependMap, AllocError>
-    requires { subjects.now ≡ singles_in store.now }
+    requires { subjects.now ≡ ascending subject_order (singles_in store.now) }
     ensures { IfOk result (λ map. IsReadsOf store.now map) }
 {
     RecordStore::known(store);
-    changes_set_their_subjects();
-    let changes = changes_of(alloc, store, subjects, steps)?;
-    let mut map = DependMap::make();
-    let plan = map.plan(alloc, &changes)?;
-    map.install(plan);
+    let rows = rows_read(alloc, store, subjects, steps)?;
+    let map = DependMap::from_rows(alloc, rows)?;
     Ok(map)
 }

@@ -3,11 +3,11 @@
 ghost use Rattle.std.specs.Prelude.{◌≡◌, ◌++◌, IfOk, OnOk, map};
 ghost use Rattle.cell_spec.specs.Ascending.{ascending};
 ghost use Rattle.cell_spec.specs.Lookup.{name_of as spec_name};
-ghost use Rattle.cell_spec.specs.Names.{name_order};
+ghost use Rattle.cell_spec.specs.Names.{name_order, subject_order};
 ghost use Rattle.rule_spec.specs.Findings.{record_names};
 ghost use Rattle.cell_bench.specs.Singles.{singles_among, singles_in, singles_of as spec_singles};
 
-use cell_spec::{Names, Subject, ascending_names};
+use cell_spec::{Names, Subject, ascending_names, distinct, orders_are_by_parts};
 use chain_topo::edge_of;
 use check_words::name_of;
 use s57_types::{Cell, Rec, RecName};
@@ -60,14 +60,15 @@ fn push_all(subjects: &mut Vec<Subject>, recs: &[Rec]) -> Result<(), AllocError>
     Ok(())
 }
 
-/// The records of a cell, the sides of its edges and the identifiers of its features. One that several features bear stands as often.
+/// The records of a cell, the sides of its edges and the identifiers of its features, ascending, each once.
 pub(crate) fn singles_of(alloc: Global, cell: &Cell) -> Result<Vec<Subject>, AllocError>
-    ensures { IfOk result (λ subjects. subjects.items ≡ singles_in cell.now) }
+    ensures { IfOk result (λ subjects. subjects.items ≡ ascending subject_order (singles_in cell.now)) }
 {
+    orders_are_by_parts();
     let mut subjects = Vec::new(alloc);
     push_all(&mut subjects, cell.vi.as_slice())?;
     push_all(&mut subjects, cell.vc.as_slice())?;
     push_all(&mut subjects, cell.ve.as_slice())?;
     push_all(&mut subjects, cell.fe.as_slice())?;
-    Ok(subjects)
+    Ok(distinct(subjects))
 }
