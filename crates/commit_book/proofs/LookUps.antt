@@ -131,6 +131,12 @@ with_touched edits c stale rows taken =
     let reads = reads_within edits c stale rows in
     omega (arith, is, reads)
 
+-- each edit has one at least
+one_each : (edits : List Edit) (c : Cell) (stale : List Key) (rows : List Row) (taken : Bool) → is_applicable edits c ≡ taken
+    → length edits ≤ plan_budget edits c stale rows
+one_each edits c stale rows true taken = let is = plan_by edits c stale rows true taken in omega (arith, is)
+one_each edits c stale rows false taken = let is = plan_by edits c stale rows false taken in omega (arith, is)
+
 -- ---- with no newer commit nothing is judged
 itself : (s : Subject) → same_subject s s ≡ true
 itself s = (eq_by_cmp_equiv total_subjects).refl s
@@ -174,6 +180,15 @@ unfolding commit_budget
 commit_by book p none =
     ap (λ newer. option_map_or (λ reply. 4 * length p.edits.edits) newer
     (plan_budget p.edits.edits (history_of book).cell (stale_keys book.opening (history_of book).commits p.base) p.rows)) none
+
+-- where no newer commit stands against the edits, each has a look-up
+pub edits_within : (book : BookState) (p : PreparedCommit) → newer_answer (history_of book).commits p.base p.edits.edits p.edits.guards ≡ None
+    → length p.edits.edits ≤ commit_budget book p
+edits_within book p none =
+    let h = history_of book in
+    let is = commit_by book p none in
+    let each = one_each p.edits.edits h.cell (stale_keys book.opening h.commits p.base) p.rows (is_applicable p.edits.edits h.cell) refl in
+    omega (arith, is, each)
 
 -- of a book by what it keeps, where no newer commit stands against the edits
 pub budget_kept : (book inside : BookState) (bench : Cell) (accepted : List Taken) → inside ≡ book

@@ -1,6 +1,6 @@
 -- Commits that were prepared on an older cell: when their rows are right, which keys newer commits made stale, and how many look-ups deciding them
 -- makes. This project's own rules.
-use Rattle.std.specs.Prelude.{ℕ, ◌*◌, List, [], ◌∷◌, ◌++◌, drop, length}
+use Rattle.std.specs.Prelude.{ℕ, ◌*◌, List, [], ◌∷◌, ◌++◌, IfSome, drop, length}
 use Rattle.std.specs.Option.{option_map_or}
 use Rattle.s57_types.specs.declared.cell.Cell.{Cell}
 use Rattle.cell_spec.specs.declared.key.Key.{Key}
@@ -10,7 +10,7 @@ use Rattle.history_spec.specs.declared.entry.Entry.{Entry}
 use Rattle.history_spec.specs.declared.reply.Reply.{Reply}
 use Rattle.history_spec.specs.EntriesReport.{cell_told}
 use Rattle.history_spec.specs.Steps.{AcceptedCommit, cell_after, newer_answer}
-use Rattle.cell_bench.specs.Benches.{PreparedCommit}
+use Rattle.cell_bench.specs.Benches.{IsPlanned, PreparedCommit}
 use Rattle.commit_book.specs.Books.{BookState, history_of}
 
 -- the keys that commits touch, each on the cell that those before it leave
@@ -26,6 +26,10 @@ stale_keys c commits base = keys_touched (cell_after base commits c) (drop base 
 -- that cell doesn't take the edits
 abbrev pub AreRight : Cell → List Entry → PreparedCommit → Type 0
 AreRight c entries p = RowsAreExact p.edits.edits (cell_told c entries p.base) p.rows
+
+-- what was built ahead is what the edits leave of the cell of the base, with nothing that speaks against them there
+abbrev pub IsAheadRight : Cell → List Entry → PreparedCommit → Type 0
+IsAheadRight c entries p = IfSome p.ahead (IsPlanned (cell_told c entries p.base) p.edits.edits)
 
 -- how many look-ups deciding a commit makes at most: four for each edit where a newer commit stands against it, else those of a plan that judges
 -- the subjects of which no row holds only keys that no newer commit touched

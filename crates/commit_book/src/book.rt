@@ -217,7 +217,7 @@ impl Book {
         self.need_room()?;
         let newer = self.sets_after(alloc, prepared.base())?;
         let sets = with_set(alloc, newer, prepared.edits())?;
-        let answered = self.answer_commit(alloc, desk, prepared, steps)?;
+        let answered = self.enter_commit(alloc, desk, prepared, None, steps)?;
         let news = sets_told(alloc, &answered.reply, sets);
         Ok(Told {
             reply: answered.reply,

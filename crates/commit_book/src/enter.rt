@@ -1,15 +1,16 @@
 //! What is entered: an answer that leaves the cell and its commits as they are, or an accepted commit.
 
-ghost use Rattle.std.specs.Prelude.{◌≡◌, ◌+◌, ◌*◌, ◌≤◌, ◌<◌, Err, IfOk, IfErr, MatchResult, None, OnOk, length};
+ghost use Rattle.std.specs.Prelude.{◌≡◌, ◌+◌, ◌*◌, ◌≤◌, ◌<◌, Err, IfOk, IfErr, IfSome, MatchResult, None, OnOk, length};
+ghost use Rattle.std.specs.Option.{option_copied};
 ghost use Rattle.cell_spec.specs.Edits.{apply_edits, touched_keys};
 ghost use Rattle.cell_spec.specs.Writable.{IsWritable};
 ghost use Rattle.rule_spec.specs.Findings.{finding_total};
 ghost use Rattle.answer_laws.specs.EditedAnswers.{FindTheirRecords};
 ghost use Rattle.history_spec.specs.Entries.{event_asked};
-ghost use Rattle.history_spec.specs.Steps.{answer, newer_answer};
+ghost use Rattle.history_spec.specs.Steps.{answer, newer_answer, state_refusal};
 ghost use Rattle.cell_bench.specs.Benches.{IsPlanRefusal, IsPlanned};
 ghost use Rattle.commit_book.specs.Books.{HaveLines, IsBookRefusal, IsEntered, IsFull, IsTakenAt, IsVerdict, LeavesCommits, answer_to, entry_limit, history_of};
-ghost use Rattle.commit_book.specs.Prepared.{AreRight, commit_budget};
+ghost use Rattle.commit_book.specs.Prepared.{AreRight, IsAheadRight, commit_budget};
 
 use crate::accepted::Accepted;
 use crate::book::Book;
@@ -26,7 +27,7 @@ use edit_sets::{EditSet, FormFault};
 use finding_laws::valid_rows_stay_exact;
 use history_spec::{Asked, Brief, Entry, Reply};
 use s57_types::Duplicate;
-use std::alloc::Global;
+use std::alloc::{AllocError, Global};
 use std::sync::ledger::Ledger;
 
 /// The most entries of a book.
@@ -120,10 +121,27 @@ impl Book {
         Ok(Answered { reply, replaced })
     }
 
-    /// The bench after a commit against which no newer one stands. Of the rows that were prepared those count that hold no key that a
-    /// newer commit touched: what they tell of the edited cell of the base they tell of today's. Of the look-ups that deciding takes one
-    /// for each edit is left.
-    fn plan<L: Ledger>(
+    /// What was built ahead, where no commit came since.
+    fn built_ahead(
+        &self,
+        alloc: Global,
+        prepared: &Prepared,
+        ahead: Option<&BenchPlan>,
+    ) -> Result<Option<BenchPlan>, AllocError>
+        requires { prepared.now.base ≡ length (history_of self.now).commits
+            → IfSome (option_copied ahead) (IsPlanned (history_of self.now).cell prepared.now.edits.edits) }
+        ensures { IfOk result (λ plan. IfSome plan (IsPlanned (history_of self.now).cell prepared.now.edits.edits)) }
+    {
+        match ahead {
+            Some(plan) if prepared.base() == self.commits() => Ok(Some(plan.copy(alloc)?)),
+            _ => Ok(None),
+        }
+    }
+
+    /// The bench after a commit against which no newer one stands, planned on the newest cell. Of the rows that were prepared those count
+    /// that hold no key that a newer commit touched: what they tell of the edited cell of the base they tell of today's. Of the look-ups
+    /// that deciding takes one for each edit is left.
+    fn planned<L: Ledger>(
         &self,
         alloc: Global,
         prepared: &Prepared,
@@ -135,16 +153,12 @@ impl Book {
         requires alone { newer_answer (history_of self.now).commits prepared.now.base prepared.now.edits.edits prepared.now.edits.guards ≡ None }
         ensures planned { MatchResult result (IsPlanned (history_of self.now).cell prepared.now.edits.edits)
             (IsPlanRefusal (history_of self.now).cell prepared.now.edits.edits) }
-        ensures writable { IsWritable (history_of self.now).cell }
-        ensures found { OnOk result (FindTheirRecords prepared.now.edits.edits (history_of self.now).cell) }
-        ensures lines { OnOk result (HaveLines prepared.now.edits) }
         ensures steps { steps.new ≤ steps.old + commit_budget self.now prepared.now }
         ensures left { OnOk result (steps.new + length prepared.now.edits.edits ≤ steps.old + commit_budget self.now prepared.now) }
     {
         let set = prepared.edits();
         set.known();
         self.bench.known();
-        taken_edits_have_lines();
         refusals_tell_what_a_cell_takes();
         writable_cells_are_readable();
         formed_edits_find_their_records();
@@ -154,18 +168,66 @@ impl Book {
         self.bench.plan(alloc, set, prepared.rows(), &stale, steps)
     }
 
-    /// Decides a commit and enters it with its answer.
-    fn enter_commit<L: Ledger>(
+    /// What is known of edits against which nothing speaks: they find their records, and have lines.
+    fn taken(&self, set: &EditSet)
+        requires { set.now.nall ≡ self.now.opening.head.nall }
+        ensures writable { IsWritable (history_of self.now).cell }
+        ensures found { state_refusal (history_of self.now).cell set.now.edits ≡ None → FindTheirRecords set.now.edits (history_of self.now).cell }
+        ensures lines { state_refusal (history_of self.now).cell set.now.edits ≡ None → HaveLines set.now }
+    {
+        set.known();
+        self.bench.known();
+        taken_edits_have_lines();
+        refusals_tell_what_a_cell_takes();
+        writable_cells_are_readable();
+        formed_edits_find_their_records();
+    }
+
+    /// The bench after a commit against which no newer one stands: what was built ahead where no commit came since, or else as it is
+    /// planned.
+    fn plan<L: Ledger>(
+        &self,
+        alloc: Global,
+        prepared: &Prepared,
+        ahead: Option<&BenchPlan>,
+        steps: &mut Steps<L>,
+    ) -> Result<BenchPlan, PlanRefusal>
+        requires base { prepared.now.base ≤ length (history_of self.now).commits }
+        requires level { prepared.now.edits.nall ≡ self.now.opening.head.nall }
+        requires rows { AreRight self.now.opening self.now.entries prepared.now }
+        requires ahead { prepared.now.base ≡ length (history_of self.now).commits
+            → IfSome (option_copied ahead) (IsPlanned (history_of self.now).cell prepared.now.edits.edits) }
+        requires alone { newer_answer (history_of self.now).commits prepared.now.base prepared.now.edits.edits prepared.now.edits.guards ≡ None }
+        ensures planned { MatchResult result (IsPlanned (history_of self.now).cell prepared.now.edits.edits)
+            (IsPlanRefusal (history_of self.now).cell prepared.now.edits.edits) }
+        ensures writable { IsWritable (history_of self.now).cell }
+        ensures found { OnOk result (FindTheirRecords prepared.now.edits.edits (history_of self.now).cell) }
+        ensures lines { OnOk result (HaveLines prepared.now.edits) }
+        ensures steps { steps.new ≤ steps.old + commit_budget self.now prepared.now }
+        ensures left { OnOk result (steps.new + length prepared.now.edits.edits ≤ steps.old + commit_budget self.now prepared.now) }
+    {
+        self.taken(prepared.edits());
+        match self.built_ahead(alloc, prepared, ahead)? {
+            Some(plan) => Ok(plan),
+            None => self.planned(alloc, prepared, steps),
+        }
+    }
+
+    /// Decides a commit and enters it with its answer. What was built ahead is taken where no commit came since.
+    pub(crate) fn enter_commit<L: Ledger>(
         &mut self,
         alloc: Global,
         desk: u32,
         prepared: &Prepared,
+        ahead: Option<&BenchPlan>,
         steps: &mut Steps<L>,
     ) -> Result<Answered, BookRefusal>
         requires room { length self.old.entries < entry_limit }
         requires base { prepared.now.base ≤ length (history_of self.old).commits }
         requires level { prepared.now.edits.nall ≡ self.old.opening.head.nall }
         requires rows { AreRight self.old.opening self.old.entries prepared.now }
+        requires ahead { prepared.now.base ≡ length (history_of self.old).commits
+            → IfSome (option_copied ahead) (IsPlanned (history_of self.old).cell prepared.now.edits.edits) }
         ensures ok { IfOk result (λ answered. IsEntered self.old desk (Asked.Commit prepared.now.base prepared.now.edits) self.new answered.reply) }
         ensures verdict { IfOk result (λ answered. IsVerdict answered.reply) }
         ensures err { IfErr result (λ why. (why ≡ BookRefusal.NoMemory) × (self.new ≡ self.old)) }
@@ -177,7 +239,7 @@ impl Book {
             self.refuse(alloc, desk, base, set, &reply)?;
             return Ok(Answered::alone(reply));
         }
-        match self.plan(alloc, prepared, steps) {
+        match self.plan(alloc, prepared, ahead, steps) {
             Ok(plan) => {
                 let accepted = Accepted::make(alloc, desk, set, &self.bench, steps)?;
                 self.accept(alloc, base, accepted, plan)
@@ -222,8 +284,9 @@ impl Book {
         Ok(Answered::alone(reply))
     }
 
-    /// A commit without its news, for a desk that takes a copy of the bench. Its rows are right on the cell of its base, and only what no
-    /// valid row tells is judged; with no newer commit that is nothing.
+    /// A commit without its news, for a desk that takes a copy of the bench. Its rows are right on the cell of its base, and what was built
+    /// ahead too, which is taken where no commit came since. Else only what no valid row tells is judged; with no newer commit that is
+    /// nothing.
     ///
     /// An `Err` is as that of a view.
     pub fn answer_commit<L: Ledger>(
@@ -236,6 +299,7 @@ impl Book {
         requires base { prepared.now.base ≤ length (history_of self.old).commits }
         requires level { prepared.now.edits.nall ≡ self.old.opening.head.nall }
         requires rows { AreRight self.old.opening self.old.entries prepared.now }
+        requires ahead { IsAheadRight self.old.opening self.old.entries prepared.now }
         ensures ok { IfOk result (λ answered. IsEntered self.old desk (Asked.Commit prepared.now.base prepared.now.edits) self.new answered.reply) }
         ensures verdict { IfOk result (λ answered. IsVerdict answered.reply) }
         ensures err { IfErr result (λ why. IsBookRefusal self.old.entries why × (self.new ≡ self.old)) }
@@ -245,6 +309,6 @@ impl Book {
             ≤ steps.old + 4 * (length (touched_keys prepared.now.edits.edits (history_of self.old).cell) + length prepared.now.edits.edits) }
     {
         self.need_room()?;
-        self.enter_commit(alloc, desk, prepared, steps)
+        self.enter_commit(alloc, desk, prepared, prepared.ahead(), steps)
     }
 }

@@ -1,5 +1,6 @@
 -- A desk's copy and its base, where the history goes on.
 use mathlib.Core.List.{IsPrefix}
+use Rattle.std.specs.Prelude.{IfSome}
 use Rattle.std.proofs.Common.{◌≡◌, ◌⊎◌, ℕ, zero, suc, ◌≤◌, ◌<◌, List, ◌∷◌, ◌++◌, length, refl, sym, ap, subst, ◌∙◌, ⊎_elim, inl, inr, arith}
 use Rattle.s57_types.specs.declared.cell.Cell.{Cell}
 use Rattle.history_spec.specs.declared.entry.Entry.{Entry}
@@ -12,7 +13,7 @@ use Rattle.rule_spec.specs.Affected.{RowsAreExact}
 use Rattle.room_laws.proofs.Bases.{base_grows, base_moved, base_stays, cell_stays, newest_cell}
 use Rattle.turn_gate.specs.Histories.{longer}
 use Rattle.turn_gate.proofs.Prefixes.{longer_cases}
-use Rattle.cell_bench.specs.Benches.{PreparedCommit}
+use Rattle.cell_bench.specs.Benches.{IsPlanned, PreparedCommit}
 use Rattle.commit_book.proofs.Kept.{replayed_entered}
 use Rattle.commit_book.specs.Books.{BookState}
 use Rattle.workroom.specs.declared.turn.Ask.{Ask}
@@ -29,6 +30,7 @@ can_later c xs ys (Commit prepared) p can = record {
   base = base_stays c xs ys prepared.base p can.base;
   level = can.level;
   rows = subst (λ (cell : Cell). RowsAreExact prepared.edits.edits cell prepared.rows) (sym (cell_stays c xs ys prepared.base p can.base)) can.rows;
+  ahead = subst (λ (cell : Cell). IfSome prepared.ahead (IsPlanned cell prepared.edits.edits)) (sym (cell_stays c xs ys prepared.base p can.base)) can.ahead;
 }
 
 pub can_ask : (turn : TurnState) (book : BookState) → book.opening ≡ turn.opening → IsPrefix turn.seen book.entries
@@ -39,11 +41,13 @@ can_ask turn book is p can = subst (λ (c : Cell). CanAsk c book.entries turn.as
 pub can_commit : (d : DeskState) (prepared : PreparedCommit) → d.base ≤ length (replayed d.room.opening d.seen).commits
     → d.cell ≡ cell_told d.room.opening d.seen d.base → d.cell.head.nall ≡ d.room.opening.head.nall
     → prepared.base ≡ d.base → prepared.edits.nall ≡ d.cell.head.nall → RowsAreExact prepared.edits.edits d.cell prepared.rows
+    → IfSome prepared.ahead (IsPlanned d.cell prepared.edits.edits)
     → IsReady d.room.opening d.seen prepared
-can_commit d prepared within cell level base nall rows = record {
+can_commit d prepared within cell level base nall rows ahead = record {
   base = omega (arith, within, base);
   level = nall ∙ level;
   rows = subst (λ (c : Cell). RowsAreExact prepared.edits.edits c prepared.rows) (cell ∙ ap (cell_told d.room.opening d.seen) (sym base)) rows;
+  ahead = subst (λ (c : Cell). IfSome prepared.ahead (IsPlanned c prepared.edits.edits)) (cell ∙ ap (cell_told d.room.opening d.seen) (sym base)) ahead;
 }
 
 -- the history goes on, and the copy stays

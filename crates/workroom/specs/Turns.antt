@@ -9,7 +9,7 @@ use Rattle.history_spec.specs.Steps.{answer}
 use Rattle.cell_bench.specs.Benches.{PreparedCommit}
 use Rattle.commit_book.specs.declared.refusal.BookRefusal.{BookRefusal}
 use Rattle.commit_book.specs.Books.{IsBookRefusal, entry_of}
-use Rattle.commit_book.specs.Prepared.{AreRight}
+use Rattle.commit_book.specs.Prepared.{AreRight, IsAheadRight}
 use Rattle.workroom.specs.declared.turn.Ask.{Ask}
 use Rattle.workroom.specs.declared.turn.Ask.TheVariants.{View, Faulty, Commit}
 use Rattle.workroom.specs.declared.turn.Turned.{Turned}
@@ -30,6 +30,7 @@ pub record IsReady (c : Cell) (entries : List Entry) (prepared : PreparedCommit)
   pub base : prepared.base ≤ length (replayed c entries).commits
   pub level : prepared.edits.nall ≡ c.head.nall
   pub rows : AreRight c entries prepared
+  pub ahead : IsAheadRight c entries prepared
 
 abbrev pub CanAsk : Cell → List Entry → Ask → Type 0
 CanAsk c entries View = Unit {0}

@@ -1,10 +1,11 @@
 //! A desk: its handle at the log, and its copy of the cell.
 
-ghost use Rattle.std.specs.Prelude.{◌≡◌, ◌≤◌, ◌++◌, [], List, All, Contains, IfOk, IfErr, length};
+ghost use Rattle.std.specs.Prelude.{◌≡◌, ◌≤◌, ◌++◌, [], List, All, Contains, IfOk, IfErr, IfSome, length};
 ghost use mathlib.Core.List.{IsPrefix};
 ghost use Rattle.history_spec.specs.declared.entry.Entry.{Entry as SpecEntry};
 ghost use Rattle.history_spec.specs.Entries.{AreTold, base_told, brief_of, replayed};
 ghost use Rattle.history_spec.specs.EntriesReport.{cell_told};
+ghost use Rattle.cell_bench.specs.Benches.{IsPlanned};
 ghost use Rattle.recheck.specs.Preparing.{prepared_rows};
 ghost use Rattle.rule_spec.specs.Affected.{RowsAreExact};
 ghost use Rattle.rule_spec.specs.Findings.{all_findings};
@@ -110,7 +111,7 @@ impl Desk {
     }
 
     /// Prepares edits on its copy of the cell for a commit: the row of each affected subject of the edited cell is judged, before a turn is
-    /// asked for and without waiting. Where the copy doesn't take the edits there are no rows.
+    /// asked for and without waiting, and the bench that they leave is built. Where the copy doesn't take the edits there is neither.
     ///
     /// An `Err` means out of memory.
     pub fn prepare<R: Threads + Sync>(
@@ -124,6 +125,7 @@ impl Desk {
         ensures edits { IfOk result (λ prepared. prepared.edits ≡ edits) }
         ensures rows { IfOk result (λ prepared. prepared.rows ≡ prepared_rows edits.edits self.now.cell) }
         ensures right { IfOk result (λ prepared. RowsAreExact edits.edits self.now.cell prepared.rows) }
+        ensures ahead { IfOk result (λ prepared. IfSome prepared.ahead (IsPlanned self.now.cell prepared.edits.edits)) }
     {
         prepare(rt, alloc, &self.bench, self.base, edits)
     }

@@ -1,12 +1,12 @@
 //! A workroom: the log behind its lock, and its desks.
 
-ghost use Rattle.std.specs.Prelude.{◌≡◌, ◌↔◌, ◌+◌, ◌≤◌, ◌<◌, All, Err, IfOk, IfErr, OnOk, OnErr, MatchResult};
+ghost use Rattle.std.specs.Prelude.{◌≡◌, ◌↔◌, ◌+◌, ◌≤◌, ◌<◌, All, Err, IfOk, IfErr, IfSome, OnOk, OnErr, MatchResult};
 ghost use mathlib.Core.List.{IsPrefix};
 ghost use Rattle.cell_spec.specs.Writable.{IsWritable};
 ghost use Rattle.history_spec.specs.Entries.{base_told, brief_of};
 ghost use Rattle.rule_spec.specs.Affected.{RowsAreExact};
 ghost use Rattle.turn_gate.specs.Histories.{IsExact};
-ghost use Rattle.cell_bench.specs.Benches.{IsLoadRefusal};
+ghost use Rattle.cell_bench.specs.Benches.{IsLoadRefusal, IsPlanned};
 ghost use Rattle.workroom.specs.Desks.{IsRoomRefusal, IsSameDesk, IsTurned, IsUnentered, merged_desk};
 ghost use Rattle.workroom.specs.Rooms.{IsLoadedRoom, IsNewRoom, desk_limit, new_desk};
 ghost use Rattle.workroom.specs.Turns.{desk_of};
@@ -141,7 +141,8 @@ impl Workroom {
     }
 
     /// Commits what was prepared on a desk's copy, in its turn. An accepted commit moves the desk's base to its number, and the copy to
-    /// the cell after it. What no newer commit has touched since isn't judged again in the turn.
+    /// the cell after it. What was built ahead is taken where no commit came since, and else what no newer commit has touched isn't judged
+    /// again in the turn.
     ///
     /// An `Err` is as that of a view.
     pub fn commit<R: Wait>(
@@ -155,6 +156,7 @@ impl Workroom {
         requires base { prepared.base ≡ desk.old.base }
         requires level { prepared.edits.nall ≡ desk.old.cell.head.nall }
         requires rows { RowsAreExact prepared.edits.edits desk.old.cell prepared.rows }
+        requires ahead { IfSome prepared.ahead (IsPlanned desk.old.cell prepared.edits.edits) }
         ensures same { IsSameDesk desk.old desk.new }
         ensures ok { IfOk result (λ reply. IsTurned desk.old (Asked.Commit desk.old.base prepared.edits) reply desk.new) }
         ensures base { IfOk result (λ reply. desk.new.base ≡ base_told (brief_of reply) desk.old.base) }

@@ -1,6 +1,7 @@
 //! Desks of one workroom.
 
-ghost use Rattle.std.specs.Prelude.{◌≡◌, All};
+ghost use Rattle.std.specs.Prelude.{◌≡◌, All, IfSome};
+ghost use Rattle.cell_bench.specs.Benches.{IsPlanned};
 ghost use Rattle.rule_spec.specs.Affected.{RowsAreExact};
 
 use super::edits::{deletions, node};
@@ -83,6 +84,7 @@ fn prepared_edit<R: Threads + Abort + Sync>(
     ensures base { result.base ≡ desk.now.base }
     ensures level { result.edits.nall ≡ desk.now.cell.head.nall }
     ensures rows { RowsAreExact result.edits.edits desk.now.cell result.rows }
+    ensures ahead { IfSome result.ahead (IsPlanned desk.now.cell result.edits.edits) }
 {
     match edit_of(alloc, number) {
         Ok(edit) => prepared_at(rt, alloc, desk, &[edit]),
@@ -176,6 +178,7 @@ fn prepared_deletion<R: Threads + Abort + Sync>(
     ensures base { result.base ≡ desk.now.base }
     ensures level { result.edits.nall ≡ desk.now.cell.head.nall }
     ensures rows { RowsAreExact result.edits.edits desk.now.cell result.rows }
+    ensures ahead { IfSome result.ahead (IsPlanned desk.now.cell result.edits.edits) }
 {
     match deletions(alloc, &[node]) {
         Ok(edits) => prepared_at(rt, alloc, desk, &edits),

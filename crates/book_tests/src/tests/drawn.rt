@@ -1,7 +1,8 @@
 //! Drawn commits of two desks of one workroom, prepared on the newest cell or on an older one. After each that is accepted the findings of the desk's
 //! copy are those of its cell, judged whole.
 
-ghost use Rattle.std.specs.Prelude.{◌≡◌, ◌<◌};
+ghost use Rattle.std.specs.Prelude.{◌≡◌, ◌<◌, IfSome};
+ghost use Rattle.cell_bench.specs.Benches.{IsPlanned};
 ghost use Rattle.rule_spec.specs.Affected.{RowsAreExact};
 
 use super::edits::{node, node_name};
@@ -61,6 +62,7 @@ fn prepared_edit<R: Threads + Abort + Sync>(
     ensures base { result.base ≡ desk.now.base }
     ensures level { result.edits.nall ≡ desk.now.cell.head.nall }
     ensures rows { RowsAreExact result.edits.edits desk.now.cell result.rows }
+    ensures ahead { IfSome result.ahead (IsPlanned desk.now.cell result.edits.edits) }
 {
     match drawn_edit(alloc, state) {
         Ok(edit) => prepared_at(rt, alloc, desk, &[edit]),

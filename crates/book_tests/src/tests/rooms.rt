@@ -1,6 +1,7 @@
 //! Desks of a workroom at the cell of one square, and what they ask.
 
-ghost use Rattle.std.specs.Prelude.{◌≡◌, ◌<◌};
+ghost use Rattle.std.specs.Prelude.{◌≡◌, ◌<◌, IfSome};
+ghost use Rattle.cell_bench.specs.Benches.{IsPlanned};
 ghost use Rattle.rule_spec.specs.Affected.{RowsAreExact};
 
 use super::edits::set_for;
@@ -56,6 +57,7 @@ pub(crate) fn prepared_at<R: Threads + Abort + Sync>(
     ensures base { result.base ≡ desk.now.base }
     ensures level { result.edits.nall ≡ desk.now.cell.head.nall }
     ensures rows { RowsAreExact result.edits.edits desk.now.cell result.rows }
+    ensures ahead { IfSome result.ahead (IsPlanned desk.now.cell result.edits.edits) }
 {
     let set = set_for(rt, alloc, desk.bench(), edits);
     match desk.prepare(rt, alloc, set) {
@@ -76,6 +78,7 @@ pub(crate) fn commit<R: Wait + Abort>(
     requires base { prepared.base ≡ desk.old.base }
     requires level { prepared.edits.nall ≡ desk.old.cell.head.nall }
     requires rows { RowsAreExact prepared.edits.edits desk.old.cell prepared.rows }
+    requires ahead { IfSome prepared.ahead (IsPlanned desk.old.cell prepared.edits.edits) }
     ensures { desk.new.room ≡ desk.old.room }
 {
     match room.commit(rt, alloc, desk, prepared) {
