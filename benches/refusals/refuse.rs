@@ -7,6 +7,7 @@ use std::sync::atomic::{AtomicI64, Ordering::SeqCst};
 
 unsafe extern "C" {
     fn __libc_malloc(size: usize) -> *mut c_void;
+    fn __libc_calloc(count: usize, size: usize) -> *mut c_void;
     fn __libc_realloc(old: *mut c_void, size: usize) -> *mut c_void;
     fn getenv(name: *const c_char) -> *const c_char;
     fn atol(text: *const c_char) -> c_long;
@@ -35,6 +36,11 @@ unsafe extern "C" fn malloc(size: usize) -> *mut c_void {
 #[unsafe(no_mangle)]
 unsafe extern "C" fn realloc(old: *mut c_void, size: usize) -> *mut c_void {
     if is_refused() { null_mut() } else { unsafe { __libc_realloc(old, size) } }
+}
+
+#[unsafe(no_mangle)]
+unsafe extern "C" fn calloc(count: usize, size: usize) -> *mut c_void {
+    if is_refused() { null_mut() } else { unsafe { __libc_calloc(count, size) } }
 }
 
 extern "C" fn begin() {
