@@ -10,6 +10,7 @@ build_program() {
     "$top/enc_cell" check "$minimal" >"$work/log"
     cp "$top/crates/enc_cell/out/enc_cell" "$work/program"
     python3 "$benches/cells.py" "$minimal" "$work"
+    [ ! -f "$benches/$case_name.py" ] || python3 "$benches/$case_name.py" "$minimal" "$work"
     for size in 25 50 100; do
         "$work/program" make "$size" "$work/MADE_$size" >"$work/log"
     done

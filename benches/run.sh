@@ -15,11 +15,11 @@ fi
 work=$(mktemp -d)
 trap 'rm -rf "$work"' EXIT
 . "$benches/lib.sh"
+build_plain
 case " ${rows[*]} " in
     *" program "* | *" commits:"*) build_program ;;
     *) build_measure ;;
 esac
-build_plain
 for row in "${rows[@]}"; do
     read -r -a words <<<"$row"
     case ${words[1]} in
