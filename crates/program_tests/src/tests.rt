@@ -5,3 +5,4 @@ mod edges;
 mod lines;
 mod room;
 mod square;
+mod stuck;
