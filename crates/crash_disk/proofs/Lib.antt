@@ -1,0 +1,3 @@
+mod Going
+mod Replays
+pub mod Moments
