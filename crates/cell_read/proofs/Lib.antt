@@ -1,6 +1,8 @@
 pub mod FieldSteps
 pub mod FileSteps
 pub mod Grown
+pub mod KeptRecords
+pub mod KeptSteps
 pub mod ListedRecords
 pub mod NameOrder
 pub mod RecordSteps

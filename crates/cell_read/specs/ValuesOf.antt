@@ -21,6 +21,7 @@ use Rattle.file_spec.specs.declared.fault.RecordFault.{RecordFault}
 use Rattle.file_spec.specs.declared.tag.FieldTag.{FieldTag}
 use Rattle.file_spec.specs.declared.tag.FieldTag.TheVariants as tags
 use Rattle.file_spec.specs.declared.tag.RecordType.{RecordType}
+use Rattle.cell_read.specs.Kept.{kept_with}
 use Rattle.cell_read.specs.declared.values.FieldValues.{FieldValues}
 
 -- the first value of a tag that stands once, and all rows of a tag of rows; national attributes at the level NALL
@@ -42,7 +43,7 @@ values_of nall fields = record {
   deep = rows_of tags.Sg3d deep_content fields;
 }
 
--- the same with one field more
+-- values with those of one field more, as far as rows are kept
 unfoldable pub with_content : ℕ → FieldTag → List ℕ → FieldValues → FieldValues
 with_content nall tags.RecordNumber b v = v
 with_content nall tags.Dsid b v = record v { dsid = result_ok (dsid_content b) }
@@ -52,13 +53,13 @@ with_content nall tags.Frid b v = record v { frid = result_ok (frid_content b) }
 with_content nall tags.Foid b v = record v { foid = result_ok (foid_content b) }
 with_content nall tags.Attf b v = record v { attf = v.attf ++ result_unwrap_or (attribute_content 0 b) [] }
 with_content nall tags.Natf b v = record v { natf = v.natf ++ result_unwrap_or (attribute_content nall b) [] }
-with_content nall tags.Ffpt b v = record v { partners = v.partners ++ result_unwrap_or (partner_content b) [] }
-with_content nall tags.Fspt b v = record v { places = v.places ++ result_unwrap_or (place_content b) [] }
+with_content nall tags.Ffpt b v = record v { partners = kept_with v.partners (result_unwrap_or (partner_content b) []) }
+with_content nall tags.Fspt b v = record v { places = kept_with v.places (result_unwrap_or (place_content b) []) }
 with_content nall tags.Vrid b v = record v { vrid = result_ok (vrid_content b) }
 with_content nall tags.Attv b v = record v { attv = v.attv ++ result_unwrap_or (attribute_content 0 b) [] }
-with_content nall tags.Vrpt b v = record v { ends = v.ends ++ result_unwrap_or (end_content b) [] }
-with_content nall tags.Sg2d b v = record v { plane = v.plane ++ result_unwrap_or (plane_content b) [] }
-with_content nall tags.Sg3d b v = record v { deep = v.deep ++ result_unwrap_or (deep_content b) [] }
+with_content nall tags.Vrpt b v = record v { ends = kept_with v.ends (result_unwrap_or (end_content b) []) }
+with_content nall tags.Sg2d b v = record v { plane = kept_with v.plane (result_unwrap_or (plane_content b) []) }
+with_content nall tags.Sg3d b v = record v { deep = kept_with v.deep (result_unwrap_or (deep_content b) []) }
 
 -- the first fault of the fields from a place on
 abbrev pub fault_from : ℕ → RecordType → List Field → ℕ → Option RecordFault

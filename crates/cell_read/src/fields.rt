@@ -3,6 +3,7 @@
 ghost use Rattle.std.specs.Prelude.{◌≡◌, ◌<◌, ◌+◌, length, take, [], None, OnOk, IfOk, IfErr};
 ghost use Rattle.file_spec.specs.RecordReading.{fields_fault};
 ghost use Rattle.cell_read.specs.Gives.{IsFault};
+ghost use Rattle.cell_read.specs.Kept.{AreKept};
 ghost use Rattle.cell_read.specs.ValuesOf.{values_of, fault_from};
 
 use crate::refusal::RecordRefusal;
@@ -22,8 +23,8 @@ fn read_field(
     values: &mut FieldValues,
 ) -> Result<(), RecordRefusal>
     requires below { k < length frame.now.fields }
-    requires values { values.old ≡ values_of nall (take k frame.now.fields) }
-    ensures values { OnOk result (values.new ≡ values_of nall (take (k + 1) frame.now.fields)) }
+    requires values { AreKept values.old (values_of nall (take k frame.now.fields)) }
+    ensures values { OnOk result (AreKept values.new (values_of nall (take (k + 1) frame.now.fields))) }
     ensures good { OnOk result (fault_from nall kind frame.now.fields k ≡ fault_from nall kind frame.now.fields (k + 1)) }
     ensures fault { IfErr result (λ e. IsFault e (fault_from nall kind frame.now.fields k)) }
 {
@@ -37,14 +38,14 @@ fn read_field(
     read_content(alloc, nall, tag, bytes, values)
 }
 
-/// The values of the fields of a record of a type, or the fault of the first field that has one.
+/// The values of the fields of a record of a type, as far as they are kept, or the fault of the first field that has one.
 pub fn read_fields(
     alloc: Global,
     nall: u8,
     kind: RecordType,
     frame: &Frame<'_>,
 ) -> Result<FieldValues, RecordRefusal>
-    ensures values { IfOk result (λ values. values ≡ values_of nall frame.now.fields) }
+    ensures values { IfOk result (λ values. AreKept values (values_of nall frame.now.fields)) }
     ensures good { OnOk result (fields_fault nall kind [] frame.now.fields ≡ None) }
     ensures fault { IfErr result (λ e. IsFault e (fields_fault nall kind [] frame.now.fields)) }
 {

@@ -1,8 +1,8 @@
 //! Vector and feature records (S-57 Part 3, 7.6 and 7.7).
 
-ghost use Rattle.std.specs.Prelude.{◌≡◌};
+ghost use Rattle.std.specs.Prelude.{◌≡◌, ℕ};
 ghost use Rattle.file_spec.specs.DecodedCell.{vector_record, feature_record};
-ghost use Rattle.cell_read.specs.Gives.{GivesRecord};
+ghost use Rattle.cell_read.specs.KeptRecords.{GivesKept};
 ghost use Rattle.cell_read.specs.RecordsFrom.{vector_from, feature_from, record_said};
 
 use crate::fields::read_fields;
@@ -63,9 +63,9 @@ fn feature_from(values: FieldValues) -> Result<Rec, RecordFault>
     }))
 }
 
-/// A vector record, or its first fault.
+/// What is kept of a vector record, or its first fault.
 fn read_vector(alloc: Global, frame: &Frame<'_>) -> Result<Rec, RecordRefusal>
-    ensures { GivesRecord result (vector_record frame.now.fields) }
+    ensures { (nall : ℕ) → GivesKept nall result (vector_record frame.now.fields) }
 {
     let values = match read_fields(alloc, 0, RecordType::Vector, frame) {
         Ok(values) => values,
@@ -77,9 +77,9 @@ fn read_vector(alloc: Global, frame: &Frame<'_>) -> Result<Rec, RecordRefusal>
     }
 }
 
-/// A feature record, or its first fault; national attributes are at the level NALL.
+/// What is kept of a feature record, or its first fault; national attributes are at the level NALL.
 fn read_feature(alloc: Global, nall: u8, frame: &Frame<'_>) -> Result<Rec, RecordRefusal>
-    ensures { GivesRecord result (feature_record nall frame.now.fields) }
+    ensures { GivesKept nall result (feature_record nall frame.now.fields) }
 {
     let values = match read_fields(alloc, nall, RecordType::Feature, frame) {
         Ok(values) => values,
@@ -91,9 +91,10 @@ fn read_feature(alloc: Global, nall: u8, frame: &Frame<'_>) -> Result<Rec, Recor
     }
 }
 
-/// A vector or feature record by itself, or its first fault. No head record may stand in its place.
+/// A vector or feature record by itself, or its first fault. No head record may stand in its place. Of a record that is too
+/// long, which is told once its name is looked for, only a part is kept.
 pub fn read_record(alloc: Global, nall: u8, frame: &Frame<'_>) -> Result<Rec, RecordRefusal>
-    ensures { GivesRecord result (record_said nall frame.now.fields) }
+    ensures { GivesKept nall result (record_said nall frame.now.fields) }
 {
     match record_type(frame) {
         Ok(RecordType::GeneralInformation | RecordType::GeographicReference) => {

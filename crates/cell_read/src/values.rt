@@ -5,6 +5,7 @@ ghost use Rattle.std.specs.Option.{option_map};
 ghost use Rattle.file_spec.specs.RecordFaults.{of_field};
 ghost use Rattle.file_spec.specs.RecordReading.{content_fault};
 ghost use Rattle.cell_read.specs.Gives.{IsFault};
+ghost use Rattle.cell_read.specs.Kept.{kept_with};
 ghost use Rattle.cell_read.specs.ValuesOf.{values_of, with_content};
 
 use crate::refusal::RecordRefusal;
@@ -18,6 +19,10 @@ use s57_types::{
 };
 use std::alloc::{AllocError, Global};
 use std::mem;
+
+/// How many rows of one field make a record too long. Each row of a field that may stand several times takes at least 8
+/// bytes when it is written, and a record 99,999 at most.
+const ROW_LIMIT: usize = 12_500;
 
 /// The values of the fields that were read so far, by their tags.
 #[derive(Drop)]
@@ -71,6 +76,18 @@ fn join<T: Drop>(alloc: Global, rows: &mut Items<T>, more: Items<T>) -> Result<(
     Ok(())
 }
 
+/// Keeps rows behind others, unless these make the record too long by themselves.
+///
+/// A directory of one record may name the same bytes thousands of times, so the rows of all its fields may take gigabytes.
+fn keep<T: Drop>(alloc: Global, rows: &mut Items<T>, more: Items<T>) -> Result<(), AllocError>
+    ensures { OnOk result (rows.new ≡ kept_with rows.old more) }
+{
+    if rows.len() >= ROW_LIMIT {
+        return Ok(());
+    }
+    join(alloc, rows, more)
+}
+
 /// Reads the bytes of a field, behind the fields that were read; national attributes are at the level NALL.
 #[tactic(auto, using(crate::proofs::ValueSteps::gives_fault), unfolding(crate::specs::ValuesOf::with_content))]
 pub fn read_content(
@@ -93,13 +110,13 @@ pub fn read_content(
         FieldTag::Foid => values.foid = Some(read_foid(alloc, bytes)?),
         FieldTag::Attf => join(alloc, &mut values.attf, read_attf(alloc, bytes)?)?,
         FieldTag::Natf => join(alloc, &mut values.natf, read_natf(alloc, nall, bytes)?)?,
-        FieldTag::Ffpt => join(alloc, &mut values.partners, read_ffpt(alloc, bytes)?)?,
-        FieldTag::Fspt => join(alloc, &mut values.places, read_fspt(alloc, bytes)?)?,
+        FieldTag::Ffpt => keep(alloc, &mut values.partners, read_ffpt(alloc, bytes)?)?,
+        FieldTag::Fspt => keep(alloc, &mut values.places, read_fspt(alloc, bytes)?)?,
         FieldTag::Vrid => values.vrid = Some(read_vrid(alloc, bytes)?),
         FieldTag::Attv => join(alloc, &mut values.attv, read_attv(alloc, bytes)?)?,
-        FieldTag::Vrpt => join(alloc, &mut values.ends, read_vrpt(alloc, bytes)?)?,
-        FieldTag::Sg2d => join(alloc, &mut values.plane, read_sg2d(alloc, bytes)?)?,
-        FieldTag::Sg3d => join(alloc, &mut values.deep, read_sg3d(alloc, bytes)?)?,
+        FieldTag::Vrpt => keep(alloc, &mut values.ends, read_vrpt(alloc, bytes)?)?,
+        FieldTag::Sg2d => keep(alloc, &mut values.plane, read_sg2d(alloc, bytes)?)?,
+        FieldTag::Sg3d => keep(alloc, &mut values.deep, read_sg3d(alloc, bytes)?)?,
     }
     Ok(())
 }

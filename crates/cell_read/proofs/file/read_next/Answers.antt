@@ -1,12 +1,14 @@
-use Rattle.std.proofs.Common.{◌+◌, false, sym, ap, ◌∙◌}
+use Rattle.std.proofs.Common.{◌+◌, false, Ok, sym, ap, ◌∙◌, subst}
 use Rattle.file_spec.specs.DecodedCell.{with_following}
 use Rattle.file_spec.specs.FileRecords.{records_after}
+use Rattle.cell_read.specs.Gives.{IsFault}
+use Rattle.cell_read.specs.RecordsFrom.{record_said}
 use Rattle.cell_read.proofs.FileSteps.{following-frame_fault, following-refused, following-not_added, following-added}
-use Rattle.cell_read.proofs.ListedRecords.{read_record_is_listed}
+use Rattle.cell_read.proofs.KeptRecords.{kept_of, kept_is_listed, same_following, whole_following}
 use Rattle.cell_read.proofs.file.read_next.Goals as goal
 
 pub add_record-requires-clause-listed : goal.add_record-requires-clause-listed
-add_record-requires-clause-listed c = read_record_is_listed c.args.reading.now.cell.head.nall c.in-Ok.frame.fields c.in-Ok-read_record.rec
+add_record-requires-clause-listed c = kept_is_listed c.args.reading.now.cell.head.nall c.in-Ok.frame.fields c.in-Ok-read_record.rec
     c.in-Ok-read_record.ensures
 
 pub returns-in-Err-clause-fault : goal.returns-in-Err-clause-fault
@@ -20,14 +22,17 @@ returns-in-Err-read_record-clause-fault c number =
     (sym c.in-Ok.ensures.exact) c.in-Err-read_record.ensures
 
 pub returns-in-Err-add_record-clause-fault : goal.returns-in-Err-add_record-clause-fault
-returns-in-Err-add_record-clause-fault c number =
-    following-not_added number c.args.reading.now.cell c.args.bytes.now c.args.at c.in-Ok.frame c.in-Ok-read_record.rec
-    c.in-Err-add_record.refusal c.requires.before_end
-    (sym c.in-Ok.ensures.exact) c.in-Ok-read_record.ensures c.in-Err-add_record.ensures.fault
+returns-in-Err-add_record-clause-fault c number = let cell = c.args.reading.now.cell in let rec = c.in-Ok-read_record.rec in
+    let frame = c.in-Ok.frame in let refusal = c.in-Err-add_record.refusal in
+    let kept = kept_of cell.head.nall rec (record_said cell.head.nall frame.fields) c.in-Ok-read_record.ensures in
+    following-not_added number cell c.args.bytes.now c.args.at frame kept.whole refusal c.requires.before_end (sym c.in-Ok.ensures.exact) kept.is
+    (subst (λ fault. IsFault refusal fault) (same_following cell rec kept.whole kept.of_it) c.in-Err-add_record.ensures.fault)
 
 pub returns-in-Ok-add_record-clause-step : goal.returns-in-Ok-add_record-clause-step
 returns-in-Ok-add_record-clause-step c number = let bytes = c.args.bytes.now in let at = c.args.at in let frame = c.in-Ok.frame in
-    following-added number c.args.reading.now.cell bytes at frame c.in-Ok-read_record.rec c.requires.before_end
-    (sym c.in-Ok.ensures.exact) c.in-Ok-read_record.ensures c.in-Ok-add_record.ensures.good
+    let cell = c.args.reading.now.cell in let rec = c.in-Ok-read_record.rec in
+    let kept = kept_of cell.head.nall rec (record_said cell.head.nall frame.fields) c.in-Ok-read_record.ensures in
+    following-added number cell bytes at frame rec c.requires.before_end (sym c.in-Ok.ensures.exact)
+    (kept.is ∙ ap Ok (sym (whole_following cell rec kept.whole kept.of_it c.in-Ok-add_record.ensures.good))) c.in-Ok-add_record.ensures.good
     ∙ ap (λ cell. with_following (number + 1) cell (records_after bytes (at + frame.length) false)) (sym c.in-Ok-add_record.ensures.cell)
     ∙ ap (λ n. with_following (number + 1) c.add_record.new.reading.cell (records_after bytes (at + n) false)) (sym c.length.ensures)
