@@ -106,6 +106,18 @@ MOVES = {
     "EAST_WEST": (0, 500_000),
     "SLANTING": (500_000, 500_000),
 }
+def named_again(tag, content, first):
+    """A record whose directory names the same field as often as 99,999 bytes allow, behind the fields that come first."""
+    fields = [*first, (tag, content + b"\x1e")]
+    lengths = [len(content) for _, content in fields]
+    places = [sum(lengths[:k]) for k in range(len(fields))]
+    entries = [b"%s%05d%02d" % (tag, length, place) for (tag, _), length, place in zip(fields, lengths, places)]
+    more = (99_999 - 25 - 11 * len(entries) - sum(lengths)) // 11
+    directory = b"".join([*entries, *more * entries[-1:]]) + b"\x1e"
+    base = 24 + len(directory)
+    return b"%05d D     %05d   5204" % (base + sum(lengths), base) + directory + b"".join(content for _, content in fields)
+
+
 for name, by in MOVES.items():
     write_cell(f"EDGE_{name}", line(1, shape(name, 8_000)))
     write_cell(f"PAIR_{name}", line(1, shape(name, 4_000)) + line(2, shape(name, 4_000, by)))
@@ -114,6 +126,9 @@ write_cell("EDGE_ENDS", [node(1, (0, 0)), edge(1, 11_000 * [(1, 1)])])
 write_cell("PAIR_CROSSED", line(1, shape("NORTH_SOUTH", 4_000)) + line(2, shape("NORTH_SOUTH", 4_000, (0, 50))))
 write_cell("AREA_RING", [*ring([corner(k, 12_000) for k in range(12_000)]), area(range(1, 12_001))])
 write_cell("AREA_CLOSED", [node(1, corner(0, 8_000)), from_to(1, 1, 1, [corner(k, 8_000) for k in range(1, 8_000)]), area(12_000 * [1])])
+IDENTIFIERS = [(b"FRID", struct.pack("<BIBBHHB", 100, 1, 255, 2, 42, 1, 1) + b"\x1e"), (b"FOID", struct.pack("<HIH", 550, 1, 1) + b"\x1e")]
+write_cell("NAMED_FFPT", [named_again(b"FFPT", 4_545 * (struct.pack("<HIHB", 550, 1, 1, 1) + b"\x1f"), IDENTIFIERS)])
+write_cell("NAMED_SG3D", [named_again(b"SG3D", 4_160 * struct.pack("<iii", 0, 0, 0), [(b"VRID", struct.pack("<BIHB", 110, 1, 1, 1) + b"\x1e")])])
 write_cell("SNAKE", snake(1_000))
 write_cell("RING", ring([(k, k) for k in range(1, 501)]))
 for count in (10_000, 20_000, 40_000, 80_000):
