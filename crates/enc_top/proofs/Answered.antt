@@ -59,8 +59,12 @@ use Rattle.report_text.specs.declared.status.Status.TheVariants.{
   BadOrder,
   Stuck,
   TooManyFindings,
+  BadUpdate,
   Refused,
+  BadJournal,
+  DiskFault,
   OpRefused,
+  JournalFull,
 }
 
 pub both_told : {P Q R : Files → Type 0} (files : Option Files) → IfSome files P → IfSome files Q → ((fs : Files) → P fs → Q fs → R fs) → IfSome files R
@@ -90,8 +94,12 @@ tells_later seen other Step Whole Near Far P files before mid after NoMemory le 
 tells_later seen other Step Whole Near Far P files before mid after (BadOrder place) le known make reach tells = both_told files known tells make
 tells_later seen other Step Whole Near Far P files before mid after (Stuck desk serial) le known make reach tells = both_told files known tells make
 tells_later seen other Step Whole Near Far P files before mid after TooManyFindings le known make reach tells = both_told files known tells make
+tells_later seen other Step Whole Near Far P files before mid after (BadUpdate fault) le known make reach tells = both_told files known tells make
 tells_later seen other Step Whole Near Far P files before mid after (Refused refusal) le known make reach tells = both_told files known tells make
+tells_later seen other Step Whole Near Far P files before mid after (BadJournal place) le known make reach tells = both_told files known tells make
+tells_later seen other Step Whole Near Far P files before mid after DiskFault le known make reach tells = both_told files known tells make
 tells_later seen other Step Whole Near Far P files before mid after (OpRefused cause) le known make reach tells = both_told files known tells make
+tells_later seen other Step Whole Near Far P files before mid after (JournalFull count) le known make reach tells = both_told files known tells make
 
 pub status_of_more : (P Q : List ℕ → Type 0) (status : Status) → ((name : List ℕ) → P name → Q name) → IsInputStatus P status → IsInputStatus Q status
 status_of_more P Q Done more is = is
@@ -106,8 +114,12 @@ status_of_more P Q NoMemory more is = is
 status_of_more P Q (BadOrder place) more is = is
 status_of_more P Q (Stuck desk serial) more is = is
 status_of_more P Q TooManyFindings more is = is
+status_of_more P Q (BadUpdate fault) more is = is
 status_of_more P Q (Refused refusal) more is = is
+status_of_more P Q (BadJournal place) more is = is
+status_of_more P Q DiskFault more is = is
 status_of_more P Q (OpRefused cause) more is = is
+status_of_more P Q (JournalFull count) more is = is
 
 -- the status at which the input files of a built form end a call
 pub asked_status : (sticks : Type 0) (form : Form) (files : Option Files) (before after : ℕ) (status : Status) → IsBuilt form
@@ -125,8 +137,12 @@ asked_status sticks form files before after NoMemory built is tells = built
 asked_status sticks form files before after (BadOrder place) built is tells = (built, tells)
 asked_status sticks form files before after (Stuck desk serial) built is tells = absurd is
 asked_status sticks form files before after TooManyFindings built is tells = (built, tells)
+asked_status sticks form files before after (BadUpdate fault) built is tells = absurd is
 asked_status sticks form files before after (Refused refusal) built is tells = absurd is
+asked_status sticks form files before after (BadJournal place) built is tells = absurd is
+asked_status sticks form files before after DiskFault built is tells = absurd is
 asked_status sticks form files before after (OpRefused cause) built is tells = absurd is
+asked_status sticks form files before after (JournalFull count) built is tells = absurd is
 
 -- ---- scripts one after the other
 pub name_there : (names : List (String Global)) (k : ℕ) (name : String Global) → k < length names → name ≡ get_or names k name

@@ -35,8 +35,12 @@ use Rattle.report_text.specs.declared.status.Status.TheVariants.{
   BadOrder,
   Stuck,
   TooManyFindings,
+  BadUpdate,
   Refused,
+  BadJournal,
+  DiskFault,
   OpRefused,
+  JournalFull,
 }
 use Rattle.enc_top.specs.declared.work.Work.{Work}
 
@@ -55,8 +59,12 @@ work_cause sticks form before after work NoMemory output asked done = absurd don
 work_cause sticks form before after work (BadOrder place) output asked done = absurd done
 work_cause sticks form before after work (Stuck desk serial) output asked done = absurd done
 work_cause sticks form before after work TooManyFindings output asked done = absurd done
+work_cause sticks form before after work (BadUpdate fault) output asked done = absurd done
 work_cause sticks form before after work (Refused refusal) output asked done = absurd done
+work_cause sticks form before after work (BadJournal place) output asked done = absurd done
+work_cause sticks form before after work DiskFault output asked done = absurd done
 work_cause sticks form before after work (OpRefused cause) output asked done = absurd done
+work_cause sticks form before after work (JournalFull count) output asked done = absurd done
 
 pub refused_cause : (sticks : Type 0) (form : Form) (before after : Outside) (status : Status) → IsSilent before after
     → IsAskedBy sticks form before.files before.read_faults after.read_faults (Err status) → IsCauseOf sticks form before after status
@@ -72,8 +80,12 @@ refused_cause sticks form before after NoMemory silent asked = (asked, silent)
 refused_cause sticks form before after (BadOrder place) silent asked = (asked.0, silent, asked.1)
 refused_cause sticks form before after (Stuck desk serial) silent asked = (asked.0, silent, asked.1)
 refused_cause sticks form before after TooManyFindings silent asked = (asked.0, silent, asked.1)
+refused_cause sticks form before after (BadUpdate fault) silent asked = absurd asked
 refused_cause sticks form before after (Refused refusal) silent asked = (asked.0, (asked.1, silent, asked.2))
+refused_cause sticks form before after (BadJournal place) silent asked = absurd asked
+refused_cause sticks form before after DiskFault silent asked = absurd asked
 refused_cause sticks form before after (OpRefused cause) silent asked = (asked.0, (asked.1, silent, asked.2))
+refused_cause sticks form before after (JournalFull count) silent asked = absurd asked
 
 -- ---- where no device failed
 of_told : (told : Option Files) (files : Files) (P : Files → Type 0) → told ≡ Some files → IfSome told P → P files
@@ -105,8 +117,12 @@ exact_of sticks form before after NoMemory cause files smooth calm = inr refl
 exact_of sticks form before after (BadOrder place) cause files smooth calm = inl (asked_of form before after files (Err (BadOrder place)) smooth cause.2)
 exact_of sticks form before after (Stuck desk serial) cause files smooth calm = absurd (calm cause.0)
 exact_of sticks form before after TooManyFindings cause files smooth calm = inl (asked_of form before after files (Err TooManyFindings) smooth cause.2)
+exact_of sticks form before after (BadUpdate fault) cause files smooth calm = absurd cause
 exact_of sticks form before after (Refused refusal) cause files smooth calm = inl (asked_of form before after files (Err (Refused refusal)) smooth cause.1.2)
+exact_of sticks form before after (BadJournal place) cause files smooth calm = absurd cause
+exact_of sticks form before after DiskFault cause files smooth calm = absurd cause
 exact_of sticks form before after (OpRefused why) cause files smooth calm = inl (asked_of form before after files (Err (OpRefused why)) smooth cause.1.2)
+exact_of sticks form before after (JournalFull count) cause files smooth calm = absurd cause
 
 pub exact_from_cause : (sticks : Type 0) (words : List (List ℕ)) (before after : Outside) (status : Status)
     → IsCause sticks words before after status → IsExact sticks words before after status
@@ -136,8 +152,12 @@ usage_of_none sticks form before after NoMemory cause none = absurd (not_built f
 usage_of_none sticks form before after (BadOrder place) cause none = absurd (not_built form cause.0 none)
 usage_of_none sticks form before after (Stuck desk serial) cause none = absurd (subst (λ (f : Form). IsStuckAt f before.files desk serial) none cause.2)
 usage_of_none sticks form before after TooManyFindings cause none = absurd (not_built form cause.0 none)
+usage_of_none sticks form before after (BadUpdate fault) cause none = absurd cause
 usage_of_none sticks form before after (Refused refusal) cause none = absurd (not_built form cause.1.0 none)
+usage_of_none sticks form before after (BadJournal place) cause none = absurd cause
+usage_of_none sticks form before after DiskFault cause none = absurd cause
 usage_of_none sticks form before after (OpRefused why) cause none = absurd (not_built form cause.1.0 none)
+usage_of_none sticks form before after (JournalFull count) cause none = absurd cause
 
 pub none_of_usage : (sticks : Type 0) (form : Form) (before after : Outside) (status : Status) → IsCauseOf sticks form before after status
     → status ≡ Usage → form ≡ no_form
@@ -157,6 +177,10 @@ with_sticks sticks form before after (TooLarge name) cause = cause
 with_sticks sticks form before after NoMemory cause = cause
 with_sticks sticks form before after (BadOrder place) cause = cause
 with_sticks sticks form before after TooManyFindings cause = cause
+with_sticks sticks form before after (BadUpdate fault) cause = cause
 with_sticks sticks form before after (Refused refusal) cause = cause
+with_sticks sticks form before after (BadJournal place) cause = cause
+with_sticks sticks form before after DiskFault cause = cause
 with_sticks sticks form before after (OpRefused why) cause = cause
+with_sticks sticks form before after (JournalFull count) cause = cause
 with_sticks sticks form before after (Stuck desk serial) cause = absurd cause.0

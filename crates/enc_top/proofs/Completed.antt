@@ -109,8 +109,12 @@ use Rattle.report_text.specs.declared.status.Status.TheVariants.{
   BadOrder,
   Stuck,
   TooManyFindings,
+  BadUpdate,
   Refused,
+  BadJournal,
+  DiskFault,
   OpRefused,
+  JournalFull,
 }
 use Rattle.enc_top.proofs.OneAnswer.{apart, ok_not_err, one_cell, one_output, one_scripts}
 
@@ -300,8 +304,12 @@ done_of form files task (BadOrder place) good is = absurd (apart form task (BadO
 done_of form files task (Stuck desk serial) good is = absurd
     (apart form task (Stuck desk serial) (one_output form files (Ok task) (Err (Stuck desk serial)) good is))
 done_of form files task TooManyFindings good is = absurd (apart form task TooManyFindings (one_output form files (Ok task) (Err TooManyFindings) good is))
+done_of form files task (BadUpdate fault) good is = absurd (apart form task (BadUpdate fault) (one_output form files (Ok task) (Err (BadUpdate fault)) good is))
 done_of form files task (Refused refusal) good is = absurd (apart form task (Refused refusal) (one_output form files (Ok task) (Err (Refused refusal)) good is))
+done_of form files task (BadJournal place) good is = absurd (apart form task (BadJournal place) (one_output form files (Ok task) (Err (BadJournal place)) good is))
+done_of form files task DiskFault good is = absurd (apart form task DiskFault (one_output form files (Ok task) (Err DiskFault) good is))
 done_of form files task (OpRefused cause) good is = absurd (apart form task (OpRefused cause) (one_output form files (Ok task) (Err (OpRefused cause)) good is))
+done_of form files task (JournalFull count) good is = absurd (apart form task (JournalFull count) (one_output form files (Ok task) (Err (JournalFull count)) good is))
 
 -- good files of sessions in threads leave no refusal
 no_bad_room : (cell out : List ℕ) (scripts : List (List ℕ)) (files : Files) (status : Status) → AreGood (room_form cell out scripts) files
@@ -328,8 +336,12 @@ room_done cell out scripts files NoMemory good is = absurd (no_bad_room cell out
 room_done cell out scripts files (BadOrder place) good is = absurd (no_bad_room cell out scripts files (BadOrder place) good is)
 room_done cell out scripts files (Stuck desk serial) good is = absurd (no_bad_room cell out scripts files (Stuck desk serial) good is)
 room_done cell out scripts files TooManyFindings good is = absurd (no_bad_room cell out scripts files TooManyFindings good is)
+room_done cell out scripts files (BadUpdate fault) good is = absurd (no_bad_room cell out scripts files (BadUpdate fault) good is)
 room_done cell out scripts files (Refused refusal) good is = absurd (no_bad_room cell out scripts files (Refused refusal) good is)
+room_done cell out scripts files (BadJournal place) good is = absurd (no_bad_room cell out scripts files (BadJournal place) good is)
+room_done cell out scripts files DiskFault good is = absurd (no_bad_room cell out scripts files DiskFault good is)
 room_done cell out scripts files (OpRefused cause) good is = absurd (no_bad_room cell out scripts files (OpRefused cause) good is)
+room_done cell out scripts files (JournalFull count) good is = absurd (no_bad_room cell out scripts files (JournalFull count) good is)
 
 good_done : (form : Form) (files : Files) (status : Status) → FewScripts form → IsSteady form files → IsExpected form files status → status ≡ Done
 good_done form files status few good is = let output = good_output form files few good in done_of form files output.0 status output.1 is

@@ -77,8 +77,12 @@ use Rattle.report_text.specs.declared.status.Status.TheVariants.{
   BadOrder,
   Stuck,
   TooManyFindings,
+  BadUpdate,
   Refused,
+  BadJournal,
+  DiskFault,
   OpRefused,
+  JournalFull,
 }
 use Rattle.enc_top.proofs.Answered.{asked_status, both_told, status_of_more, tells_first}
 
@@ -254,8 +258,12 @@ IsEdgeStatus NoMemory = ⊥
 IsEdgeStatus (BadOrder place) = ⊥
 IsEdgeStatus (Stuck desk serial) = ⊥
 IsEdgeStatus TooManyFindings = ⊥
+IsEdgeStatus (BadUpdate fault) = ⊥
 IsEdgeStatus (Refused why) = Unit {0}
+IsEdgeStatus (BadJournal place) = ⊥
+IsEdgeStatus DiskFault = ⊥
 IsEdgeStatus (OpRefused cause) = Unit {0}
+IsEdgeStatus (JournalFull count) = ⊥
 
 edge_status : (c : Cell) (operation : Operation) (status : Status) → operated c operation ≡ Err status → IsEdgeStatus status
 edge_status c operation status = by_rule (operation_refusal c operation)
@@ -300,8 +308,12 @@ module _ (cell out : List ℕ) (operation : Operation) (files : Option Files) (b
     asked_end (BadOrder place) is so = absurd is
     asked_end (Stuck desk serial) is so = absurd is
     asked_end TooManyFindings is so = absurd is
+    asked_end (BadUpdate fault) is so = absurd is
     asked_end (Refused why) is so = (tt, tt, so)
+    asked_end (BadJournal place) is so = absurd is
+    asked_end DiskFault is so = absurd is
     asked_end (OpRefused cause) is so = (tt, tt, so)
+    asked_end (JournalFull count) is so = absurd is
 
     pub operation_ends : (status : Status) → (operated start operation ≡ Err status) ⊎ (status ≡ NoMemory) → IsAskedBy ⊥ form files before after (Err status)
     operation_ends status (inl is) = asked_end status (edge_status start operation status is) (ends_so status is)

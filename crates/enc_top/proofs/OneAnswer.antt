@@ -45,8 +45,12 @@ use Rattle.report_text.specs.declared.status.Status.TheVariants.{
   BadOrder,
   Stuck,
   TooManyFindings,
+  BadUpdate,
   Refused,
+  BadJournal,
+  DiskFault,
   OpRefused,
+  JournalFull,
 }
 
 -- a relation that has one answer at most
@@ -100,8 +104,12 @@ fault_of session bytes NoMemory bad = absurd bad
 fault_of session bytes (BadOrder place) bad = absurd bad
 fault_of session bytes (Stuck desk serial) bad = absurd bad
 fault_of session bytes TooManyFindings bad = absurd bad
+fault_of session bytes (BadUpdate fault) bad = absurd bad
 fault_of session bytes (Refused refusal) bad = absurd bad
+fault_of session bytes (BadJournal place) bad = absurd bad
+fault_of session bytes DiskFault bad = absurd bad
 fault_of session bytes (OpRefused cause) bad = absurd bad
+fault_of session bytes (JournalFull count) bad = absurd bad
 
 same_commands : (a b : List Command) → ◌≡◌ {A = Result (List Command) (ℕ × ℕ)} (Ok a) (Ok b) → a ≡ b
 same_commands a b e = cc

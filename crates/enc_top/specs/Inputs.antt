@@ -34,8 +34,12 @@ use Rattle.report_text.specs.declared.status.Status.TheVariants.{
   BadOrder,
   Stuck,
   TooManyFindings,
+  BadUpdate,
   Refused,
+  BadJournal,
+  DiskFault,
   OpRefused,
+  JournalFull,
 }
 
 -- how many bytes input files may have
@@ -233,8 +237,12 @@ IsInputStatus IsInput NoMemory = Unit {0}
 IsInputStatus IsInput (BadOrder place) = Unit {0}
 IsInputStatus IsInput (Stuck desk serial) = ⊥
 IsInputStatus IsInput TooManyFindings = Unit {0}
+IsInputStatus IsInput (BadUpdate fault) = ⊥
 IsInputStatus IsInput (Refused refusal) = ⊥
+IsInputStatus IsInput (BadJournal place) = ⊥
+IsInputStatus IsInput DiskFault = ⊥
 IsInputStatus IsInput (OpRefused cause) = ⊥
+IsInputStatus IsInput (JournalFull count) = ⊥
 
 -- one of these names
 abbrev pub IsAmong : List (List ℕ) → List ℕ → Type 0

@@ -32,8 +32,12 @@ use Rattle.report_text.specs.declared.status.Status.TheVariants.{
   BadOrder,
   Stuck,
   TooManyFindings,
+  BadUpdate,
   Refused,
+  BadJournal,
+  DiskFault,
   OpRefused,
+  JournalFull,
 }
 use Rattle.enc_top.specs.declared.work.Work.{Work}
 
@@ -182,8 +186,12 @@ IsCauseOf sticks form before after (TooLarge name) = IsInputOf form name × IsRe
 IsCauseOf sticks form before after NoMemory = IsBuilt form × IsSilent before after
 IsCauseOf sticks form before after (BadOrder place) = IsRefused form before after (BadOrder place)
 IsCauseOf sticks form before after TooManyFindings = IsRefused form before after TooManyFindings
+IsCauseOf sticks form before after (BadUpdate fault) = ⊥
 IsCauseOf sticks form before after (Refused refusal) = IsOnEdges form × IsRefused form before after (Refused refusal)
+IsCauseOf sticks form before after (BadJournal place) = ⊥
+IsCauseOf sticks form before after DiskFault = ⊥
 IsCauseOf sticks form before after (OpRefused cause) = IsOnEdges form × IsRefused form before after (OpRefused cause)
+IsCauseOf sticks form before after (JournalFull count) = ⊥
 IsCauseOf sticks form before after (Stuck desk serial) = sticks × IsSilent before after × IsStuckAt form before.files desk serial
 
 abbrev pub IsCause : Type 0 → List (List ℕ) → Outside → Outside → Status → Type 0

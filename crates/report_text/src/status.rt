@@ -1,14 +1,15 @@
 //! How a call ends.
 
 ghost use Rattle.std.specs.Prelude.{◌≡◌, ◌++◌, ◌∷◌, [], OnErr, OnOk, decimal};
-ghost use Rattle.text_spec.specs.Lines.{line as line_lem};
-ghost use Rattle.report_text.specs.StatusText.{status_line, status_number};
+ghost use Rattle.text_spec.specs.Lines.{line as line_lem, spaced};
+ghost use Rattle.report_text.specs.StatusText.{fault_words, status_line, status_number};
 
 use crate::reply::push_refusal_words;
 use history_spec::StateRefusal;
+use itoa::Buffer;
 use s57_types::{CellFault, Text};
 use std::alloc::{AllocError, Global};
-use text_lines::{push_bytes, push_numbered, push_text};
+use text_lines::{push_bytes, push_numbered, push_text, push_word};
 
 /// How a call of the program ended.
 #[derive(Debug, Drop)]
@@ -37,10 +38,18 @@ pub enum Status {
     Stuck(u32, u32),
     /// The cell has too many findings.
     TooManyFindings,
+    /// The update file has this first fault.
+    BadUpdate(CellFault),
     /// The cell doesn't take the edits.
     Refused(StateRefusal),
+    /// The journal has a fault at this place.
+    BadJournal(u64),
+    /// The disk that holds the journal failed.
+    DiskFault,
     /// Edges can't be split or joined so: the number of the cause.
     OpRefused(u32),
+    /// The journal has this many commits, which are too many.
+    JournalFull(u64),
 }
 
 impl Status {
@@ -61,8 +70,12 @@ impl Status {
             Status::BadOrder(_) => 10,
             Status::Stuck(..) => 11,
             Status::TooManyFindings => 12,
+            Status::BadUpdate(_) => 14,
             Status::Refused(_) => 15,
+            Status::BadJournal(_) => 16,
+            Status::DiskFault => 17,
             Status::OpRefused(_) => 18,
+            Status::JournalFull(_) => 19,
         }
     }
 }
@@ -106,8 +119,12 @@ fn push_status(out: &mut Vec<u8>, status: &Status) -> Result<(), AllocError>
         Status::BadOrder(place) => push_bad_order(out, *place),
         Status::Stuck(desk, serial) => push_stuck(out, *desk, *serial),
         Status::TooManyFindings => push_text(out, "enc_cell: too many findings\n"),
+        Status::BadUpdate(fault) => push_bad_update(out, *fault),
         Status::Refused(refusal) => push_refused(out, *refusal),
+        Status::BadJournal(place) => push_large(out, "enc_cell: bad journal", "place", *place),
+        Status::DiskFault => push_text(out, "enc_cell: disk fault\n"),
         Status::OpRefused(cause) => push_op_refused(out, *cause),
+        Status::JournalFull(count) => push_large(out, "enc_cell: journal", "full", *count),
     }
 }
 
@@ -176,14 +193,46 @@ fn push_three(
     push_text(out, "\n")
 }
 
+/// Appends a line of a text and one number of 64 bits.
+fn push_large(out: &mut Vec<u8>, text: &str, word: &str, number: u64) -> Result<(), AllocError>
+    ensures { OnOk result (out.new.items ≡ out.old.items ++ line_lem text.now (word.now ∷ decimal number ∷ [])) }
+{
+    push_text(out, text)?;
+    push_word(out, word)?;
+    push_large_number(out, number)?;
+    push_text(out, "\n")
+}
+
+/// Appends a number of 64 bits behind a space.
+fn push_large_number(out: &mut Vec<u8>, number: u64) -> Result<(), AllocError>
+    ensures { OnOk result (out.new.items ≡ out.old.items ++ spaced (decimal number)) }
+{
+    let mut buffer = Buffer::new();
+    push_word(out, buffer.format(number))
+}
+
 /// Appends the line of a bad cell.
 fn push_bad_cell(out: &mut Vec<u8>, fault: CellFault) -> Result<(), AllocError>
     ensures { OnOk result (out.new.items ≡ out.old.items ++ status_line (Status.BadCell fault)) }
 {
+    push_fault(out, "enc_cell: bad cell", fault)
+}
+
+/// Appends the line of a bad update.
+fn push_bad_update(out: &mut Vec<u8>, fault: CellFault) -> Result<(), AllocError>
+    ensures { OnOk result (out.new.items ≡ out.old.items ++ status_line (Status.BadUpdate fault)) }
+{
+    push_fault(out, "enc_cell: bad update", fault)
+}
+
+/// Appends a line of a text and a fault: its record, its place and its code.
+fn push_fault(out: &mut Vec<u8>, text: &str, fault: CellFault) -> Result<(), AllocError>
+    ensures { OnOk result (out.new.items ≡ out.old.items ++ line_lem text.now (fault_words fault)) }
+{
     let record = numbered("record", fault.number);
     let offset = numbered("offset", fault.offset);
     let code = numbered("code", u32::from(fault.code));
-    push_three(out, "enc_cell: bad cell", &record, &offset, &code)
+    push_three(out, text, &record, &offset, &code)
 }
 
 /// Appends the line of a bad script.

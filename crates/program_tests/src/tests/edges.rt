@@ -9,6 +9,9 @@ use std::sync::Wait;
 use std::test::Fail;
 use std::thread::Threads;
 
+/// The boundary of both areas of the square, as items of a record.
+const BOUNDARY: &str = "s=ve:3:1:1:255 s=ve:2:1:1:255 s=ve:4:2:1:255 s=ve:1:2:1:255";
+
 /// An edge of the square, with its beginning node and its end node.
 #[derive(Clone, Copy)]
 struct Edge {
@@ -40,8 +43,12 @@ fn drawn_cell<R: Threads + Wait + Sync>(
     version: u32,
 ) -> Result<Vec<u8>, Fail> {
     let Edge { id, begins, ends } = edge;
+    let line = format!(in alloc;
+        "set ve {id} {version} e=vc:{begins}:255:255:1:255 e=vc:{ends}:255:255:2:255{points}"
+    )?;
+    let places = BOUNDARY;
     let script = format!(in alloc;
-        "set ve {id} {version} e=vc:{begins}:255:255:1:255 e=vc:{ends}:255:255:2:255{points}\nset fe 1 {version} 3 1 42 1 1 1 s=ve:3:1:1:255 s=ve:2:1:1:255 s=ve:4:2:1:255 s=ve:1:2:1:255\nset fe 2 {version} 3 2 302 1 2 1 a=18:1 s=ve:3:1:1:255 s=ve:2:1:1:255 s=ve:4:2:1:255 s=ve:1:2:1:255\ncommit\n"
+        "{line}\nset fe 1 {version} 3 1 42 1 1 1 {places}\nset fe 2 {version} 3 2 302 1 2 1 a=18:1 {places}\ncommit\n"
     )?;
     let square = joined(alloc, &square::ROWS)?;
     exported(rt, alloc, &square, b"order 1\n", script.as_bytes())

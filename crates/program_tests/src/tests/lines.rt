@@ -8,6 +8,15 @@ fn statuses_that_no_case_gives_have_their_lines(rt: HostRuntime) -> Result<(), F
     for (status, line) in &[
         (Status::NoMemory, "enc_cell: no memory\n"),
         (Status::Stuck(1, 2), "enc_cell: stuck desk 1 serial 2\n"),
+        (
+            Status::BadJournal(4_294_967_296),
+            "enc_cell: bad journal place 4294967296\n",
+        ),
+        (Status::DiskFault, "enc_cell: disk fault\n"),
+        (
+            Status::JournalFull(950_001),
+            "enc_cell: journal full 950001\n",
+        ),
     ] {
         let mut out = Vec::new(rt.alloc());
         print_status(rt.alloc(), status, &mut out)?;

@@ -1,4 +1,4 @@
-use Rattle.report_text.proofs.status.push_bad_cell.Goals as goal
+use Rattle.report_text.proofs.status.push_fault.Goals as goal
 
 pub returns : goal.returns
 returns c = rw (
