@@ -28,6 +28,7 @@ use Rattle.std.proofs.Common.{
   sym,
   ap,
   subst,
+  ℤ,
   arith,
 }
 use Rattle.std.specs.Prelude.{count_by, nat_lt, slice_index_or}
@@ -69,11 +70,12 @@ use Rattle.enc_top.specs.Outcome.{
   Outside,
 }
 use Rattle.enc_top.specs.Output.{Adds, AddsFrom}
-use Rattle.enc_top.specs.Task.{Task, check_task, drill_task, edge_task, make_task, run_task}
+use Rattle.enc_top.specs.Task.{Task, check_task, drill_task, edge_task, make_task, probe_task, run_task}
 use Rattle.enc_top.specs.Words.{
   Form,
   check_among,
   check_form,
+  coordinate_of,
   drill_among,
   drill_form,
   drill_of,
@@ -89,6 +91,9 @@ use Rattle.enc_top.specs.Words.{
   make_of,
   no_form,
   number_up_to,
+  probe_among,
+  probe_form,
+  probe_of,
   replay_among,
   replay_form,
   room_among,
@@ -161,6 +166,7 @@ FewScripts (room_form cell out scripts) = Unit {0}
 FewScripts (make_form n out) = Unit {0}
 FewScripts (drill_form n sessions) = Unit {0}
 FewScripts (edge_form cell out operation) = Unit {0}
+FewScripts (probe_form cell at) = Unit {0}
 FewScripts no_form = Unit {0}
 
 few_by : (b : Bool) (x y : Form) → FewScripts x → FewScripts y → FewScripts (cond b x y)
@@ -222,11 +228,24 @@ few_edge reading [] = tt
 few_edge reading (a ∷ []) = tt
 few_edge reading (a ∷ b ∷ rest) = few_edge_of a b (reading rest)
 
+few_probed_of : (cell : List ℕ) (y x : Option ℤ) → FewScripts (probe_of cell y x)
+few_probed_of cell None x = tt
+few_probed_of cell (Some y) None = tt
+few_probed_of cell (Some y) (Some x) = tt
+
+few_probed : (others : List (List ℕ)) → FewScripts (probe_among others)
+few_probed [] = tt
+few_probed (a ∷ []) = tt
+few_probed (a ∷ b ∷ []) = tt
+few_probed (a ∷ b ∷ d ∷ []) = few_probed_of a (coordinate_of b) (coordinate_of d)
+few_probed (a ∷ b ∷ d ∷ e ∷ rest) = tt
+
 few_scripts : (words : List (List ℕ)) → FewScripts (form_of words)
 unfolding form_of
 few_scripts [] = tt
 few_scripts (first ∷ others) =
-    let joined = cond (is_word (codes "join") first) (edge_among join_in others) no_form in
+    let probed = cond (is_word (codes "probe") first) (probe_among others) no_form in
+    let joined = cond (is_word (codes "join") first) (edge_among join_in others) probed in
     let split = cond (is_word (codes "split") first) (edge_among split_in others) joined in
     let drilled = cond (is_word (codes "drill") first) (drill_among others) split in
     let made = cond (is_word (codes "make") first) (make_among others) drilled in
@@ -238,7 +257,8 @@ few_scripts (first ∷ others) =
     (few_by (is_word (codes "make") first) (make_among others) drilled (few_made others)
     (few_by (is_word (codes "drill") first) (drill_among others) split (few_drilled others)
     (few_by (is_word (codes "split") first) (edge_among split_in others) joined (few_edge split_in others)
-    (few_by (is_word (codes "join") first) (edge_among join_in others) no_form (few_edge join_in others) tt))))))
+    (few_by (is_word (codes "join") first) (edge_among join_in others) probed (few_edge join_in others)
+    (few_by (is_word (codes "probe") first) (probe_among others) no_form (few_probed others) tt)))))))
 
 -- ---- good files ask for a task
 few_quotas : (names : List (List ℕ)) (commands : List (List Command)) → length names ≤ 16 → length commands ≡ length names
@@ -254,6 +274,7 @@ IsSteady (room_form cell out scripts) files = ⊥
 IsSteady (make_form n out) files = AreGood (make_form n out) files
 IsSteady (drill_form n sessions) files = AreGood (drill_form n sessions) files
 IsSteady (edge_form cell out operation) files = AreGood (edge_form cell out operation) files
+IsSteady (probe_form cell at) files = AreGood (probe_form cell at) files
 IsSteady no_form files = ⊥
 
 pub drilled : (n sessions : ℕ) → finding_total (generated_cell n) ≤ finding_limit → drill_answer n sessions ≡ Ok (drill_task n sessions)
@@ -286,6 +307,7 @@ good_output (edge_form cell out operation) files few good =
     let c = good.0.start in
     let left = apply_edits (operation_edits c operation) c in
     (edge_task left out, inl (c, cell_is cell files good.0, inl (left, good_operated c operation good.1, refl)))
+good_output (probe_form cell at) files few good = (probe_task good.start at, inl (good.start, cell_is cell files good, refl))
 good_output no_form files few good = absurd good
 
 -- a status that is asked for beside a task is Done
@@ -357,6 +379,7 @@ expected_done (make_form n out) files status few good (inl is) = inl (good_done 
 expected_done (drill_form n sessions) files status few good (inl is) = inl (good_done (drill_form n sessions) files status few good is)
 expected_done (edge_form cell out operation) files status few good (inl is) =
     inl (good_done (edge_form cell out operation) files status few good is)
+expected_done (probe_form cell at) files status few good (inl is) = inl (good_done (probe_form cell at) files status few good is)
 expected_done no_form files status few good (inl is) = absurd good
 
 pub complete_from_exact : (sticks : Type 0) (words : List (List ℕ)) (before after : Outside) (status : Status)
@@ -455,6 +478,7 @@ form_read_back sticks (make_form n out) before after cause = made_read_back n ou
 form_read_back sticks (drill_form n sessions) before after cause = nothing_left before.files after.files
 form_read_back sticks (edge_form cell out operation) before after cause =
     edge_read_back cell out operation cause.0 before.files after.files cause.1 cause.3.files
+form_read_back sticks (probe_form cell at) before after cause = nothing_left before.files after.files
 form_read_back sticks no_form before after cause = nothing_left before.files after.files
 
 pub read_back_from_cause : (sticks : Type 0) (words : List (List ℕ)) (before after : Outside) (status : Status)

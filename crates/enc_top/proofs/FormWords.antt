@@ -36,6 +36,7 @@ use Rattle.enc_top.specs.Words.{
   begins_with_room,
   check_among,
   check_form,
+  coordinate_of,
   drill_among,
   drill_of,
   edge_among,
@@ -48,13 +49,15 @@ use Rattle.enc_top.specs.Words.{
   make_of,
   no_form,
   number_up_to,
+  probe_among,
+  probe_of,
   replay_among,
   replay_form,
   room_form,
   split_in,
 }
 use Rattle.enc_top.specs.declared.operation.Operation.{Operation}
-use Rattle.enc_top.proofs.WordLists.{two_words}
+use Rattle.enc_top.proofs.WordLists.{three_words, two_words}
 
 -- the words behind the first ones
 pub behind : (n : ℕ) (words : List (String Global)) → take (length words - n) (drop n words) ≡ drop n words
@@ -159,10 +162,14 @@ module _ (words : List (String Global)) (first : String Global) (others : List (
         unfolding form_of
         join_words split join = ap form_of (parted words first others some is are) ∙ (rw (room, check, replay, make, drill, split, join) refl)
 
-        pub other_words : is_word (codes "split") (string_bytes first) ≡ false → is_word (codes "join") (string_bytes first) ≡ false
-            → form_of (map string_bytes words) ≡ no_form
-        unfolding form_of
-        other_words split join = ap form_of (parted words first others some is are) ∙ (rw (room, check, replay, make, drill, split, join) refl)
+        module _ (split : is_word (codes "split") (string_bytes first) ≡ false) (join : is_word (codes "join") (string_bytes first) ≡ false) where
+          pub probed_words : is_word (codes "probe") (string_bytes first) ≡ true → form_of (map string_bytes words) ≡ probe_among (map string_bytes others)
+          unfolding form_of
+          probed_words probe = ap form_of (parted words first others some is are) ∙ (rw (room, check, replay, make, drill, split, join, probe) refl)
+
+          pub other_words : is_word (codes "probe") (string_bytes first) ≡ false → form_of (map string_bytes words) ≡ no_form
+          unfolding form_of
+          other_words probe = ap form_of (parted words first others some is are) ∙ (rw (room, check, replay, make, drill, split, join, probe) refl)
 
 pub no_words : (words : List (String Global)) → length words < 1 → form_of (map string_bytes words) ≡ no_form
 unfolding form_of
@@ -252,3 +259,22 @@ edge_words reading [] cell out numbers many is_cell is_out are = absurd (omega (
 edge_words reading (a ∷ []) cell out numbers many is_cell is_out are = absurd (omega (arith, many))
 edge_words reading (a ∷ b ∷ rest) cell out numbers many is_cell is_out are =
     λ i. edge_of (string_bytes (sym is_cell i)) (string_bytes (sym is_out i)) (reading (map string_bytes (sym are i)))
+
+-- ---- the words behind `probe`
+pub fewer_probed : (others : List (String Global)) → length others < 3 → probe_among (map string_bytes others) ≡ no_form
+fewer_probed [] few = refl
+fewer_probed (a ∷ []) few = refl
+fewer_probed (a ∷ b ∷ []) few = refl
+fewer_probed (a ∷ b ∷ d ∷ rest) few = absurd (omega (arith, few))
+
+pub more_probed : (others : List (String Global)) → 4 ≤ length others → probe_among (map string_bytes others) ≡ no_form
+more_probed [] many = absurd (omega (arith, many))
+more_probed (a ∷ []) many = absurd (omega (arith, many))
+more_probed (a ∷ b ∷ []) many = absurd (omega (arith, many))
+more_probed (a ∷ b ∷ d ∷ []) many = absurd (omega (arith, many))
+more_probed (a ∷ b ∷ d ∷ e ∷ rest) many = refl
+
+pub three_probed : (others : List (String Global)) (cell y x : String Global) → length others ≡ 3 → cell ≡ get_or others 0 cell
+    → y ≡ get_or others 1 y → x ≡ get_or others 2 x
+    → probe_among (map string_bytes others) ≡ probe_of (string_bytes cell) (coordinate_of (string_bytes y)) (coordinate_of (string_bytes x))
+three_probed others cell y x three is_cell is_y is_x = ap probe_among (three_words others cell y x three is_cell is_y is_x)

@@ -11,4 +11,6 @@ pub mod GeneratedWork
 mod Reports
 mod RoomAnswers
 mod Numbers
+mod Coordinates
 mod EdgeWork
+mod ProbedWork

@@ -10,7 +10,7 @@ use Rattle.enc_top.specs.Words.{is_written_as, number_in}
 itself : (n : ℕ) → nat_eq n n ≡ true
 itself n = grind (arith, nat_tests)
 
-same_as_itself : (text : List ℕ) → pointwise nat_eq text text ≡ true
+pub same_as_itself : (text : List ℕ) → pointwise nat_eq text text ≡ true
 same_as_itself [] = refl
 same_as_itself (a ∷ text) = rw (itself a) (same_as_itself text)
 

@@ -14,7 +14,7 @@ use Rattle.enc_top.specs.Inputs.{cell_limit, order_limit, script_limit}
 use Rattle.enc_top.specs.Outcome.{IsSmooth, Outside}
 use Rattle.enc_top.specs.declared.operation.Operation.{Operation}
 use Rattle.enc_top.specs.Operations.{commit_refusal, operation_edits, operation_refusal}
-use Rattle.enc_top.specs.Words.{Form, check_form, form_of, make_form, drill_form, edge_form, no_form, replay_form, room_form}
+use Rattle.enc_top.specs.Words.{Form, check_form, form_of, make_form, drill_form, edge_form, no_form, probe_form, replay_form, room_form}
 use Rattle.report_text.specs.declared.status.Status.{Status}
 use Rattle.report_text.specs.declared.status.Status.TheVariants.{Done, NoMemory}
 
@@ -62,6 +62,7 @@ AreGood (room_form cell out scripts) files = IsGoodCell cell files × ((commands
 AreGood (make_form n out) files = Unit {0}
 AreGood (drill_form n sessions) files = finding_total (generated_cell n) ≤ finding_limit
 AreGood (edge_form cell out operation) files = (good : IsGoodCell cell files) × IsGoodOperation good.start operation
+AreGood (probe_form cell at) files = IsGoodCell cell files
 AreGood no_form files = ⊥
 
 -- where the files are told and good, no device failed and no rendezvous may give up, all is done, unless memory ran out

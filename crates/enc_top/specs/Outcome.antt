@@ -5,9 +5,13 @@ use Rattle.enc_outside.specs.Files.{Files, Told, Writes}
 use Rattle.cell_make.specs.GeneratedCell.{generated_cell}
 use Rattle.file_spec.specs.DecodedCell.{decoded_cell}
 use Rattle.file_spec.specs.EncodedCell.{encoded_cell}
+use Rattle.geometry_spec.specs.Points.{Point}
 use Rattle.history_spec.specs.ReportText.{final_cell}
 use Rattle.s57_types.specs.declared.cell.Cell.{Cell}
 use Rattle.history_spec.specs.Sessions.{script_of}
+use Rattle.skin_probe.specs.Sheet.{sheet_of}
+use Rattle.skin_probe.specs.WindingLaws.{AreSumsByEdges}
+use Rattle.skin_probe.specs.declared.sheet.ProbeSheet.{ProbeSheet}
 use Rattle.text_spec.specs.OrderLine.{IsOrder, order_line}
 use Rattle.text_spec.specs.ScriptLines.{is_shared}
 use Rattle.text_spec.specs.declared.command.Command.{Command}
@@ -16,8 +20,8 @@ use Rattle.enc_top.specs.declared.operation.Operation.{Operation}
 use Rattle.enc_top.specs.Operations.{OperationKeeps, operated}
 use Rattle.enc_top.specs.Inputs.{CellIs, IsInputOf, IsReached, IsRoomRun, IsRunOf, OrderIs, OutputIs, ScriptsAre, drill_answer}
 use Rattle.enc_top.specs.Output.{Adds, AddsFrom, AddsFront, IsBegun}
-use Rattle.enc_top.specs.Task.{Task, check_task, edge_task, make_task, task_of}
-use Rattle.enc_top.specs.Words.{Form, check_form, replay_form, room_form, make_form, drill_form, edge_form, no_form, form_of}
+use Rattle.enc_top.specs.Task.{Task, check_task, edge_task, make_task, probe_task, task_of}
+use Rattle.enc_top.specs.Words.{Form, check_form, replay_form, room_form, make_form, drill_form, edge_form, probe_form, no_form, form_of}
 use Rattle.report_text.specs.declared.status.Status.{Status}
 use Rattle.report_text.specs.declared.status.Status.TheVariants.{
   Done,
@@ -61,6 +65,7 @@ IsBuilt (room_form cell out scripts) = Unit {0}
 IsBuilt (make_form n out) = Unit {0}
 IsBuilt (drill_form n sessions) = Unit {0}
 IsBuilt (edge_form cell out operation) = Unit {0}
+IsBuilt (probe_form cell at) = Unit {0}
 IsBuilt no_form = ⊥
 
 -- the text of a cell, where the files are told that of the file
@@ -100,6 +105,18 @@ pub record IsEdgeWorkOf (cell out : List ℕ) (operation : Operation) (files : O
   pub left_by : IsLeftBy start left operation
   pub is : task ≡ edge_task left out
 
+-- what is told of the areas of a cell round a point. The two sums are sums over the edges of the cell, and equal where no side is unbalanced
+pub record IsProbeIn (start : Cell) (at : Point) (task : Task) : Type 0 where
+  pub is : task ≡ probe_task start at
+  pub by_edges : AreSumsByEdges start at (sheet_of start at).sums
+  pub balanced : (sheet_of start at).unbalanced ≡ 0 → (sheet_of start at).sums.0 ≡ (sheet_of start at).sums.1
+
+-- the same, where the files are told, of the cell of the file
+pub record IsProbeOf (cell : List ℕ) (at : Point) (files : Option Files) (task : Task) : Type 0 where
+  pub start : Cell
+  pub told : IfSome files (λ fs. CellIs cell fs (Ok start))
+  pub probe : IsProbeIn start at task
+
 -- what the form may do: put the text of a cell, or the report of scripts on a cell in an order and then write the cell that is left
 abbrev pub IsOutput : Form → Option Files → Task → Type 0
 IsOutput (check_form cell) files task = IsCheckOf cell files task
@@ -108,6 +125,7 @@ IsOutput (room_form cell out scripts) files task = IsRoomOf cell out scripts fil
 IsOutput (make_form n out) files task = IsMakeOf n out task
 IsOutput (drill_form n sessions) files task = drill_answer n sessions ≡ Ok task
 IsOutput (edge_form cell out operation) files task = IsEdgeWorkOf cell out operation files task
+IsOutput (probe_form cell at) files task = IsProbeOf cell at files task
 IsOutput no_form files task = ⊥
 
 -- where the files are told, this is what they ask for

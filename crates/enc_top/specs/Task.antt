@@ -5,8 +5,11 @@ use Rattle.cell_make.specs.GeneratedCell.{generated_cell}
 use Rattle.drill_run.specs.Drills.{drill_counts}
 use Rattle.drill_run.specs.DrillText.{drill_line, made_line}
 use Rattle.file_spec.specs.EncodedCell.{encoded_cell}
+use Rattle.geometry_spec.specs.Points.{Point}
 use Rattle.history_spec.specs.ReportText.{final_cell, report}
 use Rattle.s57_types.specs.declared.cell.Cell.{Cell}
+use Rattle.skin_probe.specs.ProbeText.{probe_text}
+use Rattle.skin_probe.specs.Sheet.{sheet_of}
 use Rattle.text_spec.specs.CellText.{cell_text}
 use Rattle.text_spec.specs.declared.command.Command.{Command}
 use Rattle.enc_top.specs.declared.work.Export.{Export}
@@ -39,6 +42,10 @@ drill_task n sessions = record { text = drill_line n sessions (drill_counts n se
 -- the text of a cell that an operation leaves is put, and the cell is written under a name
 abbrev pub edge_task : Cell → List ℕ → Task
 edge_task d out = record { text = cell_text d; file = Some (out, encoded_cell d) }
+
+-- what is told of the areas of a cell round a point is put
+abbrev pub probe_task : Cell → Point → Task
+probe_task c at = record { text = probe_text at (sheet_of c at); file = None }
 
 abbrev pub file_of : Export → List ℕ × List ℕ
 file_of export = (string_bytes export.name, export.bytes.items)

@@ -19,12 +19,18 @@ use Rattle.std.specs.Prelude.{
   option_map,
   option_and_then,
   codes,
+  ℤ,
+  pos,
+  neg_ℤ,
+  int_le,
+  int_lt,
   if◌then◌else◌,
 }
 use Rattle.std.specs.List.{range_with_len}
 use Rattle.std.specs.Cmp.Lexicographic.{pointwise}
-use Rattle.std.specs.Fmt.{decimal}
-use Rattle.std.specs.Str.Parse.{digits_value}
+use Rattle.std.specs.Fmt.{decimal, signed_decimal}
+use Rattle.std.specs.Str.Parse.{digits_value, signed_digits_value}
+use Rattle.geometry_spec.specs.Points.{Point}
 use Rattle.enc_top.specs.declared.operation.Operation.{Operation}
 use Rattle.enc_top.specs.declared.operation.Operation.TheVariants.{Split, Join}
 
@@ -43,6 +49,14 @@ number_up_to limit text = find (is_written_as text) (range_with_len 1 limit)
 abbrev pub number_in : List ℕ → Option ℕ
 number_in text = if nat_lt (digits_value 10 text) (2 ^ 32) && is_written_as text (digits_value 10 text) then Some (digits_value 10 text) else None
 
+-- a signed number of 32 bits
+abbrev pub is_coordinate : ℤ → Bool
+is_coordinate z = int_le (neg_ℤ (pos (2 ^ 31))) z && int_lt z (pos (2 ^ 31))
+
+-- the coordinate that a text is: decimal without leading zeros, and `-` before a negative one alone
+abbrev pub coordinate_of : List ℕ → Option ℤ
+coordinate_of text = let z = signed_digits_value 10 text in if is_coordinate z && pointwise nat_eq (signed_decimal z) text then Some z else None
+
 abbrev pub is_between : ℕ → ℕ → ℕ → Bool
 is_between low high n = nat_le low n && nat_le n high
 
@@ -54,6 +68,7 @@ pub data Form : Type 0 where
   make_form : ℕ → (out : List ℕ) → Form
   drill_form : (n sessions : ℕ) → Form
   edge_form : (cell out : List ℕ) → Operation → Form
+  probe_form : (cell : List ℕ) → (at : Point) → Form
   no_form : Form
 
 -- the words behind `check`: CELL
@@ -109,6 +124,16 @@ abbrev pub edge_among : (List (List ℕ) → Option Operation) → List (List �
 edge_among reading (cell ∷ out ∷ numbers) = edge_of cell out (reading numbers)
 edge_among reading other = no_form
 
+-- the words behind `probe`: CELL Y X, the latitude and the longitude of a point
+abbrev pub probe_of : List ℕ → Option ℤ → Option ℤ → Form
+probe_of cell None x = no_form
+probe_of cell (Some y) None = no_form
+probe_of cell (Some y) (Some x) = probe_form cell (y, x)
+
+abbrev pub probe_among : List (List ℕ) → Form
+probe_among (cell ∷ y ∷ x ∷ []) = probe_of cell (coordinate_of y) (coordinate_of x)
+probe_among other = no_form
+
 -- the first word is `room`
 abbrev pub begins_with_room : List (List ℕ) → Bool
 begins_with_room [] = false
@@ -123,4 +148,5 @@ form_of (first ∷ others) =
     (if is_word (codes "make") first then make_among others else
     (if is_word (codes "drill") first then drill_among others else
     (if is_word (codes "split") first then edge_among split_in others else
-    (if is_word (codes "join") first then edge_among join_in others else no_form))))))
+    (if is_word (codes "join") first then edge_among join_in others else
+    (if is_word (codes "probe") first then probe_among others else no_form)))))))

@@ -8,6 +8,7 @@ mod law;
 mod made;
 mod operation;
 mod output;
+mod probed;
 mod room;
 mod top;
 mod words;

@@ -2,10 +2,10 @@
 
 ghost use Rattle.std.specs.Prelude.{◌≡◌, ◌<◌, ◌≤◌, IfSome, map, string_bytes, nat_eq, decimal};
 ghost use Rattle.std.specs.Cmp.Lexicographic.{pointwise};
-ghost use Rattle.enc_top.specs.Words.{begins_with_room as begins_with_room_lem, number_in, number_up_to as number_up_to_lem};
+ghost use Rattle.enc_top.specs.Words.{begins_with_room as begins_with_room_lem, coordinate_of, number_in, number_up_to as number_up_to_lem};
 
 use itoa::Buffer;
-use text_lines::read_unsigned;
+use text_lines::{read_signed, read_unsigned};
 
 /// Whether a word is a number, decimal without leading zeros.
 fn is_number(word: &str, number: u32) -> bool
@@ -34,6 +34,13 @@ pub fn number_of(word: &str) -> Option<u32>
     ensures { result ≡ number_in word.now }
 {
     read_unsigned(word.as_bytes())
+}
+
+/// The coordinate that a word is, decimal without leading zeros, and with `-` before a negative one alone.
+pub fn coordinate(word: &str) -> Option<i32>
+    ensures { result ≡ coordinate_of word.now }
+{
+    read_signed(word.as_bytes())
 }
 
 /// Whether the first word is `room`.
