@@ -225,3 +225,7 @@ if_err_more P Q (Err status) more is = status_of_more P Q status more is
 pub if_ok_more : {A E : Type 0} (P Q : A → Type 0) (result : Result A E) → ((a : A) → P a → Q a) → IfOk result P → IfOk result Q
 if_ok_more P Q (Ok a) more is = more a is
 if_ok_more P Q (Err e) more is = tt
+
+pub if_err_so : {A : Type 0} (P Q : Status → Type 0) (result : Result A Status) → ((status : Status) → P status → Q status) → IfErr result P → IfErr result Q
+if_err_so P Q (Ok a) more is = tt
+if_err_so P Q (Err status) more is = more status is

@@ -47,8 +47,9 @@ use Rattle.order_text.proofs.OrderLines.{order_of-line}
 use Rattle.cell_spec.specs.Edits.{apply_edits}
 use Rattle.s57_types.specs.declared.cell.Cell.{Cell}
 use Rattle.enc_top.specs.declared.operation.Operation.{Operation}
-use Rattle.enc_top.specs.Complete.{AreGood, AreGoodScripts, IsComplete, IsGoodCell, IsGoodOperation, IsGoodOrder, IsGoodScript, IsThere}
+use Rattle.enc_top.specs.Complete.{AreGood, AreGoodScripts, IsComplete, IsGoodCell, IsGoodOperation, IsGoodOrder, IsGoodScript, IsGoodUpdate, IsThere}
 use Rattle.enc_top.specs.Operations.{operated, operation_edits}
+use Rattle.enc_top.specs.Updates.{left_by_update, updated}
 use Rattle.room_laws.specs.Orders.{quotas_of}
 use Rattle.enc_top.specs.Inputs.{CellIs, FileIs, OrderIs, OutputIs, RoomIs, ScriptIs, ScriptsAre, cell_limit, drill_answer, order_in, order_limit, script_limit}
 use Rattle.enc_top.specs.Outcome.{
@@ -67,12 +68,16 @@ use Rattle.enc_top.specs.Outcome.{
   IsReplayOf,
   IsRoomOf,
   IsRoomReadBack,
+  IsUpdateReadBack,
+  IsUpdateWorkOf,
   Outside,
 }
 use Rattle.enc_top.specs.Output.{Adds, AddsFrom}
-use Rattle.enc_top.specs.Task.{Task, check_task, drill_task, edge_task, make_task, probe_task, run_task}
+use Rattle.enc_top.specs.Task.{Task, check_task, drill_task, left_task, make_task, probe_task, run_task}
 use Rattle.enc_top.specs.Words.{
   Form,
+  apply_among,
+  apply_form,
   check_among,
   check_form,
   coordinate_of,
@@ -167,6 +172,7 @@ FewScripts (make_form n out) = Unit {0}
 FewScripts (drill_form n sessions) = Unit {0}
 FewScripts (edge_form cell out operation) = Unit {0}
 FewScripts (probe_form cell at) = Unit {0}
+FewScripts (apply_form cell out update) = Unit {0}
 FewScripts no_form = Unit {0}
 
 few_by : (b : Bool) (x y : Form) → FewScripts x → FewScripts y → FewScripts (cond b x y)
@@ -240,11 +246,19 @@ few_probed (a ∷ b ∷ []) = tt
 few_probed (a ∷ b ∷ d ∷ []) = few_probed_of a (coordinate_of b) (coordinate_of d)
 few_probed (a ∷ b ∷ d ∷ e ∷ rest) = tt
 
+few_applied : (others : List (List ℕ)) → FewScripts (apply_among others)
+few_applied [] = tt
+few_applied (a ∷ []) = tt
+few_applied (a ∷ b ∷ []) = tt
+few_applied (a ∷ b ∷ d ∷ []) = tt
+few_applied (a ∷ b ∷ d ∷ e ∷ rest) = tt
+
 few_scripts : (words : List (List ℕ)) → FewScripts (form_of words)
 unfolding form_of
 few_scripts [] = tt
 few_scripts (first ∷ others) =
-    let probed = cond (is_word (codes "probe") first) (probe_among others) no_form in
+    let applied = cond (is_word (codes "apply") first) (apply_among others) no_form in
+    let probed = cond (is_word (codes "probe") first) (probe_among others) applied in
     let joined = cond (is_word (codes "join") first) (edge_among join_in others) probed in
     let split = cond (is_word (codes "split") first) (edge_among split_in others) joined in
     let drilled = cond (is_word (codes "drill") first) (drill_among others) split in
@@ -258,7 +272,8 @@ few_scripts (first ∷ others) =
     (few_by (is_word (codes "drill") first) (drill_among others) split (few_drilled others)
     (few_by (is_word (codes "split") first) (edge_among split_in others) joined (few_edge split_in others)
     (few_by (is_word (codes "join") first) (edge_among join_in others) probed (few_edge join_in others)
-    (few_by (is_word (codes "probe") first) (probe_among others) no_form (few_probed others) tt)))))))
+    (few_by (is_word (codes "probe") first) (probe_among others) applied (few_probed others)
+    (few_by (is_word (codes "apply") first) (apply_among others) no_form (few_applied others) tt))))))))
 
 -- ---- good files ask for a task
 few_quotas : (names : List (List ℕ)) (commands : List (List Command)) → length names ≤ 16 → length commands ≡ length names
@@ -275,6 +290,7 @@ IsSteady (make_form n out) files = AreGood (make_form n out) files
 IsSteady (drill_form n sessions) files = AreGood (drill_form n sessions) files
 IsSteady (edge_form cell out operation) files = AreGood (edge_form cell out operation) files
 IsSteady (probe_form cell at) files = AreGood (probe_form cell at) files
+IsSteady (apply_form cell out update) files = AreGood (apply_form cell out update) files
 IsSteady no_form files = ⊥
 
 pub drilled : (n sessions : ℕ) → finding_total (generated_cell n) ≤ finding_limit → drill_answer n sessions ≡ Ok (drill_task n sessions)
@@ -282,6 +298,9 @@ drilled n sessions few = rw (not_above finding_limit (finding_total (generated_c
 
 good_operated : (c : Cell) (operation : Operation) → IsGoodOperation c operation → operated c operation ≡ Ok (apply_edits (operation_edits c operation) c)
 good_operated c operation good = rw good.possible (rw good.taken refl)
+
+good_updated : (c : Cell) (name : List ℕ) (files : Files) (good : IsGoodUpdate c name files) → updated c good.bytes ≡ Ok good.left
+good_updated c name files good = λ i. left_by_update (good.taken i) (good.faultless i)
 
 good_output : (form : Form) (files : Files) → FewScripts form → IsSteady form files → (task : Task) × OutputIs form files (Ok task)
 good_output (check_form cell) files few good = (check_task good.start, inl (good.start, cell_is cell files good, refl))
@@ -306,8 +325,19 @@ good_output (drill_form n sessions) files few good = (drill_task n sessions, sym
 good_output (edge_form cell out operation) files few good =
     let c = good.0.start in
     let left = apply_edits (operation_edits c operation) c in
-    (edge_task left out, inl (c, cell_is cell files good.0, inl (left, good_operated c operation good.1, refl)))
+    (left_task left out, inl (c, cell_is cell files good.0, inl (left, good_operated c operation good.1, refl)))
 good_output (probe_form cell at) files few good = (probe_task good.start at, inl (good.start, cell_is cell files good, refl))
+good_output (apply_form cell out update) files few good =
+    let c = good.0.start in
+    let bytes = good.1.bytes in
+    let left = good.1.left in (
+      left_task left out,
+      inl (
+        c,
+        cell_is cell files good.0,
+        inl (bytes, content_is cell_limit update bytes files good.1.file, inl (left, good_updated c update files good.1, refl)),
+      ),
+    )
 good_output no_form files few good = absurd good
 
 -- a status that is asked for beside a task is Done
@@ -380,6 +410,8 @@ expected_done (drill_form n sessions) files status few good (inl is) = inl (good
 expected_done (edge_form cell out operation) files status few good (inl is) =
     inl (good_done (edge_form cell out operation) files status few good is)
 expected_done (probe_form cell at) files status few good (inl is) = inl (good_done (probe_form cell at) files status few good is)
+expected_done (apply_form cell out update) files status few good (inl is) =
+    inl (good_done (apply_form cell out update) files status few good is)
 expected_done no_form files status few good (inl is) = absurd good
 
 pub complete_from_exact : (sticks : Type 0) (words : List (List ℕ)) (before after : Outside) (status : Status)
@@ -462,6 +494,24 @@ edge_read_back cell out operation task (Some fs) (Some gs) work written =
       decoded = work.left_by.read_back;
     }
 
+update_read_back : (cell out update : List ℕ) (task : Task) (a b : Option Files) → IsUpdateWorkOf cell out update a task → AreWritten task.file a b
+    → Told (IsUpdateReadBack cell out update) a b
+update_read_back cell out update task None b work written = tt
+update_read_back cell out update task (Some fs) None work written = tt
+update_read_back cell out update task (Some fs) (Some gs) work written =
+    let wrote = subst (λ (t : Task). AreWritten t.file (Some fs) (Some gs)) work.is written in
+    record {
+      start = work.start;
+      cell_is = work.told;
+      given = work.bytes;
+      update_is = work.given;
+      left = work.left;
+      is_left = work.left_by.cell_is;
+      bytes = encoded_cell work.left;
+      there = wrote.written;
+      decoded = work.left_by.read_back;
+    }
+
 nothing_left : (a b : Option Files) → Told (λ old new. Unit {0}) a b
 nothing_left None b = tt
 nothing_left (Some fs) None = tt
@@ -479,6 +529,8 @@ form_read_back sticks (drill_form n sessions) before after cause = nothing_left 
 form_read_back sticks (edge_form cell out operation) before after cause =
     edge_read_back cell out operation cause.0 before.files after.files cause.1 cause.3.files
 form_read_back sticks (probe_form cell at) before after cause = nothing_left before.files after.files
+form_read_back sticks (apply_form cell out update) before after cause =
+    update_read_back cell out update cause.0 before.files after.files cause.1 cause.3.files
 form_read_back sticks no_form before after cause = nothing_left before.files after.files
 
 pub read_back_from_cause : (sticks : Type 0) (words : List (List ℕ)) (before after : Outside) (status : Status)

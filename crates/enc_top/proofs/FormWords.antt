@@ -33,6 +33,8 @@ use Rattle.std.specs.Prelude.{codes, nat_le}
 use Rattle.std.proofs.lemmas.Bool.Decides.{nat_tests}
 use Rattle.std.proofs.lemmas.List.{length-drop, length-map}
 use Rattle.enc_top.specs.Words.{
+  apply_among,
+  apply_form,
   begins_with_room,
   check_among,
   check_form,
@@ -167,9 +169,15 @@ module _ (words : List (String Global)) (first : String Global) (others : List (
           unfolding form_of
           probed_words probe = ap form_of (parted words first others some is are) ∙ (rw (room, check, replay, make, drill, split, join, probe) refl)
 
-          pub other_words : is_word (codes "probe") (string_bytes first) ≡ false → form_of (map string_bytes words) ≡ no_form
-          unfolding form_of
-          other_words probe = ap form_of (parted words first others some is are) ∙ (rw (room, check, replay, make, drill, split, join, probe) refl)
+          module _ (probe : is_word (codes "probe") (string_bytes first) ≡ false) where
+            pub applied_words : is_word (codes "apply") (string_bytes first) ≡ true → form_of (map string_bytes words) ≡ apply_among (map string_bytes others)
+            unfolding form_of
+            applied_words apply = ap form_of (parted words first others some is are)
+                ∙ (rw (room, check, replay, make, drill, split, join, probe, apply) refl)
+
+            pub other_words : is_word (codes "apply") (string_bytes first) ≡ false → form_of (map string_bytes words) ≡ no_form
+            unfolding form_of
+            other_words apply = ap form_of (parted words first others some is are) ∙ (rw (room, check, replay, make, drill, split, join, probe, apply) refl)
 
 pub no_words : (words : List (String Global)) → length words < 1 → form_of (map string_bytes words) ≡ no_form
 unfolding form_of
@@ -278,3 +286,22 @@ pub three_probed : (others : List (String Global)) (cell y x : String Global) �
     → y ≡ get_or others 1 y → x ≡ get_or others 2 x
     → probe_among (map string_bytes others) ≡ probe_of (string_bytes cell) (coordinate_of (string_bytes y)) (coordinate_of (string_bytes x))
 three_probed others cell y x three is_cell is_y is_x = ap probe_among (three_words others cell y x three is_cell is_y is_x)
+
+-- ---- the words behind `apply`
+pub fewer_applied : (others : List (String Global)) → length others < 3 → apply_among (map string_bytes others) ≡ no_form
+fewer_applied [] few = refl
+fewer_applied (a ∷ []) few = refl
+fewer_applied (a ∷ b ∷ []) few = refl
+fewer_applied (a ∷ b ∷ d ∷ rest) few = absurd (omega (arith, few))
+
+pub more_applied : (others : List (String Global)) → 4 ≤ length others → apply_among (map string_bytes others) ≡ no_form
+more_applied [] many = absurd (omega (arith, many))
+more_applied (a ∷ []) many = absurd (omega (arith, many))
+more_applied (a ∷ b ∷ []) many = absurd (omega (arith, many))
+more_applied (a ∷ b ∷ d ∷ []) many = absurd (omega (arith, many))
+more_applied (a ∷ b ∷ d ∷ e ∷ rest) many = refl
+
+pub three_applied : (others : List (String Global)) (cell out update : String Global) → length others ≡ 3 → cell ≡ get_or others 0 cell
+    → out ≡ get_or others 1 out → update ≡ get_or others 2 update
+    → apply_among (map string_bytes others) ≡ apply_form (string_bytes cell) (string_bytes out) (string_bytes update)
+three_applied others cell out update three is_cell is_out is_update = ap apply_among (three_words others cell out update three is_cell is_out is_update)

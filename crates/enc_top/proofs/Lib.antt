@@ -11,6 +11,8 @@ pub mod GeneratedWork
 mod Reports
 mod RoomAnswers
 mod Numbers
+mod CommitWork
 mod Coordinates
 mod EdgeWork
 mod ProbedWork
+mod UpdateWork

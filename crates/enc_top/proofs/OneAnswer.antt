@@ -30,7 +30,8 @@ use Rattle.enc_top.specs.Inputs.{
 }
 use Rattle.enc_top.specs.Task.{Task}
 use Rattle.enc_top.specs.Operations.{operated}
-use Rattle.enc_top.specs.Words.{Form, check_form, drill_form, edge_form, make_form, no_form, probe_form, replay_form, room_form}
+use Rattle.enc_top.specs.Updates.{updated}
+use Rattle.enc_top.specs.Words.{Form, apply_form, check_form, drill_form, edge_form, make_form, no_form, probe_form, replay_form, room_form}
 use Rattle.report_text.specs.declared.status.Status.{Status}
 use Rattle.report_text.specs.declared.status.Status.TheVariants.{
   Done,
@@ -213,6 +214,9 @@ one_output (drill_form n sessions) files = λ x y p q. p ∙ sym q
 one_output (edge_form cell out operation) files = one_then (CellIs cell files) _ (one_cell cell files)
     (λ c. one_then (λ left. operated c operation ≡ left) _ (λ x y p q. sym p ∙ q) (λ d x y p q. p ∙ sym q))
 one_output (probe_form cell at) files = one_then (CellIs cell files) _ (one_cell cell files) (λ c x y p q. p ∙ sym q)
+one_output (apply_form cell out update) files = one_then (CellIs cell files) _ (one_cell cell files)
+    (λ c. one_then (FileIs cell_limit update files) _ (one_file cell_limit update files)
+    (λ bytes. one_then (λ left. updated c bytes ≡ left) _ (λ x y p q. sym p ∙ q) (λ d x y p q. p ∙ sym q)))
 one_output no_form files = λ x y p q. p ∙ sym q
 
 -- a report is no refusal
@@ -224,4 +228,5 @@ apart (make_form n out) task status same = ok_not_err task status same
 apart (drill_form n sessions) task status same = ok_not_err task status same
 apart (edge_form cell out operation) task status same = ok_not_err task status same
 apart (probe_form cell at) task status same = ok_not_err task status same
+apart (apply_form cell out update) task status same = ok_not_err task status same
 apart no_form task status same = ok_not_err task status same

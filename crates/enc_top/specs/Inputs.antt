@@ -18,8 +18,9 @@ use Rattle.text_spec.specs.declared.command.Command.{Command}
 use Rattle.history_spec.specs.Steps.{finding_limit}
 use Rattle.enc_top.specs.declared.operation.Operation.{Operation}
 use Rattle.enc_top.specs.Operations.{operated}
-use Rattle.enc_top.specs.Task.{Task, check_task, drill_task, edge_task, make_task, probe_task, run_task}
-use Rattle.enc_top.specs.Words.{Form, check_form, replay_form, room_form, make_form, drill_form, edge_form, probe_form, no_form}
+use Rattle.enc_top.specs.Updates.{updated}
+use Rattle.enc_top.specs.Task.{Task, check_task, drill_task, left_task, make_task, probe_task, run_task}
+use Rattle.enc_top.specs.Words.{Form, check_form, replay_form, room_form, make_form, drill_form, edge_form, probe_form, apply_form, no_form}
 use Rattle.report_text.specs.declared.status.Status.{Status}
 use Rattle.report_text.specs.declared.status.Status.TheVariants.{
   Done,
@@ -132,10 +133,18 @@ drill_answer n sessions = if nat_lt finding_limit (finding_total (generated_cell
 
 -- an operation on edges of a cell
 abbrev pub EdgeWorkIs : Cell → List ℕ → Operation → Result Task Status → Type 0
-EdgeWorkIs c out operation = AndThen (λ left. operated c operation ≡ left) (λ d answer. answer ≡ Ok (edge_task d out))
+EdgeWorkIs c out operation = AndThen (λ left. operated c operation ≡ left) (λ d answer. answer ≡ Ok (left_task d out))
+
+-- an update of a cell
+abbrev pub UpdateWorkIs : Cell → List ℕ → List ℕ → Result Task Status → Type 0
+UpdateWorkIs c out bytes = AndThen (λ left. updated c bytes ≡ left) (λ d answer. answer ≡ Ok (left_task d out))
+
+-- the same of an update file, which may have as many bytes as a cell file
+abbrev pub UpdateIs : Cell → (out update : List ℕ) → Files → Result Task Status → Type 0
+UpdateIs c out update files = AndThen (FileIs cell_limit update files) (UpdateWorkIs c out)
 
 -- what is done: the text of the cell is put, or the report of the run, and then the cell that is left is written; the generated cell and the drill
--- on it are told by a line; what is told of the areas round a point is put
+-- on it are told by a line; what is told of the areas round a point is put; what an operation or an update leaves is put as a cell, and written
 abbrev pub OutputIs : Form → Files → Result Task Status → Type 0
 OutputIs (check_form cell) files = AndThen (CellIs cell files) (λ c answer. answer ≡ Ok (check_task c))
 OutputIs (replay_form cell out order scripts) files = AndThen (CellIs cell files) (λ c. RunIs c out order scripts files)
@@ -144,6 +153,7 @@ OutputIs (make_form n out) files = λ answer. answer ≡ Ok (make_task n out)
 OutputIs (drill_form n sessions) files = λ answer. answer ≡ drill_answer n sessions
 OutputIs (edge_form cell out operation) files = AndThen (CellIs cell files) (λ c. EdgeWorkIs c out operation)
 OutputIs (probe_form cell at) files = AndThen (CellIs cell files) (λ c answer. answer ≡ Ok (probe_task c at))
+OutputIs (apply_form cell out update) files = AndThen (CellIs cell files) (λ c. UpdateIs c out update files)
 OutputIs no_form files = λ answer. answer ≡ Err Usage
 
 -- two answers to what words and files ask for are one; of sessions in threads, two reports may be in different orders
@@ -211,6 +221,7 @@ IsReached (make_form n out) files name = ⊥
 IsReached (drill_form n sessions) files name = ⊥
 IsReached (edge_form cell out operation) files name = name ≡ cell
 IsReached (probe_form cell at) files name = name ≡ cell
+IsReached (apply_form cell out update) files name = (name ≡ cell) ⊎ ((c : Cell) × CellIs cell files (Ok c) × (name ≡ update))
 IsReached no_form files name = ⊥
 
 -- what a step's answer tells, with what it gave seen through a function: where the files are told, the relation of the step
@@ -259,6 +270,7 @@ IsInputOf (make_form n out) name = ⊥
 IsInputOf (drill_form n sessions) name = ⊥
 IsInputOf (edge_form cell out operation) name = name ≡ cell
 IsInputOf (probe_form cell at) name = name ≡ cell
+IsInputOf (apply_form cell out update) name = (name ≡ cell) ⊎ (name ≡ update)
 IsInputOf no_form name = ⊥
 
 -- an answer of a judging step: the expected one, or out of memory

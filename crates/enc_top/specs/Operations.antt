@@ -1,23 +1,19 @@
 -- Operations on edges by one commit: why they aren't done, and what they leave. This project's own rules.
-use Rattle.std.specs.Prelude.{◌≡◌, ◌⊎◌, [], ℕ, List, Option, None, Some, Result, Ok, Err, option_map}
+use Rattle.std.specs.Prelude.{◌≡◌, ◌⊎◌, ℕ, List, Option, Some, Result, Err, option_map}
 use Rattle.std.specs.Option.{option_map_or}
-use Rattle.cell_spec.specs.Edits.{apply_edits}
 use Rattle.cell_spec.specs.declared.edit.Edit.{Edit}
 use Rattle.edit_sets.specs.FormFault.{GuardedEdits}
-use Rattle.history_spec.specs.Steps.{answer, commit, opening}
-use Rattle.history_spec.specs.declared.refusal.StateRefusal.{StateRefusal}
-use Rattle.history_spec.specs.declared.reply.Reply.{Reply}
-use Rattle.history_spec.specs.declared.reply.Reply.TheVariants as reply
 use Rattle.s57_types.specs.declared.cell.Cell.{Cell}
 use Rattle.topo_ops.specs.Join.{join_by, join_edits, join_refusal}
 use Rattle.topo_ops.specs.Kept.{IsJoin, IsSplit, JoinKeeps, SplitKeeps}
 use Rattle.topo_ops.specs.Refusals.{number_of}
 use Rattle.topo_ops.specs.Split.{split_by, split_edits, split_refusal}
 use Rattle.topo_ops.specs.declared.refusal.OpRefusal.{OpRefusal}
+use Rattle.enc_top.specs.Commits.{IsCommitStatus, committed}
 use Rattle.enc_top.specs.declared.operation.Operation.{Operation}
 use Rattle.enc_top.specs.declared.operation.Operation.TheVariants.{Split, Join}
 use Rattle.report_text.specs.declared.status.Status.{Status}
-use Rattle.report_text.specs.declared.status.Status.TheVariants.{NoMemory, OpRefused, Refused}
+use Rattle.report_text.specs.declared.status.Status.TheVariants.{NoMemory, OpRefused}
 
 -- why a cell's edges can't be split or joined so, if they can't
 abbrev pub operation_refusal : Cell → Operation → Option OpRefusal
@@ -47,23 +43,12 @@ refused_operation why = OpRefused (number_of why)
 abbrev pub IsOperationStatus : Option OpRefusal → Status → Type 0
 IsOperationStatus rule status = (option_map refused_operation rule ≡ Some status) ⊎ (status ≡ NoMemory)
 
--- the refusal that an answer tells
-abbrev pub refusal_told : Reply → Option StateRefusal
-refusal_told (reply.Viewed number findings) = None
-refusal_told (reply.Formed fault) = None
-refusal_told (reply.Newer number name desk edit) = None
-refusal_told (reply.Refused why) = Some why
-refusal_told (reply.Accepted number findings) = None
-
--- why the first step of a cell's history refuses a commit of edits, if it does
-abbrev pub commit_refusal : Cell → List Edit → Option StateRefusal
-commit_refusal c edits = refusal_told (answer (opening c) (commit 0 edits []))
-
--- the cell that a commit of edits leaves, or the status at which the call ends
-abbrev pub committed : Cell → List Edit → Result Cell Status
-committed c edits = option_map_or (λ why. Err (Refused why)) (commit_refusal c edits) (Ok (apply_edits edits c))
-
 -- the cell that an operation leaves, or the status at which the call ends
 abbrev pub operated : Cell → Operation → Result Cell Status
 operated c operation =
     option_map_or (λ why. Err (refused_operation why)) (operation_refusal c operation) (committed c (operation_edits c operation))
+
+-- the statuses at which an operation can end
+abbrev pub IsOperationEnd : Status → Type 0
+IsOperationEnd (OpRefused cause) = Unit {0}
+IsOperationEnd other = IsCommitStatus other

@@ -17,11 +17,14 @@ use Rattle.text_spec.specs.ScriptLines.{is_shared}
 use Rattle.text_spec.specs.declared.command.Command.{Command}
 use Rattle.room_laws.specs.Orders.{quotas_of}
 use Rattle.enc_top.specs.declared.operation.Operation.{Operation}
+use Rattle.enc_top.specs.Commits.{IsTooLarge}
 use Rattle.enc_top.specs.Operations.{OperationKeeps, operated}
-use Rattle.enc_top.specs.Inputs.{CellIs, IsInputOf, IsReached, IsRoomRun, IsRunOf, OrderIs, OutputIs, ScriptsAre, drill_answer}
+use Rattle.enc_top.specs.Updates.{updated}
+use Rattle.update_spec.specs.UpdatedCell.{updated_cell}
+use Rattle.enc_top.specs.Inputs.{CellIs, FileIs, IsInputOf, IsReached, IsRoomRun, IsRunOf, OrderIs, OutputIs, ScriptsAre, cell_limit, drill_answer}
 use Rattle.enc_top.specs.Output.{Adds, AddsFrom, AddsFront, IsBegun}
-use Rattle.enc_top.specs.Task.{Task, check_task, edge_task, make_task, probe_task, task_of}
-use Rattle.enc_top.specs.Words.{Form, check_form, replay_form, room_form, make_form, drill_form, edge_form, probe_form, no_form, form_of}
+use Rattle.enc_top.specs.Task.{Task, check_task, left_task, make_task, probe_task, task_of}
+use Rattle.enc_top.specs.Words.{Form, check_form, replay_form, room_form, make_form, drill_form, edge_form, probe_form, apply_form, no_form, form_of}
 use Rattle.report_text.specs.declared.status.Status.{Status}
 use Rattle.report_text.specs.declared.status.Status.TheVariants.{
   Done,
@@ -66,6 +69,7 @@ IsBuilt (make_form n out) = Unit {0}
 IsBuilt (drill_form n sessions) = Unit {0}
 IsBuilt (edge_form cell out operation) = Unit {0}
 IsBuilt (probe_form cell at) = Unit {0}
+IsBuilt (apply_form cell out update) = Unit {0}
 IsBuilt no_form = ⊥
 
 -- the text of a cell, where the files are told that of the file
@@ -103,7 +107,23 @@ pub record IsEdgeWorkOf (cell out : List ℕ) (operation : Operation) (files : O
   pub told : IfSome files (λ fs. CellIs cell fs (Ok start))
   pub left : Cell
   pub left_by : IsLeftBy start left operation
-  pub is : task ≡ edge_task left out
+  pub is : task ≡ left_task left out
+
+-- the cell that an update file leaves of a cell is the one that its records make, and its file is read as that cell
+pub record IsUpdatedBy (start left : Cell) (bytes : List ℕ) : Type 0 where
+  pub is_left : updated start bytes ≡ Ok left
+  pub cell_is : updated_cell start bytes ≡ Ok left
+  pub read_back : decoded_cell (encoded_cell left) ≡ Ok left
+
+-- the text of that cell, where the files are told that of the cell file and that of the update file, and that cell
+pub record IsUpdateWorkOf (cell out update : List ℕ) (files : Option Files) (task : Task) : Type 0 where
+  pub start : Cell
+  pub told : IfSome files (λ fs. CellIs cell fs (Ok start))
+  pub bytes : List ℕ
+  pub given : IfSome files (λ fs. FileIs cell_limit update fs (Ok bytes))
+  pub left : Cell
+  pub left_by : IsUpdatedBy start left bytes
+  pub is : task ≡ left_task left out
 
 -- what is told of the areas of a cell round a point. The two sums are sums over the edges of the cell, and equal where no side is unbalanced
 pub record IsProbeIn (start : Cell) (at : Point) (task : Task) : Type 0 where
@@ -126,6 +146,7 @@ IsOutput (make_form n out) files task = IsMakeOf n out task
 IsOutput (drill_form n sessions) files task = drill_answer n sessions ≡ Ok task
 IsOutput (edge_form cell out operation) files task = IsEdgeWorkOf cell out operation files task
 IsOutput (probe_form cell at) files task = IsProbeOf cell at files task
+IsOutput (apply_form cell out update) files task = IsUpdateWorkOf cell out update files task
 IsOutput no_form files task = ⊥
 
 -- where the files are told, this is what they ask for
@@ -190,6 +211,17 @@ abbrev pub IsOnEdges : Form → Type 0
 IsOnEdges (edge_form cell out operation) = Unit {0}
 IsOnEdges other = ⊥
 
+-- the words ask for an update
+abbrev pub IsOfUpdate : Form → Type 0
+IsOfUpdate (apply_form cell out update) = Unit {0}
+IsOfUpdate other = ⊥
+
+-- the words ask for one commit, of an operation or of an update
+abbrev pub IsOneCommit : Form → Type 0
+IsOneCommit (edge_form cell out operation) = Unit {0}
+IsOneCommit (apply_form cell out update) = Unit {0}
+IsOneCommit other = ⊥
+
 -- `sticks`: whether a rendezvous may give up
 abbrev pub IsCauseOf : Type 0 → Form → Outside → Outside → Status → Type 0
 IsCauseOf sticks form before after Done = (task : Task) × IsOutput form before.files task × IsAsked before form (Ok task) × IsFinished task before after
@@ -204,8 +236,8 @@ IsCauseOf sticks form before after (TooLarge name) = IsInputOf form name × IsRe
 IsCauseOf sticks form before after NoMemory = IsBuilt form × IsSilent before after
 IsCauseOf sticks form before after (BadOrder place) = IsRefused form before after (BadOrder place)
 IsCauseOf sticks form before after TooManyFindings = IsRefused form before after TooManyFindings
-IsCauseOf sticks form before after (BadUpdate fault) = ⊥
-IsCauseOf sticks form before after (Refused refusal) = IsOnEdges form × IsRefused form before after (Refused refusal)
+IsCauseOf sticks form before after (BadUpdate fault) = IsOfUpdate form × IsRefused form before after (BadUpdate fault)
+IsCauseOf sticks form before after (Refused refusal) = IsOneCommit form × IsTooLarge refusal × IsRefused form before after (Refused refusal)
 IsCauseOf sticks form before after (BadJournal place) = ⊥
 IsCauseOf sticks form before after DiskFault = ⊥
 IsCauseOf sticks form before after (OpRefused cause) = IsOnEdges form × IsRefused form before after (OpRefused cause)
@@ -272,11 +304,24 @@ pub record IsEdgeReadBack (cell out : List ℕ) (operation : Operation) (old new
   pub there : new out ≡ Some bytes
   pub decoded : decoded_cell bytes ≡ Ok left
 
+-- where an update is applied, the bytes of OUT are read as the cell that its records make of the file's cell
+pub record IsUpdateReadBack (cell out update : List ℕ) (old new : Files) : Type 0 where
+  pub start : Cell
+  pub cell_is : CellIs cell old (Ok start)
+  pub given : List ℕ
+  pub update_is : FileIs cell_limit update old (Ok given)
+  pub left : Cell
+  pub is_left : updated_cell start given ≡ Ok left
+  pub bytes : List ℕ
+  pub there : new out ≡ Some bytes
+  pub decoded : decoded_cell bytes ≡ Ok left
+
 abbrev pub IsFormReadBack : Form → Outside → Outside → Files → Files → Type 0
 IsFormReadBack (replay_form cell out order scripts) before after old new = IsOutReadBack cell out order scripts old new
 IsFormReadBack (room_form cell out scripts) before after old new = IsRoomReadBack cell out scripts before after old new
 IsFormReadBack (make_form n out) before after old new = IsMadeReadBack n out new
 IsFormReadBack (edge_form cell out operation) before after old new = IsEdgeReadBack cell out operation old new
+IsFormReadBack (apply_form cell out update) before after old new = IsUpdateReadBack cell out update old new
 IsFormReadBack other before after old new = Unit {0}
 
 abbrev pub IsReadBackFrom : List (List ℕ) → Outside → Outside → Status → Type 0
@@ -297,8 +342,10 @@ IsAskedBy sticks form files before after (Err (TooLarge name)) = IsInputOf form 
 IsAskedBy sticks form files before after (Err (BadOrder place)) = IsBuilt form × IfSome files (λ fs. OutputIs form fs (Err (BadOrder place)))
 IsAskedBy sticks form files before after (Err TooManyFindings) = IsBuilt form × IfSome files (λ fs. OutputIs form fs (Err TooManyFindings))
 IsAskedBy sticks form files before after (Err (Stuck desk serial)) = sticks × IsStuckAt form files desk serial
+IsAskedBy sticks form files before after (Err (BadUpdate fault)) =
+    IsOfUpdate form × IsBuilt form × IfSome files (λ fs. OutputIs form fs (Err (BadUpdate fault)))
 IsAskedBy sticks form files before after (Err (Refused refusal)) =
-    IsOnEdges form × IsBuilt form × IfSome files (λ fs. OutputIs form fs (Err (Refused refusal)))
+    IsOneCommit form × IsTooLarge refusal × IsBuilt form × IfSome files (λ fs. OutputIs form fs (Err (Refused refusal)))
 IsAskedBy sticks form files before after (Err (OpRefused cause)) =
     IsOnEdges form × IsBuilt form × IfSome files (λ fs. OutputIs form fs (Err (OpRefused cause)))
 IsAskedBy sticks form files before after (Err other) = ⊥

@@ -39,9 +39,9 @@ make_task n out = record {
 abbrev pub drill_task : ℕ → ℕ → Task
 drill_task n sessions = record { text = drill_line n sessions (drill_counts n sessions); file = None }
 
--- the text of a cell that an operation leaves is put, and the cell is written under a name
-abbrev pub edge_task : Cell → List ℕ → Task
-edge_task d out = record { text = cell_text d; file = Some (out, encoded_cell d) }
+-- the text of the cell that an operation or an update leaves is put, and the cell is written under a name
+abbrev pub left_task : Cell → List ℕ → Task
+left_task d out = record { text = cell_text d; file = Some (out, encoded_cell d) }
 
 -- what is told of the areas of a cell round a point is put
 abbrev pub probe_task : Cell → Point → Task

@@ -69,6 +69,7 @@ pub data Form : Type 0 where
   drill_form : (n sessions : ℕ) → Form
   edge_form : (cell out : List ℕ) → Operation → Form
   probe_form : (cell : List ℕ) → (at : Point) → Form
+  apply_form : (cell out update : List ℕ) → Form
   no_form : Form
 
 -- the words behind `check`: CELL
@@ -134,6 +135,11 @@ abbrev pub probe_among : List (List ℕ) → Form
 probe_among (cell ∷ y ∷ x ∷ []) = probe_of cell (coordinate_of y) (coordinate_of x)
 probe_among other = no_form
 
+-- the words behind `apply`: CELL OUT UPDATE
+abbrev pub apply_among : List (List ℕ) → Form
+apply_among (cell ∷ out ∷ update ∷ []) = apply_form cell out update
+apply_among other = no_form
+
 -- the first word is `room`
 abbrev pub begins_with_room : List (List ℕ) → Bool
 begins_with_room [] = false
@@ -149,4 +155,5 @@ form_of (first ∷ others) =
     (if is_word (codes "drill") first then drill_among others else
     (if is_word (codes "split") first then edge_among split_in others else
     (if is_word (codes "join") first then edge_among join_in others else
-    (if is_word (codes "probe") first then probe_among others else no_form)))))))
+    (if is_word (codes "probe") first then probe_among others else
+    (if is_word (codes "apply") first then apply_among others else no_form))))))))

@@ -1,38 +1,28 @@
 //! Splitting an edge, and joining two, by one commit.
 
-ghost use Rattle.std.specs.Prelude.{◌≡◌, ◌<◌, [], IfOk, MatchResult, Ok, Option, map, string_bytes};
-ghost use Rattle.file_spec.specs.DecodedCell.{decoded_cell};
-ghost use Rattle.file_spec.specs.EncodedCell.{encoded_cell};
+ghost use Rattle.std.specs.Prelude.{◌≡◌, ◌<◌, IfErr, IfOk, MatchResult, Option, map, string_bytes};
 ghost use Rattle.topo_ops.specs.Refusals.{IsRefusal};
 ghost use Rattle.topo_ops.specs.declared.refusal.OpRefusal.{OpRefusal as SpecRefusal};
 ghost use Rattle.enc_top.specs.Inputs.{IsJudged};
-ghost use Rattle.enc_top.specs.Operations.{IsOperation, IsOperationStatus, OperationKeeps, committed, operated, operation_refusal};
-ghost use Rattle.enc_top.specs.Operations.{refusal_told};
+ghost use Rattle.enc_top.specs.Operations.{IsOperation, IsOperationEnd, IsOperationStatus, OperationKeeps, operated, operation_refusal};
 ghost use Rattle.enc_top.specs.Outcome.{IsAskedBy};
-ghost use Rattle.enc_top.specs.Task.{edge_task, task_of};
 ghost use Rattle.enc_top.specs.Words.{edge_among, edge_form, join_in, split_in};
 
+use crate::first::{commit, left_work};
 use crate::inputs::read_bench;
 use crate::operation::{Operation, join_in_words, split_in_words};
-use crate::work::{Export, Work};
+use crate::work::Work;
 use cell_bench::Bench;
-use cell_write::write_cell;
 use chain_topo::Steps;
-use commit_book::{Book, BookRefusal, Reply, StateRefusal};
 use edit_sets::EditSet;
 use enc_outside::Shelf;
-use file_spec::writable_cell_is_read_back;
 use look_counter::start_counter;
-use recheck::prepare;
-use report_text::{Status, print_findings};
-use std::alloc::{AllocError, Global};
+use report_text::Status;
+use std::alloc::Global;
 use std::marker::Brand;
 use std::sync::ledger::{Blank, Ledger};
 use std::thread::Threads;
 use topo_ops::OpRefusal;
-
-/// The number of the one desk.
-const DESK: u32 = 1;
 
 /// The work that the words behind `split` ask for.
 pub(crate) fn split<R: Threads + Sync, H: Shelf>(
@@ -94,7 +84,7 @@ fn edit<R: Threads + Sync, H: Shelf>(
         Err(status) => return Err(status),
     };
     match operate::<R, Brand>(rt, alloc, bench, operation, Blank::new(1)) {
-        Ok(left) => Ok(edge_work(alloc, &left, out)?),
+        Ok(left) => Ok(left_work(alloc, &left, out)?),
         Err(status) => Err(status),
     }
 }
@@ -112,6 +102,7 @@ fn operate<R: Threads + Sync, L: Ledger>(
     requires some_part { 0 < L.parts }
     ensures judged { IsJudged (λ left. left) (operated bench operation) result }
     ensures kept { IfOk result (λ left. OperationKeeps bench left operation) }
+    ensures ends { IfErr result IsOperationEnd }
 {
     let mut steps = start_counter::<L>(blank);
     match edits_of(alloc, &bench, operation, &mut steps) {
@@ -144,65 +135,11 @@ fn edits_of<L: Ledger>(
 
 /// The status of a refused operation.
 fn status_of(refusal: OpRefusal) -> Status
-    ensures { (rule : Option SpecRefusal) → IsRefusal rule refusal → IsOperationStatus rule result }
+    ensures status { (rule : Option SpecRefusal) → IsRefusal rule refusal → IsOperationStatus rule result }
+    ensures end { IsOperationEnd result }
 {
     match refusal {
         OpRefusal::NoMemory => Status::NoMemory,
         cause => Status::OpRefused(cause.number()),
     }
-}
-
-/// The bench of the cell that a commit of edits leaves: the first of the cell's history, with what it changes judged before.
-fn commit<R: Threads + Sync, L: Ledger>(
-    rt: &R,
-    alloc: Global,
-    bench: Bench,
-    set: EditSet,
-    steps: &mut Steps<L>,
-) -> Result<Bench, Status>
-    requires level { set.nall ≡ bench.head.nall }
-    requires no_guards { set.guards ≡ [] }
-    ensures { IsJudged (λ left. left) (committed bench set.edits) result }
-{
-    let prepared = prepare(rt, alloc, &bench, 0, set)?;
-    let mut book = Book::of_bench(alloc, bench);
-    let told = match book.commit(alloc, DESK, &prepared, steps) {
-        Ok(told) => told,
-        Err(BookRefusal::NoMemory) => return Err(Status::NoMemory),
-        Err(BookRefusal::LogFull) => unreachable!(),
-    };
-    match refusal_of(&told.reply) {
-        Some(refusal) => Err(Status::Refused(refusal)),
-        None => Ok(book.into_bench()),
-    }
-}
-
-/// The refusal that an answer tells.
-fn refusal_of(reply: &Reply) -> Option<StateRefusal>
-    ensures { result ≡ refusal_told reply.now }
-{
-    match reply {
-        Reply::Refused(refusal) => Some(*refusal),
-        Reply::Viewed { .. } | Reply::Formed(_) | Reply::Newer { .. } | Reply::Accepted { .. } => {
-            None
-        }
-    }
-}
-
-/// The text of a bench's cell, and its file.
-fn edge_work(alloc: Global, bench: &Bench, out: &str) -> Result<Work, AllocError>
-    ensures task { IfOk result (λ work. task_of work ≡ edge_task bench.now out.now) }
-    ensures read_back { IfOk result (λ work. decoded_cell (encoded_cell bench.now) ≡ Ok bench.now) }
-{
-    bench.known();
-    let mut text = Vec::new(alloc);
-    print_findings(alloc, bench, &mut text)?;
-    let cell = bench.to_cell(alloc)?;
-    writable_cell_is_read_back(&cell);
-    let bytes = write_cell(alloc, &cell)?;
-    let name = String::from_str(alloc, out)?;
-    Ok(Work {
-        text,
-        export: Some(Export { name, bytes }),
-    })
 }

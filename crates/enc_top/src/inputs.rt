@@ -10,7 +10,7 @@ ghost use Rattle.sessions.specs.Replays.{IsShortScript};
 ghost use Rattle.text_spec.specs.OrderLine.{IsOrder, order_of};
 ghost use Rattle.room_laws.specs.Orders.{quotas_of as quotas_of_lem};
 ghost use Rattle.enc_top.specs.Inputs.{CellIs, FileIs, IsAmong, IsCellOfFile, IsFile, IsInputStatus, IsJudged, IsJudgedScript};
-ghost use Rattle.enc_top.specs.Inputs.{IsReachedScript, OrderIs, ScriptIs, ScriptsAre, Tells, cell_in, order_in};
+ghost use Rattle.enc_top.specs.Inputs.{IsReachedScript, OrderIs, ScriptIs, ScriptsAre, Tells, cell_in, cell_limit, order_in};
 ghost use Rattle.enc_top.specs.Refused.{IsRefusal};
 
 use crate::input::{InputRefusal, read_file};
@@ -189,6 +189,19 @@ pub fn read_bench<H: Shelf>(alloc: Global, shelf: &mut H, name: &str) -> Result<
     judge_bench(alloc, &bytes)
 }
 
+/// The bytes of an update file, of which there may be as many as of a cell file.
+pub fn read_update<H: Shelf>(alloc: Global, shelf: &mut H, name: &str) -> Result<Vec<u8>, Status>
+    ensures tells { Tells (λ bytes. bytes.items) (FileIs cell_limit name.now) (IsFile name.now)
+        (H.files shelf.old) (H.read_faults shelf.old) (H.read_faults shelf.new) result }
+    ensures status { IfErr result (IsInputStatus (λ n. n ≡ name.now)) }
+    ensures within { IfOk result (λ bytes. length bytes.items ≤ cell_limit) }
+    ensures files { H.files shelf.new ≡ H.files shelf.old }
+    ensures read_faults { H.read_faults shelf.old ≤ H.read_faults shelf.new }
+    ensures write_faults { H.write_faults shelf.new ≡ H.write_faults shelf.old }
+{
+    read_input(alloc, shelf, name, CELL_LIMIT)
+}
+
 /// The script of a session that bytes are.
 fn judge_script(alloc: Global, bytes: &[u8], session: u32) -> Result<Script, Status>
     requires short { length bytes.now < 2 ^ 32 }
@@ -205,7 +218,7 @@ fn judge_script(alloc: Global, bytes: &[u8], session: u32) -> Result<Script, Sta
 }
 
 /// The script of a session in an input file.
-fn read_session<H: Shelf>(
+pub fn read_session<H: Shelf>(
     alloc: Global,
     shelf: &mut H,
     name: &str,

@@ -2,6 +2,7 @@
 #![tactic(auto)]
 
 mod edge;
+mod first;
 mod input;
 mod inputs;
 mod law;
@@ -11,9 +12,13 @@ mod output;
 mod probed;
 mod room;
 mod top;
+mod update;
 mod words;
 mod work;
 
+pub use inputs::{read_bench, read_session};
 pub use law::one_answer_is_asked;
+pub use output::finish;
 pub use report_text::{Status, print_status};
 pub use top::{run, run_plain, run_room};
+pub use work::{Export, Work};

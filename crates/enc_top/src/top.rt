@@ -18,6 +18,7 @@ use crate::made::{drill, make};
 use crate::output::finish;
 use crate::probed::probe;
 use crate::room::asked_room;
+use crate::update::apply;
 use crate::words::begins_with_room;
 use crate::work::{Work, work_of};
 use cell_bench::Bench;
@@ -39,8 +40,9 @@ use std::thread::Threads;
 /// scripts on that cell, the sessions in turn. `split CELL OUT E K V F` splits edge E at its K-th point by the new node V and the new edge F, and
 /// `join CELL OUT E F` joins edge E with edge F behind it: each puts the numbers of records and all findings of the cell that this leaves, in
 /// which every feature runs where it ran, and then writes it as the file OUT. `probe CELL Y X` puts which areas of the cell go round the point at
-/// that latitude and longitude. The words are those after the program's name. `meet` is called before each view and commit of a session in a
-/// thread.
+/// that latitude and longitude. `apply CELL OUT UPDATE` applies an update file to the cell by one commit, puts the numbers of records and all
+/// findings of the cell that this leaves, and then writes it as the file OUT. The words are those after the program's name. `meet` is called
+/// before each view and commit of a session in a thread.
 ///
 /// Whatever order the threads take: of `room` the report that is put is that of one thread that does each session's commands, once and in
 /// order, in the order that the report's first line tells, and OUT is the file of the cell that this leaves.
@@ -170,6 +172,9 @@ fn asked_work<R: Threads + Sync, H: Shelf>(
     }
     if first == "probe" {
         return probe(alloc, others, shelf);
+    }
+    if first == "apply" {
+        return apply(rt, alloc, others, shelf);
     }
     Err(Status::Usage)
 }

@@ -2,7 +2,7 @@ use Rattle.std.proofs.Common.{◌-◌, length, take, drop, sym, ap, ◌∙◌, s
 use Rattle.std.specs.Prelude.{codes}
 use Rattle.enc_top.specs.Outcome.{IsAskedBy}
 use Rattle.enc_top.specs.Words.{is_word}
-use Rattle.enc_top.proofs.FormWords.{behind, check_words, drilled_words, join_words, made_words, no_words, other_words, probed_words, run_words, split_words}
+use Rattle.enc_top.proofs.FormWords.{applied_words, behind, check_words, drilled_words, join_words, made_words, no_words, other_words, probed_words, run_words, split_words}
 use Rattle.enc_top.proofs.top.asked_work.Goals as goal
 
 pub returns-in_default-clause-asked : goal.returns-in_default-clause-asked
@@ -87,6 +87,21 @@ returns-then-eq-7-clause-asked g c =
     (sym (probed_words c.args.words.now c.first-item.result (take (length c.args.words.now - 1) (drop 1 c.args.words.now)) c.in-len1-up.len_at_least
     c.first-item.is (behind 1 c.args.words.now) c.requires check replay make drill split join probe)) c.probe.ensures.asked
 
+pub returns-then-eq-8-clause-asked : goal.returns-then-eq-8-clause-asked
+returns-then-eq-8-clause-asked g c =
+    let check = ap (is_word (codes "check")) (sym c.as_str-first.ensures.value) ∙ sym c.if-eq.ensures in
+    let replay = ap (is_word (codes "replay")) (sym c.as_str-first.ensures.value) ∙ sym c.if-eq-2.ensures in
+    let make = ap (is_word (codes "make")) (sym c.as_str-first.ensures.value) ∙ sym c.if-eq-3.ensures in
+    let drill = ap (is_word (codes "drill")) (sym c.as_str-first.ensures.value) ∙ sym c.if-eq-4.ensures in
+    let split = ap (is_word (codes "split")) (sym c.as_str-first.ensures.value) ∙ sym c.if-eq-5.ensures in
+    let join = ap (is_word (codes "join")) (sym c.as_str-first.ensures.value) ∙ sym c.if-eq-6.ensures in
+    let probe = ap (is_word (codes "probe")) (sym c.as_str-first.ensures.value) ∙ sym c.if-eq-7.ensures in
+    let apply = ap (is_word (codes "apply")) (sym c.as_str-first.ensures.value) ∙ sym c.if-eq-8.ensures in
+    subst (λ f. IsAskedBy ⊥ f (g.H.Shelf.files c.args.shelf.now) (g.H.Shelf.read_faults c.args.shelf.now)
+    (g.H.Shelf.read_faults c.apply.new.shelf) c.apply.result)
+    (sym (applied_words c.args.words.now c.first-item.result (take (length c.args.words.now - 1) (drop 1 c.args.words.now)) c.in-len1-up.len_at_least
+    c.first-item.is (behind 1 c.args.words.now) c.requires check replay make drill split join probe apply)) c.apply.ensures.asked
+
 pub returns-clause-asked : goal.returns-clause-asked
 returns-clause-asked g c =
     let check = ap (is_word (codes "check")) (sym c.as_str-first.ensures.value) ∙ sym c.if-eq.ensures in
@@ -96,5 +111,6 @@ returns-clause-asked g c =
     let split = ap (is_word (codes "split")) (sym c.as_str-first.ensures.value) ∙ sym c.if-eq-5.ensures in
     let join = ap (is_word (codes "join")) (sym c.as_str-first.ensures.value) ∙ sym c.if-eq-6.ensures in
     let probe = ap (is_word (codes "probe")) (sym c.as_str-first.ensures.value) ∙ sym c.if-eq-7.ensures in
+    let apply = ap (is_word (codes "apply")) (sym c.as_str-first.ensures.value) ∙ sym c.if-eq-8.ensures in
     other_words c.args.words.now c.first-item.result (take (length c.args.words.now - 1) (drop 1 c.args.words.now)) c.in-len1-up.len_at_least
-    c.first-item.is (behind 1 c.args.words.now) c.requires check replay make drill split join probe
+    c.first-item.is (behind 1 c.args.words.now) c.requires check replay make drill split join probe apply

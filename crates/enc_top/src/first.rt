@@ -1,0 +1,82 @@
+//! Edits as the first commit of a cell's history, and the cell that it leaves.
+
+ghost use Rattle.std.specs.Prelude.{◌≡◌, ◌<◌, [], IfErr, IfOk, Ok, true};
+ghost use Rattle.cell_spec.specs.Edits.{find_their_records};
+ghost use Rattle.file_spec.specs.DecodedCell.{decoded_cell};
+ghost use Rattle.file_spec.specs.EncodedCell.{encoded_cell};
+ghost use Rattle.enc_top.specs.Commits.{IsCommitStatus, committed, refusal_told};
+ghost use Rattle.enc_top.specs.Inputs.{IsJudged};
+ghost use Rattle.enc_top.specs.Task.{left_task, task_of};
+
+use crate::work::{Export, Work};
+use cell_bench::Bench;
+use cell_write::write_cell;
+use chain_topo::Steps;
+use commit_book::{Book, BookRefusal, Reply, StateRefusal};
+use edit_sets::EditSet;
+use file_spec::writable_cell_is_read_back;
+use recheck::prepare;
+use report_text::{Status, print_findings};
+use std::alloc::{AllocError, Global};
+use std::sync::ledger::Ledger;
+use std::thread::Threads;
+
+/// The number of the one desk.
+const DESK: u32 = 1;
+
+/// The bench of the cell that a commit of edits leaves: the first of the cell's history, with what it changes judged before.
+pub(crate) fn commit<R: Threads + Sync, L: Ledger>(
+    rt: &R,
+    alloc: Global,
+    bench: Bench,
+    set: EditSet,
+    steps: &mut Steps<L>,
+) -> Result<Bench, Status>
+    requires level { set.nall ≡ bench.head.nall }
+    requires no_guards { set.guards ≡ [] }
+    requires found { find_their_records set.edits bench ≡ true }
+    ensures judged { IsJudged (λ left. left) (committed bench set.edits) result }
+    ensures ends { IfErr result IsCommitStatus }
+{
+    let prepared = prepare(rt, alloc, &bench, 0, set)?;
+    let mut book = Book::of_bench(alloc, bench);
+    let told = match book.commit(alloc, DESK, &prepared, steps) {
+        Ok(told) => told,
+        Err(BookRefusal::NoMemory) => return Err(Status::NoMemory),
+        Err(BookRefusal::LogFull) => unreachable!(),
+    };
+    match refusal_of(&told.reply) {
+        Some(refusal) => Err(Status::Refused(refusal)),
+        None => Ok(book.into_bench()),
+    }
+}
+
+/// The refusal that an answer tells.
+fn refusal_of(reply: &Reply) -> Option<StateRefusal>
+    ensures { result ≡ refusal_told reply.now }
+{
+    match reply {
+        Reply::Refused(refusal) => Some(*refusal),
+        Reply::Viewed { .. } | Reply::Formed(_) | Reply::Newer { .. } | Reply::Accepted { .. } => {
+            None
+        }
+    }
+}
+
+/// The text of a bench's cell, and its file.
+pub(crate) fn left_work(alloc: Global, bench: &Bench, out: &str) -> Result<Work, AllocError>
+    ensures task { IfOk result (λ work. task_of work ≡ left_task bench.now out.now) }
+    ensures read_back { IfOk result (λ work. decoded_cell (encoded_cell bench.now) ≡ Ok bench.now) }
+{
+    bench.known();
+    let mut text = Vec::new(alloc);
+    print_findings(alloc, bench, &mut text)?;
+    let cell = bench.to_cell(alloc)?;
+    writable_cell_is_read_back(&cell);
+    let bytes = write_cell(alloc, &cell)?;
+    let name = String::from_str(alloc, out)?;
+    Ok(Work {
+        text,
+        export: Some(Export { name, bytes }),
+    })
+}
