@@ -153,10 +153,12 @@ IsOutput no_form files task = ⊥
 abbrev pub IsAsked : Outside → Form → Result Task Status → Type 0
 IsAsked before form answer = IfSome before.files (λ files. OutputIs form files answer)
 
--- nothing was put, and no file changed
+-- nothing was put or tried to be put, and no file changed or was tried to be changed
 pub record IsSilent (before after : Outside) : Type 0 where
   pub written : after.written ≡ before.written
+  pub put_faults : after.put_faults ≡ before.put_faults
   pub files : after.files ≡ before.files
+  pub write_faults : after.write_faults ≡ before.write_faults
 
 -- a form whose files end the call so, before anything is written
 abbrev pub IsRefused : Form → Outside → Outside → Status → Type 0
@@ -177,11 +179,12 @@ pub record IsFinished (task : Task) (before after : Outside) : Type 0 where
   pub written : Told (Adds task.text) before.written after.written
   pub files : AreWritten task.file before.files after.files
 
--- a put failed: a beginning of the text was put, and no file changed
+-- a put failed: a beginning of the text was put, and no file changed or was tried to be changed
 pub record IsCutText (task : Task) (before after : Outside) : Type 0 where
   pub rose : Rose before.put_faults after.put_faults
   pub written : Told (AddsFront task.text) before.written after.written
   pub files : after.files ≡ before.files
+  pub write_faults : after.write_faults ≡ before.write_faults
 
 -- a write of the file failed, after the text was put whole
 pub record IsCutFile (task : Task) (before after : Outside) : Type 0 where

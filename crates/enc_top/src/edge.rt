@@ -34,6 +34,7 @@ pub(crate) fn split<R: Threads + Sync, H: Shelf>(
     ensures asked { IsAskedBy ⊥ (edge_among split_in (map string_bytes others.now))
         (H.files shelf.old) (H.read_faults shelf.old) (H.read_faults shelf.new) result }
     ensures files { H.files shelf.new ≡ H.files shelf.old }
+    ensures read_faults { H.read_faults shelf.old ≤ H.read_faults shelf.new }
     ensures write_faults { H.write_faults shelf.new ≡ H.write_faults shelf.old }
 {
     let [cell, out, numbers @ ..] = others else {
@@ -55,6 +56,7 @@ pub(crate) fn join<R: Threads + Sync, H: Shelf>(
     ensures asked { IsAskedBy ⊥ (edge_among join_in (map string_bytes others.now))
         (H.files shelf.old) (H.read_faults shelf.old) (H.read_faults shelf.new) result }
     ensures files { H.files shelf.new ≡ H.files shelf.old }
+    ensures read_faults { H.read_faults shelf.old ≤ H.read_faults shelf.new }
     ensures write_faults { H.write_faults shelf.new ≡ H.write_faults shelf.old }
 {
     let [cell, out, numbers @ ..] = others else {
@@ -77,6 +79,7 @@ fn edit<R: Threads + Sync, H: Shelf>(
 ) -> Result<Work, Status>
     ensures asked { IsAskedBy ⊥ (edge_form cell.now out.now operation) (H.files shelf.old) (H.read_faults shelf.old) (H.read_faults shelf.new) result }
     ensures files { H.files shelf.new ≡ H.files shelf.old }
+    ensures read_faults { H.read_faults shelf.old ≤ H.read_faults shelf.new }
     ensures write_faults { H.write_faults shelf.new ≡ H.write_faults shelf.old }
 {
     let bench = match read_bench(alloc, shelf, cell) {

@@ -73,6 +73,7 @@ pub fn finish<H: Shelf, O: Sink>(shelf: &mut H, out: &mut O, work: &Work) -> Sta
         (outside (H.files shelf.new) (H.read_faults shelf.new) (H.write_faults shelf.new) (O.written out.new) (O.faults out.new)) result }
     ensures write_faults { H.write_faults shelf.old ≤ H.write_faults shelf.new }
     ensures read_faults { H.read_faults shelf.new ≡ H.read_faults shelf.old }
+    ensures put_faults { O.faults out.old ≤ O.faults out.new }
 {
     if put_all(out, &work.text).is_err() {
         return Status::WriteFault;

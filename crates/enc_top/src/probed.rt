@@ -25,6 +25,7 @@ pub(crate) fn probe<H: Shelf>(
 ) -> Result<Work, Status>
     ensures asked { IsAskedBy ⊥ (probe_among (map string_bytes others.now)) (H.files shelf.old) (H.read_faults shelf.old) (H.read_faults shelf.new) result }
     ensures files { H.files shelf.new ≡ H.files shelf.old }
+    ensures read_faults { H.read_faults shelf.old ≤ H.read_faults shelf.new }
     ensures write_faults { H.write_faults shelf.new ≡ H.write_faults shelf.old }
 {
     let [cell, y, x] = others else {
@@ -49,6 +50,7 @@ fn probe_at<H: Shelf>(
 ) -> Result<Work, Status>
     ensures asked { IsAskedBy ⊥ (probe_form cell.now (y, x)) (H.files shelf.old) (H.read_faults shelf.old) (H.read_faults shelf.new) result }
     ensures files { H.files shelf.new ≡ H.files shelf.old }
+    ensures read_faults { H.read_faults shelf.old ≤ H.read_faults shelf.new }
     ensures write_faults { H.write_faults shelf.new ≡ H.write_faults shelf.old }
 {
     let bench = match read_bench(alloc, shelf, cell) {

@@ -38,6 +38,7 @@ pub(crate) fn asked_room<R: Threads + Wait + Sync, H: Shelf, M: Meet + Sync>(
     ensures asked { IsAskedBy (M.sticks meet.now) (form_of (map string_bytes words.now))
         (H.files shelf.old) (H.read_faults shelf.old) (H.read_faults shelf.new) result }
     ensures files { H.files shelf.new ≡ H.files shelf.old }
+    ensures read_faults { H.read_faults shelf.old ≤ H.read_faults shelf.new }
     ensures write_faults { H.write_faults shelf.new ≡ H.write_faults shelf.old }
 {
     let [_, cell, out, names @ ..] = words else {

@@ -67,7 +67,9 @@ pub fn run<R: Threads + Wait + Sync, H: Shelf, O: Sink, M: Meet + Sync>(
         (outside (H.files shelf.old) (H.read_faults shelf.old) (H.write_faults shelf.old) (O.written out.old) (O.faults out.old))
         (outside (H.files shelf.new) (H.read_faults shelf.new) (H.write_faults shelf.new) (O.written out.new) (O.faults out.new)) result }
     ensures usage { (result ≡ Status.Usage) ↔ (form_of (map string_bytes words.now) ≡ no_form) }
+    ensures read_faults { H.read_faults shelf.old ≤ H.read_faults shelf.new }
     ensures write_faults { H.write_faults shelf.old ≤ H.write_faults shelf.new }
+    ensures put_faults { O.faults out.old ≤ O.faults out.new }
 {
     if begins_with_room(words) {
         return run_room(rt, alloc, words, shelf, out, meet);
@@ -98,7 +100,9 @@ pub fn run_room<R: Threads + Wait + Sync, H: Shelf, O: Sink, M: Meet + Sync>(
         (outside (H.files shelf.old) (H.read_faults shelf.old) (H.write_faults shelf.old) (O.written out.old) (O.faults out.old))
         (outside (H.files shelf.new) (H.read_faults shelf.new) (H.write_faults shelf.new) (O.written out.new) (O.faults out.new)) result }
     ensures usage { (result ≡ Status.Usage) ↔ (form_of (map string_bytes words.now) ≡ no_form) }
+    ensures read_faults { H.read_faults shelf.old ≤ H.read_faults shelf.new }
     ensures write_faults { H.write_faults shelf.old ≤ H.write_faults shelf.new }
+    ensures put_faults { O.faults out.old ≤ O.faults out.new }
 {
     match asked_room(rt, alloc, words, shelf, meet) {
         Ok(work) => finish(shelf, out, &work),
@@ -128,7 +132,9 @@ pub fn run_plain<R: Threads + Sync, H: Shelf, O: Sink>(
         (outside (H.files shelf.old) (H.read_faults shelf.old) (H.write_faults shelf.old) (O.written out.old) (O.faults out.old))
         (outside (H.files shelf.new) (H.read_faults shelf.new) (H.write_faults shelf.new) (O.written out.new) (O.faults out.new)) result }
     ensures usage { (result ≡ Status.Usage) ↔ (form_of (map string_bytes words.now) ≡ no_form) }
+    ensures read_faults { H.read_faults shelf.old ≤ H.read_faults shelf.new }
     ensures write_faults { H.write_faults shelf.old ≤ H.write_faults shelf.new }
+    ensures put_faults { O.faults out.old ≤ O.faults out.new }
 {
     match asked_work(rt, alloc, words, shelf) {
         Ok(work) => finish(shelf, out, &work),
@@ -146,6 +152,7 @@ fn asked_work<R: Threads + Sync, H: Shelf>(
     requires { spec_begins_with_room (map string_bytes words.now) ≡ false }
     ensures asked { IsAskedBy ⊥ (form_of (map string_bytes words.now)) (H.files shelf.old) (H.read_faults shelf.old) (H.read_faults shelf.new) result }
     ensures files { H.files shelf.new ≡ H.files shelf.old }
+    ensures read_faults { H.read_faults shelf.old ≤ H.read_faults shelf.new }
     ensures write_faults { H.write_faults shelf.new ≡ H.write_faults shelf.old }
 {
     let [first, others @ ..] = words else {
@@ -183,6 +190,7 @@ fn asked_work<R: Threads + Sync, H: Shelf>(
 fn check<H: Shelf>(alloc: Global, others: &[String], shelf: &mut H) -> Result<Work, Status>
     ensures asked { IsAskedBy ⊥ (check_among (map string_bytes others.now)) (H.files shelf.old) (H.read_faults shelf.old) (H.read_faults shelf.new) result }
     ensures files { H.files shelf.new ≡ H.files shelf.old }
+    ensures read_faults { H.read_faults shelf.old ≤ H.read_faults shelf.new }
     ensures write_faults { H.write_faults shelf.new ≡ H.write_faults shelf.old }
 {
     let [name] = others else {
@@ -206,6 +214,7 @@ fn run_scripts<R: Threads + Sync, H: Shelf>(
 ) -> Result<Work, Status>
     ensures asked { IsAskedBy ⊥ (replay_among (map string_bytes others.now)) (H.files shelf.old) (H.read_faults shelf.old) (H.read_faults shelf.new) result }
     ensures files { H.files shelf.new ≡ H.files shelf.old }
+    ensures read_faults { H.read_faults shelf.old ≤ H.read_faults shelf.new }
     ensures write_faults { H.write_faults shelf.new ≡ H.write_faults shelf.old }
 {
     let [cell, out, order, names @ ..] = others else {

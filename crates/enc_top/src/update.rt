@@ -31,6 +31,7 @@ pub(crate) fn apply<R: Threads + Sync, H: Shelf>(
 ) -> Result<Work, Status>
     ensures asked { IsAskedBy ⊥ (apply_among (map string_bytes others.now)) (H.files shelf.old) (H.read_faults shelf.old) (H.read_faults shelf.new) result }
     ensures files { H.files shelf.new ≡ H.files shelf.old }
+    ensures read_faults { H.read_faults shelf.old ≤ H.read_faults shelf.new }
     ensures write_faults { H.write_faults shelf.new ≡ H.write_faults shelf.old }
 {
     let [cell, out, update] = others else {
@@ -50,6 +51,7 @@ fn apply_file<R: Threads + Sync, H: Shelf>(
 ) -> Result<Work, Status>
     ensures asked { IsAskedBy ⊥ (apply_form cell.now out.now update.now) (H.files shelf.old) (H.read_faults shelf.old) (H.read_faults shelf.new) result }
     ensures files { H.files shelf.new ≡ H.files shelf.old }
+    ensures read_faults { H.read_faults shelf.old ≤ H.read_faults shelf.new }
     ensures write_faults { H.write_faults shelf.new ≡ H.write_faults shelf.old }
 {
     let bench = match read_bench(alloc, shelf, cell) {

@@ -1,5 +1,5 @@
 use Rattle.std.proofs.Common.{map, refl, rules, string_bytes}
-use Rattle.enc_top.specs.Outcome.{IsCause, outside}
+use Rattle.enc_top.specs.Outcome.{IsCause, IsSilent, outside}
 use Rattle.enc_top.specs.Words.{form_of}
 use Rattle.enc_top.proofs.Causes.{exact_from_cause, refused_cause}
 use Rattle.enc_top.proofs.Completed.{complete_from_exact, read_back_from_cause}
@@ -17,9 +17,15 @@ returns-in-Err-clause-complete g c =
     let new = c.asked_work.new.shelf in
     let before = outside (files old) (read_faults old) (write_faults old) written faults in
     let after = outside (files new) (read_faults new) (write_faults new) written faults in
+    let silent : IsSilent before after = record {
+      written = refl;
+      put_faults = refl;
+      files = c.in-Err.ensures.files;
+      write_faults = c.in-Err.ensures.write_faults;
+    } in
     complete_from_exact ⊥ words before after c.in-Err.status
     (exact_from_cause ⊥ words before after c.in-Err.status
-    (refused_cause ⊥ (form_of words) before after c.in-Err.status (record { written = refl; files = c.in-Err.ensures.files }) c.in-Err.ensures.asked))
+    (refused_cause ⊥ (form_of words) before after c.in-Err.status silent c.in-Err.ensures.asked))
 
 pub returns-in-Ok-clause-read_back : goal.returns-in-Ok-clause-read_back
 returns-in-Ok-clause-read_back g c =
