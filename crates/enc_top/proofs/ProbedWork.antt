@@ -1,6 +1,7 @@
 -- What the words behind `probe` ask for.
-use Rattle.std.proofs.Common.{◌≡◌, inl, inr, ℕ, List, Option, None, Ok, Err, refl, ap, ◌∙◌, subst}
+use Rattle.std.proofs.Common.{◌≡◌, inl, inr, ℕ, ℤ, List, Option, None, Ok, Err, SFits, of_z, to_z, w32, refl, ap, ◌∙◌, subst}
 use Rattle.std.specs.Prelude.{IfSome}
+use Rattle.std.proofs.lemmas.Int.{to_z-of_z}
 use Rattle.geometry_spec.specs.Points.{Point}
 use Rattle.s57_types.specs.declared.cell.Cell.{Cell}
 use Rattle.skin_probe.specs.ProbeText.{probe_text}
@@ -16,8 +17,15 @@ use Rattle.enc_top.specs.declared.work.Work.{Work}
 use Rattle.report_text.specs.declared.status.Status.{Status}
 use Rattle.enc_top.proofs.Answered.{asked_status, both_told, tells_first}
 
-abbrev text_alone : List ℕ → Task
+abbrev pub text_alone : List ℕ → Task
 text_alone text = record { text = text; file = None }
+
+-- a point whose coordinates are passed to a call
+abbrev pub passed : ℤ → ℤ → Point
+passed y x = (to_z w32 (of_z w32 y), to_z w32 (of_z w32 x))
+
+pub passed_is : (y x : ℤ) → SFits w32 y → SFits w32 x → ◌≡◌ {A = Point} (passed y x) (y, x)
+passed_is y x latitude longitude = λ i. (to_z-of_z w32 y latitude i, to_z-of_z w32 x longitude i)
 
 -- the task, by its parts
 pub probed_is : (c : Cell) (at : Point) (sheet : ProbeSheet) (text : List ℕ) → sheet ≡ sheet_of c at → AreSumsByEdges c at sheet.sums

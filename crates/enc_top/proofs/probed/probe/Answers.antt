@@ -1,7 +1,9 @@
-use Rattle.std.proofs.Common.{◌≡◌, length, map, rules, sym, ap, ◌∙◌, string_bytes, subst, arith}
+use Rattle.std.proofs.Common.{◌≡◌, length, map, rules, SFits, w32, sym, ap, ◌∙◌, string_bytes, subst, arith}
+use Rattle.geometry_spec.specs.Points.{Point}
 use Rattle.enc_top.specs.Outcome.{IsAskedBy}
 use Rattle.enc_top.specs.Words.{coordinate_of, probe_among, probe_form, probe_of}
 use Rattle.enc_top.proofs.FormWords.{fewer_probed, more_probed, three_probed}
+use Rattle.enc_top.proofs.ProbedWork.{passed, passed_is}
 use Rattle.enc_top.proofs.probed.probe.Goals as goal
 use Rattle.enc_top.proofs.probed.probe.Goals.{in_default-via-then-others-lt3, in_default-via-else-others-lt3+else-others-lt4}
 
@@ -29,9 +31,15 @@ returns-in_default-coordinate-2-clause-asked g c =
 pub returns-clause-asked : goal.returns-clause-asked
 returns-clause-asked g c =
     let three : length c.args.others.now ≡ 3 = omega (arith, c.in-len3.len_at_least, c.in-len3.len_below) in
-    let is : probe_among (map string_bytes c.args.others.now) ≡ probe_form c.as_str-3.result.now (c.in-Some.y, c.in-Some-coordinate.x) =
+    let y = c.in-Some.y in
+    let x = c.in-Some-coordinate.x in
+    let latitude : SFits w32 y = search rules in
+    let longitude : SFits w32 x = search rules in
+    let cell = c.as_str-3.result.now in
+    let is : probe_among (map string_bytes c.args.others.now) ≡ probe_form cell (passed y x) =
     three_probed c.args.others.now c.cell-item.result c.y-item.result c.x-item.result three c.cell-item.is c.y-item.is c.x-item.is
     ∙ (λ i. probe_of (sym c.as_str-3.ensures.value i) (sym (c.in-Some.ensures ∙ ap coordinate_of c.as_str.ensures.value) i)
-    (sym (c.in-Some-coordinate.ensures ∙ ap coordinate_of c.as_str-2.ensures.value) i)) in
+    (sym (c.in-Some-coordinate.ensures ∙ ap coordinate_of c.as_str-2.ensures.value) i))
+    ∙ ap (λ (at : Point). probe_form cell at) (sym (passed_is y x latitude longitude)) in
     subst (λ f. IsAskedBy ⊥ f (g.H.Shelf.files c.args.shelf.now) (g.H.Shelf.read_faults c.args.shelf.now)
     (g.H.Shelf.read_faults c.probe_at.new.shelf) c.probe_at.result) (sym is) c.probe_at.ensures.asked
