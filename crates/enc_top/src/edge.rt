@@ -1,6 +1,6 @@
 //! Splitting an edge, and joining two, by one commit.
 
-ghost use Rattle.std.specs.Prelude.{◌≡◌, ◌<◌, IfErr, IfOk, MatchResult, Option, map, string_bytes};
+ghost use Rattle.std.specs.Prelude.{◌≡◌, ◌<◌, ◌≤◌, IfErr, IfOk, MatchResult, Option, map, string_bytes};
 ghost use Rattle.topo_ops.specs.Refusals.{IsRefusal};
 ghost use Rattle.topo_ops.specs.declared.refusal.OpRefusal.{OpRefusal as SpecRefusal};
 ghost use Rattle.enc_top.specs.Inputs.{IsJudged};

@@ -1,6 +1,6 @@
 //! The areas of a file's cell round a point.
 
-ghost use Rattle.std.specs.Prelude.{◌≡◌, ◌<◌, IfOk, map, string_bytes};
+ghost use Rattle.std.specs.Prelude.{◌≡◌, ◌<◌, ◌≤◌, IfOk, map, string_bytes};
 ghost use Rattle.enc_top.specs.Outcome.{IsAskedBy, IsProbeIn};
 ghost use Rattle.enc_top.specs.Task.{task_of};
 ghost use Rattle.enc_top.specs.Words.{probe_among, probe_form};
