@@ -1,6 +1,37 @@
 -- The uses of an edge, summed: what the rows of features that name it add up to.
-use Rattle.std.proofs.Common.{◌≡◌, ℕ, zero, suc, ◌+◌, ◌-◌, ◌<◌, Bool, true, false, List, [], ◌∷◌, ◌++◌, Option, None, Some,
-    cond, map, filter, length, length-append, append_assoc, refl, sym, ap, ◌∙◌, ℤ, pos, ◌+ℤ◌, arith}
+use Rattle.std.proofs.Common.{
+  ◌≡◌,
+  ℕ,
+  zero,
+  suc,
+  ◌+◌,
+  ◌-◌,
+  ◌<◌,
+  Bool,
+  true,
+  false,
+  List,
+  [],
+  ◌∷◌,
+  ◌++◌,
+  Option,
+  None,
+  Some,
+  cond,
+  map,
+  filter,
+  length,
+  length-append,
+  append_assoc,
+  refl,
+  sym,
+  ap,
+  ◌∙◌,
+  ℤ,
+  pos,
+  ◌+ℤ◌,
+  arith,
+}
 use Rattle.std.specs.Prelude.{slice_get, option_map, option_and_then, filter_map, flat_map}
 use Rattle.std.specs.Option.{option_map_or}
 use Rattle.std.specs.Ordering.{is_eq}
@@ -90,7 +121,7 @@ distinct_pointers n (r ∷ rs) all =
     (λ a b at there.
     let other = flattened (pointers_in n) b rs there in
     let names = (λ i. same_name (from_is n r a at i) (from_is n other.item b other.gives i)) ∙
-        no_tie same_name name_of (name_of r) other.item rs all.0 other.among in
+    no_tie same_name name_of (name_of r) other.item rs all.0 other.among in
     apart_refs a b (apart_names a b names))
 
 -- ---- a place of a list

@@ -69,7 +69,12 @@ const EIGHT: Typed = Typed {
 const EIGHT_IN_REVERSE: Typed = Typed {
     line: &[(-30, -30), (-20, -20), (-20, -30), (-30, -20), (-30, -30)],
     orientations: &[2],
-    winds: &[((-28, -25), -1), ((-22, -25), 1), ((-25, -25), 0), ((-30, -25), -1)],
+    winds: &[
+        ((-28, -25), -1),
+        ((-22, -25), 1),
+        ((-25, -25), 0),
+        ((-30, -25), -1),
+    ],
 };
 
 /// The half of the whole range that lies south-east of its diagonal, clockwise: points on the diagonal, beside it, and at both ends of the range.

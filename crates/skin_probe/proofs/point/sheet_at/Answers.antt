@@ -9,8 +9,10 @@ returns-clause-sheet g c =
     λ i. record {
       group1 = c.in_ok-group1.ensures.rounds i;
       cover = c.in_ok-cover.ensures.rounds i;
-      sums = ((to_z-of_z w64 c.in_ok-group1.group1.total one ∙ c.in_ok-group1.ensures.total) i,
-          (to_z-of_z w64 c.in_ok-cover.cover.total two ∙ c.in_ok-cover.ensures.total) i);
+      sums = (
+        (to_z-of_z w64 c.in_ok-group1.group1.total one ∙ c.in_ok-group1.ensures.total) i,
+        (to_z-of_z w64 c.in_ok-cover.cover.total two ∙ c.in_ok-cover.ensures.total) i,
+      );
       unbalanced = c.unbalanced_of-unbalanced.ensures i;
     }
 
@@ -30,5 +32,5 @@ returns-clause-balanced g c = λ none.
     let two : SFits w64 c.in_ok-cover.cover.total = search rules in
     to_z-of_z w64 c.in_ok-group1.group1.total one ∙ c.in_ok-group1.ensures.total
     ∙ c.balanced_sides_equal_winding.ensures c.args.bench.now c.known.ensures.writable (sym c.unbalanced_of-unbalanced.ensures ∙ none)
-        c.args.at
+    c.args.at
     ∙ sym (to_z-of_z w64 c.in_ok-cover.cover.total two ∙ c.in_ok-cover.ensures.total)
