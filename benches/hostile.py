@@ -119,6 +119,7 @@ for session in range(1, 17):
 write_cell("APART", (node(k, (0, 100_000 * k)) for k in range(1, 17)))
 write_cell("LONG_NAMES", (node(4_294_967_295 - k, (0, 0)) for k in range(7)))
 write_text("LISTS", 50_000 * "list 20\n")
+write_text("VIEWS", 50_000 * "view\n")
 for count in (0, 1):
     write_text(f"ORDER_{count}", "order" + count * " 1" + "\n")
 write_text("ORDER_COMMITS", "order" + 1_000 * "".join(f" {k}" for k in range(1, 17)) + "\n")
