@@ -37,7 +37,14 @@ pub(crate) fn apply<R: Threads + Sync, H: Shelf>(
     let [cell, out, update] = others else {
         return Err(Status::Usage);
     };
-    apply_file(rt, alloc, shelf, cell.as_str(), out.as_str(), update.as_str())
+    apply_file(
+        rt,
+        alloc,
+        shelf,
+        cell.as_str(),
+        out.as_str(),
+        update.as_str(),
+    )
 }
 
 /// The text of the cell that an update file leaves of a file's cell, and its file.
