@@ -1,0 +1,15 @@
+mod Told
+mod Adding
+mod DiskReads
+mod Numbers
+mod Torn
+mod Lists
+mod Committing
+mod Taking
+mod Replaying
+mod Replayed
+mod Opening
+mod Keeping
+mod Commits
+mod Texts
+mod Readings

@@ -1,0 +1,42 @@
+use Rattle.std.proofs.Common.{◌≡◌, ℕ, ◌≤◌, List, Option, IfSome, Some, length, ap, arith, subst, sym, ◌∙◌}
+use Rattle.commit_book.specs.Books.{history_of}
+use Rattle.crash_disk.specs.Disk.{LeavesOnly}
+use Rattle.book_journal.specs.Journals.{IsJournalOf}
+use Rattle.book_journal.proofs.Opening.{begun_as_before, begun_told, no_place, read_journal, read_short}
+use Rattle.book_journal.proofs.open.open_book.Goals as goal
+
+-- an empty list is made of a file of at most one byte
+pub returns-in_err-begin_list-clause-moments : goal.returns-in_err-begin_list-clause-moments
+returns-in_err-begin_list-clause-moments g c =
+    let content = g.D.Disk.content in
+    let old = c.args.disk.now in
+    let short = read_short (content old) c.in_ok-bytes.bytes.items c.in_ok-bytes.ensures.bytes (omega (arith, c.len.ensures, c.if-len-gt1.false)) in
+    let second = subst (λ (o : Option (List ℕ)). IfSome o (λ (file : List ℕ). LeavesOnly g.D.Disk.moment g.D.Disk.left_since c.read_disk.new.disk
+    c.begin_list.new.disk (λ (image : List ℕ). length image ≤ 1))) c.read_disk.ensures.same c.begin_list.ensures.moments in
+    begun_as_before content g.D.Disk.images g.D.Disk.moment g.D.Disk.left_since c.args.cell old c.read_disk.new.disk c.begin_list.new.disk
+    (g.met.D.Disk.reads_an_image old) short c.read_disk.ensures.moments second
+
+pub returns-clause-moments : goal.returns-clause-moments
+returns-clause-moments g c =
+    let content = g.D.Disk.content in
+    let old = c.args.disk.now in
+    let short = read_short (content old) c.in_ok-bytes.bytes.items c.in_ok-bytes.ensures.bytes (omega (arith, c.len.ensures, c.if-len-gt1.false)) in
+    let second = subst (λ (o : Option (List ℕ)). IfSome o (λ (file : List ℕ). LeavesOnly g.D.Disk.moment g.D.Disk.left_since c.read_disk.new.disk
+    c.begin_list.new.disk (λ (image : List ℕ). length image ≤ 1))) c.read_disk.ensures.same c.begin_list.ensures.moments in
+    begun_as_before content g.D.Disk.images g.D.Disk.moment g.D.Disk.left_since c.args.cell old c.read_disk.new.disk c.begin_list.new.disk
+    (g.met.D.Disk.reads_an_image old) short c.read_disk.ensures.moments second
+
+pub returns-clause-opened : goal.returns-clause-opened
+returns-clause-opened g c =
+    let replayed = c.in_ok-opened.ensures in
+    let book = c.in_ok-opened.opened.0 in
+    let place = c.in_ok-opened.opened.1 in
+    let file = c.deref.result.now in
+    let short : length file ≤ 1 = omega (arith, c.len.ensures, c.if-len-gt1.false, ap length c.deref.ensures.value) in
+    record {
+      room = omega (arith, no_place c.args.cell file book place short replayed);
+      journal = read_journal c.args.cell (g.D.Disk.content c.args.disk.now) c.in_ok-bytes.bytes.items (history_of book).commits c.in_ok-bytes.ensures.bytes
+          (subst (λ (l : List ℕ). IsJournalOf c.args.cell l (history_of book).commits) c.deref.ensures.value replayed.journal);
+      standing = begun_told g.D.Disk.content g.D.Disk.images c.args.cell book place file c.read_disk.new.disk c.begin_list.new.disk short replayed
+          c.begin_list.ensures.told c.in_ok-begin_list.ensures.content c.in_ok-begin_list.ensures.kept;
+    }

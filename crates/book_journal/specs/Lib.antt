@@ -1,0 +1,11 @@
+pub mod Refusals
+pub mod Entries
+pub mod Texts
+pub mod Journals
+pub mod Cuts
+pub mod Writing
+pub mod Replaying
+pub mod Keeping
+pub mod Parts
+pub mod Opening
+pub mod Standing

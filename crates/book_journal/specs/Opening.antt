@@ -1,0 +1,41 @@
+-- What opening a journal gives, and why it is refused. This project's own rules.
+use Rattle.std.specs.Prelude.{◌≡◌, ℕ, ◌<◌, ◌≤◌, ◌^◌, List, length, Option, IfSome}
+use Rattle.enc_outside.specs.Count.{Rose}
+use Rattle.s57_types.specs.declared.cell.Cell.{Cell}
+use Rattle.rule_spec.specs.Findings.{finding_total}
+use Rattle.history_spec.specs.Steps.{AcceptedCommit, finding_limit}
+use Rattle.commit_book.specs.Books.{BookState, history_of}
+use Rattle.book_journal.specs.Journals.{IsDamagedAt, IsJournalOf}
+use Rattle.book_journal.specs.Keeping.{IsStanding, commit_limit}
+use Rattle.book_journal.specs.declared.refusal.OpenRefusal.{OpenRefusal}
+use Rattle.book_journal.specs.declared.refusal.OpenRefusal.TheVariants.{BadJournal, DiskFault, JournalFull, FindingsFull, NoMemory}
+
+-- a book of a cell that has an entry for each of its commits and no others, and no more than may be
+pub record IsBookOfJournal (c : Cell) (book : BookState) : Type 0 where
+  pub opening : book.opening ≡ c
+  pub entries : length book.entries ≡ length (history_of book).commits
+  pub few : length (history_of book).commits ≤ commit_limit
+
+-- its commits are those of the journal that was there, where the disk told its bytes, and the disk has them now as a list that ends at a place
+pub record IsOpenedAt (c : Cell) (book : BookState) (place : ℕ) (before now : Option (List ℕ)) (images : List ℕ → Type 0) : Type 0 where
+  pub room : place < 2 ^ 63
+  pub journal : IfSome before (λ file. IsJournalOf c file (history_of book).commits)
+  pub standing : IfSome now (IsStanding c (history_of book).commits place images)
+
+-- why a journal isn't opened, where the disk told its bytes: one of its entries is damaged, it has too many commits, the cell has too many
+-- findings, a call of the disk failed, or memory is out
+abbrev pub IsOpenRefusal : Cell → Option (List ℕ) → ℕ → ℕ → OpenRefusal → Type 0
+IsOpenRefusal c before faults now (BadJournal place) = IfSome before (λ file. IsDamagedAt c file place)
+IsOpenRefusal c before faults now DiskFault = Rose faults now
+IsOpenRefusal c before faults now (JournalFull count) =
+    IfSome before (λ file. (commits : List AcceptedCommit) × IsJournalOf c file commits × (commit_limit < length commits) × (count ≡ length commits))
+IsOpenRefusal c before faults now FindingsFull = finding_limit < finding_total c
+IsOpenRefusal c before faults now NoMemory = Unit {0}
+
+-- only after a fault of the disk its bytes may be others
+abbrev pub LeavesBytes : Option (List ℕ) → Option (List ℕ) → OpenRefusal → Type 0
+LeavesBytes before now (BadJournal place) = now ≡ before
+LeavesBytes before now DiskFault = Unit {0}
+LeavesBytes before now (JournalFull count) = now ≡ before
+LeavesBytes before now FindingsFull = now ≡ before
+LeavesBytes before now NoMemory = now ≡ before

@@ -1,0 +1,223 @@
+//! A journal of accepted commits.
+
+ghost use Rattle.std.specs.Prelude.{◌≡◌, ◌+◌, ◌*◌, ◌<◌, ◌≤◌, ◌^◌, [], Err, IfErr, IfOk, IfSome, IsSome, OnErr, OnOk, Some, false, length, true};
+ghost use Rattle.cell_spec.specs.Edits.{touched_keys};
+ghost use Rattle.cell_spec.specs.Writable.{IsWritable};
+ghost use Rattle.commit_book.specs.Books.{IsBookRefusal, IsEntered, IsNews, entry_limit, history_of};
+ghost use Rattle.commit_book.specs.Prepared.{AreRight, commit_budget};
+ghost use Rattle.crash_disk.specs.Disk.{LeavesOnly, Only};
+ghost use Rattle.enc_outside.specs.Count.{Rose};
+ghost use Rattle.book_journal.specs.Entries.{HaveLines, text_limit};
+ghost use Rattle.book_journal.specs.Keeping.{HasOrHasNot, IsAsBefore};
+ghost use Rattle.book_journal.specs.Opening.{IsBookOfJournal, IsOpenedAt};
+ghost use Rattle.book_journal.specs.Parts.{IsFullOrOut, IsPartOf, IsPartRefusal, commit_asked, text_asked};
+ghost use Rattle.book_journal.specs.Standing.{IsKeepRefusal, IsStill};
+ghost use Rattle.book_journal.specs.Writing.{IsTornEntry, with_entry};
+
+use crate::entry::entry_part_of;
+use crate::open::open_book;
+use crate::refusal::{KeepRefusal, OpenRefusal};
+use crate::reply::is_accepted;
+use crate::text::text_of;
+use crate::writing::add_entry;
+use chain_topo::Steps;
+use commit_book::{Asked, Book, BookRefusal, Prepared, Told};
+use crash_disk::Disk;
+use edit_sets::FormFault;
+use s57_types::Cell;
+use std::alloc::Global;
+use std::sync::ledger::Ledger;
+use std::thread::Threads;
+
+/// The longest text of a commit's edits, in bytes.
+const TEXT_LIMIT: usize = 16_777_216;
+
+/// What stands behind the mark of the entry of a prepared commit.
+///
+/// An `Err` says that its text is over the limit, or means out of memory.
+fn part_of(alloc: Global, desk: u32, prepared: &Prepared) -> Result<Vec<u8>, KeepRefusal>
+    requires { HaveLines prepared.now.edits.edits }
+    ensures ok { IfOk result (λ part. IsPartOf desk prepared.now part.items) }
+    ensures err { IfErr result (IsPartRefusal prepared.now) }
+{
+    let text = text_of(alloc, prepared.edits().edits())?;
+    if text.len() > TEXT_LIMIT {
+        return Err(KeepRefusal::EntryTooLong(text.len() as u64));
+    }
+    Ok(entry_part_of(alloc, desk, &text)?)
+}
+
+/// The refusal of a commit whose answer isn't told.
+fn untold(_told: Told, why: KeepRefusal) -> KeepRefusal
+    ensures { result ≡ why }
+{
+    why
+}
+
+/// A book whose accepted commits are on a disk before they are acknowledged.
+#[derive(Drop)]
+pub struct Journal<'a, D: Disk> {
+    disk: &'a mut D,
+    book: Book,
+    end: u64,
+    broken: bool,
+}
+
+impl<'a, D: Disk> Journal<'a, D> {
+    /// Opens the journal on a disk, over the cell that it began with: its book has the journal's commits, an entry for each. Nothing is repaired and
+    /// nothing is cut: a file of at most one byte becomes an empty list, and no other file is written to.
+    ///
+    /// An `Err` says that a call of the disk failed, that the cell has more findings than the limit, at which place of the file, from 0, an entry is damaged,
+    /// or how many commits over the limit there are, or means out of memory. Only after the first the disk's bytes may be others.
+    pub fn start<R: Threads + Sync, L: Ledger>(
+        rt: &R,
+        alloc: Global,
+        cell: Cell,
+        disk: &'a mut D,
+        steps: &mut Steps<L>,
+    ) -> Result<Journal<'a, D>, OpenRefusal>
+        requires { IsWritable cell }
+        ensures same_reference { IfOk result (λ journal. journal.disk.ghost_name ≡ disk.entry.ghost_name) }
+        ensures book { IfOk result (λ journal. IsBookOfJournal cell journal.book) }
+        ensures opened { IfOk result (λ journal. IsOpenedAt cell journal.book journal.end (D.content disk.old) (D.content journal.disk.now)
+            (D.images journal.disk.now)) }
+        ensures whole { IfOk result (λ journal. journal.broken ≡ false) }
+        ensures still { IfOk result (IsStill D.content D.images) }
+        // A crash at any moment of the call leaves what is read as something that a crash before it may have left.
+        ensures moments { IfOk result (λ journal. IfSome (D.content disk.old)
+            (λ _. LeavesOnly D.moment D.left_since disk.old journal.disk.now (IsAsBefore cell (D.images disk.old)))) }
+        ensures no_fall { IfOk result (λ journal. D.faults disk.old ≤ D.faults journal.disk.now) }
+    {
+        let (book, end) = open_book(rt, alloc, cell, disk, steps)?;
+        Ok(Journal {
+            disk,
+            book,
+            end,
+            broken: false,
+        })
+    }
+
+    /// The book.
+    pub fn book(&self) -> &Book
+        ensures { result.now ≡ self.now.book }
+    {
+        &self.book
+    }
+
+    /// Lets a desk see the newest state, as the book does. The disk isn't asked.
+    pub fn view(&mut self, alloc: Global, desk: u32, base: u32) -> Result<Told, BookRefusal>
+        requires base { base ≤ length (history_of self.old.book).commits }
+        requires still { IsStill D.content D.images self.old }
+        ensures still { IsStill D.content D.images self.new }
+        ensures same_reference { self.new.disk.ghost_name ≡ self.old.disk.ghost_name }
+        ensures disk { self.new.disk.now ≡ self.old.disk.now }
+        ensures broken { self.new.broken ≡ self.old.broken }
+        ensures ok { IfOk result (λ told. IsEntered self.old.book desk Asked.View self.new.book told.reply) }
+        ensures news { IfOk result (IsNews base self.new.book) }
+        ensures err { IfErr result (λ why. IsBookRefusal self.old.book.entries why × (self.new.book ≡ self.old.book)) }
+        ensures full { length self.old.book.entries ≡ entry_limit → result ≡ Err BookRefusal.LogFull }
+    {
+        self.book.view(alloc, desk, base)
+    }
+
+    /// Tells a desk the fault of its draft, as the book does. The disk isn't asked.
+    pub fn faulty(
+        &mut self,
+        alloc: Global,
+        desk: u32,
+        fault: FormFault,
+    ) -> Result<Told, BookRefusal>
+        requires { IsStill D.content D.images self.old }
+        ensures still { IsStill D.content D.images self.new }
+        ensures same_reference { self.new.disk.ghost_name ≡ self.old.disk.ghost_name }
+        ensures disk { self.new.disk.now ≡ self.old.disk.now }
+        ensures broken { self.new.broken ≡ self.old.broken }
+        ensures ok { IfOk result (λ told. IsEntered self.old.book desk (Asked.Faulty fault) self.new.book told.reply) }
+        ensures news { IfOk result (λ told. told.news ≡ []) }
+        ensures err { IfErr result (λ why. IsBookRefusal self.old.book.entries why × (self.new.book ≡ self.old.book)) }
+        ensures full { length self.old.book.entries ≡ entry_limit → result ≡ Err BookRefusal.LogFull }
+    {
+        self.book.faulty(alloc, desk, fault)
+    }
+
+    /// Adds an entry to the list on the disk. After an `Err`, which is a fault of the disk, no further commit is kept.
+    fn keep(&mut self, part: &[u8]) -> Result<(), KeepRefusal>
+        requires some { 0 < length part.now }
+        requires room { self.old.end + length part.now < 2 ^ 64 }
+        requires standing { IfSome (D.content self.old.disk.now) (λ file. (self.old.end < length file) × Only file (D.images self.old.disk.now)) }
+        ensures same_reference { self.new.disk.ghost_name ≡ self.old.disk.ghost_name }
+        ensures book { self.new.book ≡ self.old.book }
+        ensures end { OnOk result (self.new.end ≡ self.old.end + length part.now) }
+        ensures end_err { OnErr result (self.new.end ≡ self.old.end) }
+        ensures whole { OnOk result (self.new.broken ≡ self.old.broken) }
+        ensures broken { OnErr result (self.new.broken ≡ true) }
+        ensures fault { IfErr result (λ why. why ≡ KeepRefusal.DiskFault) }
+        ensures rose { OnErr result (Rose (D.faults self.old.disk.now) (D.faults self.new.disk.now)) }
+        ensures no_fall { D.faults self.old.disk.now ≤ D.faults self.new.disk.now }
+        ensures content { OnOk result (IfSome (D.content self.old.disk.now) (λ file. D.content self.new.disk.now ≡ Some (with_entry file self.old.end part.now))) }
+        ensures told { IsSome (D.content self.new.disk.now) → IsSome (D.content self.old.disk.now) }
+        ensures kept { OnOk result (IfSome (D.content self.old.disk.now) (λ file. Only (with_entry file self.old.end part.now) (D.images self.new.disk.now))) }
+        ensures moments { IfSome (D.content self.old.disk.now)
+            (λ file. LeavesOnly D.moment D.left_since self.old.disk.now self.new.disk.now (IsTornEntry file self.old.end part.now)) }
+    {
+        let added = add_entry(self.disk, self.end, part);
+        if added.is_err() {
+            self.broken = true;
+            return Err(KeepRefusal::DiskFault);
+        }
+        self.end += part.len() as u64;
+        Ok(())
+    }
+
+    /// Commits the edits that a desk prepared, as the book does, and has an accepted commit on the disk before it answers. All memory is taken before
+    /// the disk is written to; a commit that isn't accepted writes nothing.
+    ///
+    /// An `Err` says that an earlier call ended in a fault of the disk, that the text of the edits is too long, is as that of the book, or says that
+    /// the disk failed. Only after the last the book or the disk may be changed: the book has the commit, and the journal is to be opened again.
+    pub fn commit<L: Ledger>(
+        &mut self,
+        alloc: Global,
+        desk: u32,
+        prepared: &Prepared,
+        steps: &mut Steps<L>,
+    ) -> Result<Told, KeepRefusal>
+        requires base { prepared.now.base ≤ length (history_of self.old.book).commits }
+        requires level { prepared.now.edits.nall ≡ self.old.book.opening.head.nall }
+        requires rows { AreRight self.old.book.opening self.old.book.entries prepared.now }
+        requires lines { HaveLines prepared.now.edits.edits }
+        requires still { IsStill D.content D.images self.old }
+        ensures still { IsStill D.content D.images self.new }
+        ensures same_reference { self.new.disk.ghost_name ≡ self.old.disk.ghost_name }
+        ensures ok { IfOk result (λ told. IsEntered self.old.book desk (Asked.Commit prepared.now.base prepared.now.edits) self.new.book told.reply) }
+        ensures news { IfOk result (IsNews prepared.now.base self.new.book) }
+        ensures whole { OnOk result (self.new.broken ≡ false) }
+        ensures err { IfErr result (IsKeepRefusal D.faults desk prepared.now self.old self.new) }
+        ensures broken { self.old.broken ≡ true → result ≡ Err KeepRefusal.Broken }
+        ensures long { text_limit < length (text_asked prepared.now) → OnOk result ⊥ }
+        ensures full { self.old.broken ≡ false → length (text_asked prepared.now) ≤ text_limit → length self.old.book.entries ≡ entry_limit
+            → IfErr result (IsFullOrOut) }
+        // A crash at any moment of the call leaves the commits from before it, or these and the new one.
+        ensures moments { self.old.broken ≡ false → IfSome (D.content self.old.disk.now)
+            (λ _. LeavesOnly D.moment D.left_since self.old.disk.now self.new.disk.now
+            (HasOrHasNot self.old.book.opening (history_of self.old.book).commits (commit_asked desk prepared.now))) }
+        ensures no_fall { D.faults self.old.disk.now ≤ D.faults self.new.disk.now }
+        ensures steps { steps.new ≤ steps.old + commit_budget self.old.book prepared.now }
+        ensures alone { prepared.now.base ≡ length (history_of self.old.book).commits → steps.new ≤ steps.old
+            + 4 * (length (touched_keys prepared.now.edits.edits (history_of self.old.book).cell) + length prepared.now.edits.edits) }
+    {
+        if self.broken {
+            return Err(KeepRefusal::Broken);
+        }
+        self.book.known();
+        prepared.edits().known();
+        let part = part_of(alloc, desk, prepared)?;
+        let told = self.book.commit(alloc, desk, prepared, steps)?;
+        if !is_accepted(&told.reply) {
+            return Ok(told);
+        }
+        match self.keep(&part) {
+            Ok(()) => Ok(told),
+            Err(why) => Err(untold(told, why)),
+        }
+    }
+}
