@@ -1,0 +1,76 @@
+-- The text of the marks and rows of findings, the first and those behind it.
+use Rattle.std.proofs.Common.{◌≡◌, ℕ, ◌+◌, ◌<◌, List, [], ◌∷◌, ◌++◌, Option, Some, drop, take, get_or, length, ap, sym, ◌∙◌, append_assoc}
+use Rattle.std.specs.List.{flat_map}
+use Rattle.std.proofs.lemmas.List.{append-nil, drop_more, take_more}
+use Rattle.std.proofs.lemmas.List.Concat.{flat_map-append}
+use Rattle.s57_types.specs.declared.cell.Cell.{Cell}
+use Rattle.cell_findings.specs.Rows.{line_of}
+use Rattle.cell_findings.specs.declared.list.SubjectFinding.{SubjectFinding}
+use Rattle.geometry_spec.specs.declared.tile.Box4.{Box4}
+use Rattle.cell_picture.specs.Labels.{anchor_of, field_of, free_field}
+use Rattle.cell_picture.specs.Places.{place_of}
+use Rattle.cell_picture.specs.declared.page.PagePoint.{PagePoint}
+use Rattle.cell_picture.specs.Strokes.{Stroke}
+use Rattle.cell_picture.specs.ShapeText.{mark_text, row_text, shape_text, spot_text}
+use Rattle.cell_picture.specs.Shapes.{
+  drawing_order,
+  finding_shapes,
+  mark_at,
+  mark_in,
+  marks_from,
+  record_shapes,
+  row_of,
+  rows_from,
+  shapes,
+  spot_at,
+  taken_with,
+}
+
+pub rows_more : (k : ℕ) (fs : List SubjectFinding) (d : SubjectFinding) → k < length fs
+    → flat_map shape_text (rows_from (k + 1) (drop k fs)) ≡
+    row_text (row_of (k + 1) (get_or fs k d)) ++ flat_map shape_text (rows_from (k + 1 + 1) (drop (k + 1) fs))
+rows_more k fs d within = ap (λ rest. flat_map shape_text (rows_from (k + 1) rest)) (drop_more fs k d within)
+
+pub marks_more : (c : Cell) (around : Box4) (taken : List ℕ) (k : ℕ) (fs : List SubjectFinding) (d : SubjectFinding) → k < length fs
+    → flat_map shape_text (marks_from c around taken (k + 1) (drop k fs)) ≡
+    flat_map shape_text (mark_at (k + 1) (line_of (get_or fs k d)) (place_of c around (get_or fs k d)) taken (anchor_of (place_of c around (get_or fs k d))))
+    ++ flat_map shape_text (marks_from c around (taken_with taken (anchor_of (place_of c around (get_or fs k d)))) (k + 1 + 1) (drop (k + 1) fs))
+marks_more c around taken k fs d within =
+    ap (λ rest. flat_map shape_text (marks_from c around taken (k + 1) rest)) (drop_more fs k d within)
+    ∙ flat_map-append shape_text
+    (mark_at (k + 1) (line_of (get_or fs k d)) (place_of c around (get_or fs k d)) taken (anchor_of (place_of c around (get_or fs k d))))
+    (marks_from c around (taken_with taken (anchor_of (place_of c around (get_or fs k d)))) (k + 1 + 1) (drop (k + 1) fs))
+
+-- a text and then more, appended part by part
+pub on : (before first rest all : List ℕ) (left : List ℕ) → before ++ left ≡ all → left ≡ first ++ rest → (before ++ first) ++ rest ≡ all
+on before first rest all left is cut = append_assoc before first rest ∙ ap (λ text. before ++ text) (sym cut) ∙ is
+
+-- the text of a mark or a dot at a point
+pub mark_here : (number : ℕ) (line : List ℕ) (strokes : List Stroke) (taken : List ℕ) (held : Option PagePoint) (p : PagePoint) → held ≡ Some p
+    → flat_map shape_text (mark_at number line strokes taken held) ≡ mark_text (mark_in number line strokes p (free_field taken (field_of p)))
+mark_here number line strokes taken held p is =
+    ap (λ here. flat_map shape_text (mark_at number line strokes taken here)) is
+    ∙ append-nil (mark_text (mark_in number line strokes p (free_field taken (field_of p))))
+
+pub spot_here : (line : List ℕ) (held : Option PagePoint) (p : PagePoint) → held ≡ Some p → flat_map shape_text (spot_at line held) ≡ spot_text line p
+spot_here line held p is = ap (λ here. flat_map shape_text (spot_at line here)) is ∙ append-nil (spot_text line p)
+
+-- the text of all shapes
+pub shapes_text : (c : Cell) (around : Box4) (fs : List SubjectFinding)
+    → flat_map shape_text (shapes c around fs) ≡
+    flat_map shape_text (flat_map (record_shapes c around) (drawing_order c))
+    ++ (flat_map shape_text (finding_shapes c around fs) ++ flat_map shape_text (rows_from 1 fs))
+unfolding shapes
+shapes_text c around fs =
+    let records = flat_map (record_shapes c around) (drawing_order c) in
+    flat_map-append shape_text records (finding_shapes c around fs ++ rows_from 1 fs)
+    ∙ ap (λ text. flat_map shape_text records ++ text) (flat_map-append shape_text (finding_shapes c around fs) (rows_from 1 fs))
+
+-- lists of lists, one item more
+pub nested_more : {X Y Z : Type 0} (f : Y → List Z) (g : X → List Y) (xs : List X) (k : ℕ) (d : X) → k < length xs
+    → flat_map f (flat_map g (take (k + 1) xs)) ≡ flat_map f (flat_map g (take k xs)) ++ flat_map f (g (get_or xs k d))
+nested_more f g xs k d within =
+    ap (λ ys. flat_map f (flat_map g ys)) (take_more xs k d within)
+    ∙ ap (flat_map f) (flat_map-append g (take k xs) (get_or xs k d ∷ []))
+    ∙ flat_map-append f (flat_map g (take k xs)) (g (get_or xs k d) ++ [])
+    ∙ ap (λ last. flat_map f (flat_map g (take k xs)) ++ flat_map f last) (append-nil (g (get_or xs k d)))

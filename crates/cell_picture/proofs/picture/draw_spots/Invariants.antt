@@ -1,0 +1,8 @@
+use Rattle.std.proofs.Common.{◌≡◌, ◌++◌, take}
+use Rattle.std.specs.List.{flat_map}
+use Rattle.cell_picture.specs.ShapeText.{shape_text}
+use Rattle.cell_picture.specs.Shapes.{spot_of}
+use Rattle.cell_picture.proofs.picture.draw_spots.Given as goal
+
+abbrev pub invariant-loop-found : goal.invariant-loop-found
+invariant-loop-found g l = l.out.items ≡ l.initial.out.items ++ flat_map shape_text (flat_map (spot_of l.look l.around) (take l.found-index l.findings))

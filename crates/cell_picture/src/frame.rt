@@ -1,0 +1,275 @@
+//! What stands around the picture: its names, its style, its key and its frame.
+
+ghost use Rattle.std.specs.Prelude.{◌≡◌, ◌++◌, ◌∷◌, [], OnOk, codes, decimal};
+ghost use Rattle.text_spec.specs.Lines.{spaced_words};
+ghost use Rattle.cell_picture.specs.Picture.{area_key_text, corner_text, counted_text, description_head, description_tail, description_text, frame_text, head_text, heading_text, key_text, line_style, mark_style, names_text, north_west_text, opening_text, page_height as spec_page_height, side_words, south_east_text};
+ghost use Rattle.cell_picture.specs.ShapeText.{text_at};
+
+use crate::escape::push_escaped;
+use crate::page::{PAGE_LEFT, PAGE_WIDTH};
+use crate::shape::{LIST_TOP, ROW_HEIGHT};
+use crate::text::{push_pair, push_text_at};
+use geometry_spec::Box4;
+use itoa::Buffer;
+use s57_types::Cell;
+use std::alloc::AllocError;
+use text_lines::{push_text, push_word};
+
+/// How high the page is with so many findings, in page units.
+fn page_height(total: u32) -> u64
+    ensures { result ≡ spec_page_height total }
+{
+    u64::from(LIST_TOP) + (u64::from(total) + 2) * u64::from(ROW_HEIGHT)
+}
+
+/// Appends the beginning of the document.
+fn push_svg(out: &mut Vec<u8>, total: u32) -> Result<(), AllocError>
+    ensures { OnOk result (out.new.items ≡ out.old.items ++ opening_text total) }
+{
+    push_text(
+        out,
+        "<svg xmlns='http://www.w3.org/2000/svg' width='1200' viewBox='0 0",
+    )?;
+    push_pair(out, PAGE_WIDTH, page_height(total))?;
+    push_text(out, "'>\n")
+}
+
+fn push_count(out: &mut Vec<u8>, word: &str, count: usize) -> Result<(), AllocError>
+    ensures { OnOk result (out.new.items ≡ out.old.items ++ spaced_words (word.now ∷ decimal count ∷ [])) }
+{
+    let mut buffer = Buffer::new();
+    push_word(out, word)?;
+    push_word(out, buffer.format(count))
+}
+
+/// Appends the name of the data set, and what was counted.
+fn push_counted(out: &mut Vec<u8>, cell: &Cell, total: u32) -> Result<(), AllocError>
+    ensures { OnOk result (out.new.items ≡ out.old.items ++ counted_text cell.now total) }
+{
+    push_escaped(out, cell.head.dsnm.as_slice())?;
+    push_count(out, "vi", cell.vi.len())?;
+    push_count(out, "vc", cell.vc.len())?;
+    push_count(out, "ve", cell.ve.len())?;
+    push_count(out, "fe", cell.fe.len())?;
+    push_count(out, "findings", total as usize)
+}
+
+fn push_side(out: &mut Vec<u8>, side: &str, coordinate: i32) -> Result<(), AllocError>
+    ensures { OnOk result (out.new.items ≡ out.old.items ++ spaced_words (side_words side.now coordinate)) }
+{
+    let mut buffer = Buffer::new();
+    push_word(out, side)?;
+    push_word(out, buffer.format(coordinate))
+}
+
+fn push_north_west(out: &mut Vec<u8>, around: Box4) -> Result<(), AllocError>
+    ensures { OnOk result (out.new.items ≡ out.old.items ++ north_west_text around) }
+{
+    push_side(out, "north", around.north)?;
+    push_side(out, "west", around.west)
+}
+
+fn push_south_east(out: &mut Vec<u8>, around: Box4) -> Result<(), AllocError>
+    ensures { OnOk result (out.new.items ≡ out.old.items ++ south_east_text around) }
+{
+    push_side(out, "south", around.south)?;
+    push_side(out, "east", around.east)
+}
+
+fn push_names(out: &mut Vec<u8>, cell: &Cell, total: u32) -> Result<(), AllocError>
+    ensures { OnOk result (out.new.items ≡ out.old.items ++ names_text cell.now total) }
+{
+    push_text(out, "<title>")?;
+    push_counted(out, cell, total)?;
+    push_text(out, "</title>\n")
+}
+
+fn push_description_head(out: &mut Vec<u8>) -> Result<(), AllocError>
+    ensures { OnOk result (out.new.items ≡ out.old.items ++ description_head) }
+{
+    push_text(
+        out,
+        "<desc>A chart cell and its findings, north up, in integer coordinate units:",
+    )
+}
+
+fn push_description_tail(out: &mut Vec<u8>) -> Result<(), AllocError>
+    ensures { OnOk result (out.new.items ≡ out.old.items ++ description_tail) }
+{
+    push_text(
+        out,
+        ". A finding that has a place is marked there, by its number where there are at most 500, else by a dot.",
+    )?;
+    push_text(
+        out,
+        " Each finding has a row with its number in the list below the picture.</desc>\n",
+    )
+}
+
+/// Appends the description for those who don't see the picture.
+fn push_description(out: &mut Vec<u8>, around: Box4) -> Result<(), AllocError>
+    ensures { OnOk result (out.new.items ≡ out.old.items ++ description_text around) }
+{
+    push_description_head(out)?;
+    push_north_west(out, around)?;
+    push_south_east(out, around)?;
+    push_description_tail(out)
+}
+
+/// Appends how records are drawn.
+fn push_line_style(out: &mut Vec<u8>) -> Result<(), AllocError>
+    ensures { OnOk result (out.new.items ≡ out.old.items ++ line_style) }
+{
+    push_text(
+        out,
+        "<style>svg{background:#fff}path{fill:none;stroke-linecap:round;stroke-linejoin:round}\n",
+    )?;
+    push_text(
+        out,
+        ".frame{stroke:#000;stroke-width:8}.edge{stroke:#666;stroke-width:14}.node{stroke:#004a80;stroke-width:56}\n",
+    )?;
+    push_text(
+        out,
+        ".isolated{stroke:#004a80;stroke-width:70;stroke-linecap:square}.sounding{stroke:#3b8fc4;stroke-width:36}\n",
+    )?;
+    push_text(
+        out,
+        ".group1,.coverage{fill-rule:evenodd;fill-opacity:.25}.group1{fill:#56b4e9}.coverage{fill:#f0e442}\n",
+    )
+}
+
+/// Appends how findings and texts are drawn.
+fn push_mark_style(out: &mut Vec<u8>) -> Result<(), AllocError>
+    ensures { OnOk result (out.new.items ≡ out.old.items ++ mark_style) }
+{
+    push_text(
+        out,
+        ".mark,.spot{stroke:#d55e00;stroke-width:100;stroke-opacity:.45}.spot{stroke-width:50}\n",
+    )?;
+    push_text(
+        out,
+        ".lead{stroke:#d55e00;stroke-width:12}text{font-family:sans-serif;font-size:150px}\n",
+    )?;
+    push_text(
+        out,
+        ".label{font-weight:bold;font-size:190px;text-anchor:middle;dominant-baseline:central;\n",
+    )?;
+    push_text(
+        out,
+        "paint-order:stroke;stroke:#fff;stroke-width:50}.heading{font-size:260px}</style>\n",
+    )
+}
+
+/// Appends what each sort of line and dot stands for.
+fn push_key(out: &mut Vec<u8>) -> Result<(), AllocError>
+    ensures { OnOk result (out.new.items ≡ out.old.items ++ key_text) }
+{
+    push_text(
+        out,
+        "<path class='edge' d='M 600 590 850 590h0'/><text transform='translate(950 640)'>edge</text>\n",
+    )?;
+    push_text(
+        out,
+        "<path class='node' d='M 1700 590h0'/><text transform='translate(1800 640)'>connected node</text>\n",
+    )?;
+    push_text(
+        out,
+        "<path class='isolated' d='M 3300 590h0'/><text transform='translate(3400 640)'>isolated node</text>\n",
+    )?;
+    push_text(
+        out,
+        "<path class='sounding' d='M 4750 590h0'/><text transform='translate(4850 640)'>sounding</text>\n",
+    )
+}
+
+/// Appends what each filling and a mark stand for.
+fn push_area_key(out: &mut Vec<u8>) -> Result<(), AllocError>
+    ensures { OnOk result (out.new.items ≡ out.old.items ++ area_key_text) }
+{
+    push_text(
+        out,
+        "<path class='group1' d='M 5800 500 6050 500 6050 680 5800 680h0'/><text transform='translate(6150 640)'>Group 1 area</text>\n",
+    )?;
+    push_text(
+        out,
+        "<path class='coverage' d='M 7450 500 7700 500 7700 680 7450 680h0'/><text transform='translate(7800 640)'>coverage</text>\n",
+    )?;
+    push_text(
+        out,
+        "<path class='mark' d='M 8800 590 9050 590h0'/><text transform='translate(9150 640)'>finding, by its number in the list</text>\n",
+    )
+}
+
+fn push_heading(out: &mut Vec<u8>, cell: &Cell, total: u32) -> Result<(), AllocError>
+    ensures { OnOk result (out.new.items ≡ out.old.items ++ heading_text cell.now total) }
+{
+    push_text_at(out, "heading", PAGE_LEFT, 330)?;
+    push_counted(out, cell, total)?;
+    push_text(out, "</text>\n")
+}
+
+/// Appends what stands before the frame.
+pub(crate) fn push_head(
+    out: &mut Vec<u8>,
+    around: Box4,
+    cell: &Cell,
+    total: u32,
+) -> Result<(), AllocError>
+    ensures { OnOk result (out.new.items ≡ out.old.items ++ head_text around cell.now total) }
+{
+    push_svg(out, total)?;
+    push_names(out, cell, total)?;
+    push_description(out, around)?;
+    push_line_style(out)?;
+    push_mark_style(out)?;
+    push_heading(out, cell, total)?;
+    push_key(out)?;
+    push_area_key(out)
+}
+
+fn push_corner_head(out: &mut Vec<u8>, y: u64) -> Result<(), AllocError>
+    ensures { OnOk result (out.new.items ≡ out.old.items ++ text_at (codes "corner") PAGE_LEFT y) }
+{
+    push_text_at(out, "corner", PAGE_LEFT, y)
+}
+
+fn push_upper_corner(out: &mut Vec<u8>, around: Box4) -> Result<(), AllocError>
+    ensures { OnOk result (out.new.items ≡ out.old.items ++ corner_text 850 (north_west_text around)) }
+{
+    push_corner_head(out, 850)?;
+    push_north_west(out, around)?;
+    push_text(out, "</text>\n")
+}
+
+fn push_lower_corner(out: &mut Vec<u8>, around: Box4) -> Result<(), AllocError>
+    ensures { OnOk result (out.new.items ≡ out.old.items ++ corner_text 11910 (south_east_text around)) }
+{
+    push_corner_head(out, 11_910)?;
+    push_south_east(out, around)?;
+    push_text(out, "</text>\n")
+}
+
+fn push_list_head(out: &mut Vec<u8>) -> Result<(), AllocError>
+    ensures { OnOk result (out.new.items ≡ out.old.items
+        ++ corner_text 12290 (codes "Findings. One that has no place in the picture stands in this list alone.")) }
+{
+    push_corner_head(out, 12_290)?;
+    push_text(
+        out,
+        "Findings. One that has no place in the picture stands in this list alone.",
+    )?;
+    push_text(out, "</text>\n")
+}
+
+/// Appends the frame around the picture, with the coordinates of its sides, and the head of the list.
+pub(crate) fn push_frame(out: &mut Vec<u8>, around: Box4) -> Result<(), AllocError>
+    ensures { OnOk result (out.new.items ≡ out.old.items ++ frame_text around) }
+{
+    push_text(
+        out,
+        "<path class='frame' d='M 600 900 11390 900 11390 11690 600 11690z'/>\n",
+    )?;
+    push_upper_corner(out, around)?;
+    push_lower_corner(out, around)?;
+    push_list_head(out)
+}
