@@ -1,5 +1,0 @@
-mod benches;
-mod drawn;
-mod lines;
-mod north;
-mod points;
