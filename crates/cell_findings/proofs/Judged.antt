@@ -299,6 +299,10 @@ module _ (c : Cell) (w : IsWritable c) where
       (all_behind (λ s. is_subject c s ≡ true) (records_and_sides names) (part_pairs names ++ map Ident (identities_in c))
       (λ k d within. sym (judged_is (get_or (judged_subjects c) k d)) ∙ holds-item subject_order total_subjects (judged_subjects c) k d within))
 
+  -- each name of a connected node or an edge is that of one
+  pub parts_are_chained : All (λ n. is_chain_part c n ≡ true) (filter is_part_name names)
+  parts_are_chained = λ k d within. sym (has_part (get_or parts k d)) ∙ holds-item name_order total_names parts k d within
+
   -- ---- each subject is a possible one
   abbrev all_names : List RecName
   all_names = record_names c

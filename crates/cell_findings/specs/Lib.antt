@@ -4,3 +4,4 @@ pub mod Judged
 pub mod Gathered
 pub mod Points
 pub mod Near
+pub mod Parts

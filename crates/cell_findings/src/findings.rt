@@ -1,16 +1,18 @@
 //! The findings of a cell.
 
-ghost use Rattle.std.specs.Prelude.{◌≤◌, ◌++◌, All, IsTrue, MatchResult, length, map};
+ghost use Rattle.std.specs.Prelude.{◌≤◌, ◌++◌, All, IsTrue, MatchResult, filter, length, map};
 ghost use Rattle.std.specs.List.{flat_map};
 ghost use Rattle.std.specs.List.Sorted.{IsStrictlySortedBy};
+ghost use Rattle.s57_types.specs.declared.name.RecName.{RecName as SpecRecName};
 ghost use Rattle.cell_spec.specs.Names.{name_order};
 ghost use Rattle.cell_spec.specs.Writable.{IsWritable};
 ghost use Rattle.cell_spec.specs.declared.key.Subject.{Subject as SpecSubject};
 ghost use Rattle.cell_spec.specs.declared.key.Subject.TheVariants.{Ident as SubjectIdent};
 ghost use Rattle.rule_spec.specs.Findings.{is_subject};
+ghost use Rattle.rule_spec.specs.Records.{is_chain_part};
 ghost use Rattle.cell_findings.specs.AllFindings.{IsAllOf, IsFindingRefusal};
 ghost use Rattle.cell_findings.specs.Gathered.{IsGathered, IsOver};
-ghost use Rattle.cell_findings.specs.Judged.{judged_subjects, part_pairs, records_and_sides, subject_findings};
+ghost use Rattle.cell_findings.specs.Judged.{is_part_name, judged_subjects, part_pairs, records_and_sides, subject_findings};
 
 use crate::list::{Findings, SubjectFinding};
 use crate::names::{edge_names, identities_in, names_in, part_names};
@@ -51,6 +53,7 @@ fn push_pairs_and_identities<L: Ledger>(
     limit: usize,
     steps: &mut Steps<L>,
 ) -> Result<(), FindingRefusal>
+    requires parts { All (λ (n : SpecRecName). IsTrue (is_chain_part look.now n)) (filter is_part_name names.now) }
     requires subjects { All (λ (s : SpecSubject). IsTrue (is_subject look.now s)) (part_pairs names.now) }
     requires ascending { IsStrictlySortedBy name_order names.now }
     requires within { length gathered.old.items ≤ limit }

@@ -25,6 +25,23 @@ fn push_findings(
     Ok(())
 }
 
+/// Appends the findings about a subject.
+pub(crate) fn push_found(
+    gathered: &mut Vec<SubjectFinding>,
+    subject: Subject,
+    findings: &[Finding],
+    limit: usize,
+) -> Result<(), FindingRefusal>
+    ensures { MatchResult result (λ _. IsGathered limit (gathered.old.items ++ map (with_subject subject) findings.now)
+        gathered.new.items) (IsOver limit (gathered.old.items ++ map (with_subject subject) findings.now)) }
+{
+    push_findings(gathered, subject, findings)?;
+    if gathered.len() > limit {
+        return Err(FindingRefusal::TooMany);
+    }
+    Ok(())
+}
+
 /// Appends the findings of a row.
 pub(crate) fn push_row(
     gathered: &mut Vec<SubjectFinding>,
@@ -34,9 +51,5 @@ pub(crate) fn push_row(
     ensures { MatchResult result (λ _. IsGathered limit (gathered.old.items ++ map (with_subject row.now.subject) row.now.findings)
         gathered.new.items) (IsOver limit (gathered.old.items ++ map (with_subject row.now.subject) row.now.findings)) }
 {
-    push_findings(gathered, row.subject, row.findings.as_slice())?;
-    if gathered.len() > limit {
-        return Err(FindingRefusal::TooMany);
-    }
-    Ok(())
+    push_found(gathered, row.subject, row.findings.as_slice(), limit)
 }

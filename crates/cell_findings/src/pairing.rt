@@ -7,19 +7,21 @@ ghost use Rattle.s57_types.specs.declared.name.RecName.{RecName as SpecRecName};
 ghost use Rattle.cell_spec.specs.Names.{name_order};
 ghost use Rattle.cell_spec.specs.declared.key.Subject.{Subject as SpecSubject};
 ghost use Rattle.cell_spec.specs.declared.key.Subject.TheVariants.{Pair as SubjectPair};
-ghost use Rattle.rule_spec.specs.Findings.{is_below as spec_is_below, is_subject};
+ghost use Rattle.rule_spec.specs.Findings.{findings_of_subject, is_below as spec_is_below, is_subject};
+ghost use Rattle.rule_spec.specs.Records.{is_chain_part};
 ghost use Rattle.cell_findings.specs.Gathered.{IsGathered, IsOver};
 ghost use Rattle.cell_findings.specs.Judged.{pairs_among, subject_findings};
 ghost use Rattle.cell_findings.specs.Near.{leaf_names, names_near as spec_names_near, near_pairs};
+ghost use Rattle.cell_findings.specs.Parts.{AreParts};
 
-use crate::gather::push_row;
+use crate::gather::push_found;
 use crate::list::SubjectFinding;
-use crate::part::leaves_of;
+use crate::part::{PlacedParts, parts_of};
 use crate::refusal::FindingRefusal;
 use box_tree::{BoxTree, Leaf};
-use cell_spec::{Names, ascending_names, orders_are_by_parts};
+use cell_spec::{Finding, Names, Subject, ascending_names, orders_are_by_parts};
 use chain_topo::{ListLook, Steps};
-use check_pairs::verdict_pair;
+use check_pairs::{ChainPart, pair_findings};
 use finding_laws::apart_pairs_are_clean;
 use s57_types::RecName;
 use std::alloc::{AllocError, Global};
@@ -42,21 +44,45 @@ fn names_near(alloc: Global, tree: &BoxTree, leaf: Leaf) -> Result<Names, AllocE
     Ok(ascending_names(names))
 }
 
+/// The findings about two connected nodes or edges. One that isn't among the parts is looked up.
+fn found_of_pair<L: Ledger>(
+    alloc: Global,
+    look: &ListLook,
+    placed: &PlacedParts,
+    pair: (RecName, RecName),
+    steps: &mut Steps<L>,
+) -> Result<Vec<Finding>, AllocError>
+    requires subject { IsTrue (is_subject look.now (SubjectPair pair.0 pair.1)) }
+    requires parts { AreParts look.now placed.now }
+    ensures { IfOk result (λ findings. findings.items ≡ findings_of_subject look.now (SubjectPair pair.0 pair.1)) }
+{
+    if let Some(first) = placed.part(pair.0) {
+        if let Some(second) = placed.part(pair.1) {
+            return pair_findings(alloc, first, second);
+        }
+    }
+    let first = ChainPart::find(alloc, look, pair.0, steps)?;
+    let second = ChainPart::find(alloc, look, pair.1, steps)?;
+    pair_findings(alloc, &first, &second)
+}
+
 fn push_pair<L: Ledger>(
     alloc: Global,
     gathered: &mut Vec<SubjectFinding>,
     look: &ListLook,
+    placed: &PlacedParts,
     pair: (RecName, RecName),
     limit: usize,
     steps: &mut Steps<L>,
 ) -> Result<(), FindingRefusal>
-    requires { IsTrue (is_subject look.now (SubjectPair pair.0 pair.1)) }
+    requires subject { IsTrue (is_subject look.now (SubjectPair pair.0 pair.1)) }
+    requires parts { AreParts look.now placed.now }
     ensures { MatchResult result
         (λ _. IsGathered limit (gathered.old.items ++ subject_findings look.now (SubjectPair pair.0 pair.1)) gathered.new.items)
         (IsOver limit (gathered.old.items ++ subject_findings look.now (SubjectPair pair.0 pair.1))) }
 {
-    let row = verdict_pair(alloc, look, pair.0, pair.1, steps)?;
-    push_row(gathered, &row, limit)
+    let findings = found_of_pair(alloc, look, placed, pair, steps)?;
+    push_found(gathered, Subject::Pair(pair.0, pair.1), &findings, limit)
 }
 
 /// Appends the findings about the pairs of one with others.
@@ -64,11 +90,13 @@ fn push_pairs_with<L: Ledger>(
     alloc: Global,
     gathered: &mut Vec<SubjectFinding>,
     look: &ListLook,
+    placed: &PlacedParts,
     name: RecName,
     others: &[RecName],
     limit: usize,
     steps: &mut Steps<L>,
 ) -> Result<(), FindingRefusal>
+    requires parts { AreParts look.now placed.now }
     requires subjects { All (λ (other : SpecRecName). IsTrue (is_subject look.now (SubjectPair name other))) others.now }
     requires within { length gathered.old.items ≤ limit }
     ensures { MatchResult result
@@ -76,7 +104,7 @@ fn push_pairs_with<L: Ledger>(
         (IsOver limit (gathered.old.items ++ flat_map (subject_findings look.now) (map (SubjectPair name) others.now))) }
 {
     for other in others {
-        push_pair(alloc, gathered, look, (name, *other), limit, steps)?;
+        push_pair(alloc, gathered, look, placed, (name, *other), limit, steps)?;
     }
     Ok(())
 }
@@ -86,11 +114,13 @@ fn push_near_pairs<L: Ledger>(
     alloc: Global,
     gathered: &mut Vec<SubjectFinding>,
     look: &ListLook,
+    placed: &PlacedParts,
     leaves: &[Leaf],
     tree: &BoxTree,
     limit: usize,
     steps: &mut Steps<L>,
 ) -> Result<(), FindingRefusal>
+    requires parts { AreParts look.now placed.now }
     requires subjects { All (λ (s : SpecSubject). IsTrue (is_subject look.now s)) (near_pairs leaves.now) }
     requires ascending { IsStrictlySortedBy name_order (leaf_names leaves.now) }
     requires same { IsPermutation leaves.now tree.now }
@@ -105,6 +135,7 @@ fn push_near_pairs<L: Ledger>(
             alloc,
             gathered,
             look,
+            placed,
             leaf.name,
             others.as_slice(),
             limit,
@@ -124,6 +155,7 @@ pub(crate) fn push_pairs<L: Ledger>(
     limit: usize,
     steps: &mut Steps<L>,
 ) -> Result<(), FindingRefusal>
+    requires parts { All (λ (n : SpecRecName). IsTrue (is_chain_part look.now n)) names.now }
     requires subjects { All (λ (s : SpecSubject). IsTrue (is_subject look.now s)) (pairs_among names.now) }
     requires ascending { IsStrictlySortedBy name_order names.now }
     requires within { length gathered.old.items ≤ limit }
@@ -132,7 +164,8 @@ pub(crate) fn push_pairs<L: Ledger>(
         (IsOver limit (gathered.old.items ++ flat_map (subject_findings look.now) (pairs_among names.now))) }
 {
     apart_pairs_are_clean();
-    let leaves = leaves_of(alloc, look, names, steps)?;
-    let tree = BoxTree::make(alloc, leaves.to_vec(alloc)?)?;
-    push_near_pairs(alloc, gathered, look, &leaves, &tree, limit, steps)
+    let placed = parts_of(alloc, look, names, steps)?;
+    let tree = BoxTree::make(alloc, placed.leaves.to_vec(alloc)?)?;
+    let leaves = placed.leaves.as_slice();
+    push_near_pairs(alloc, gathered, look, &placed, leaves, &tree, limit, steps)
 }

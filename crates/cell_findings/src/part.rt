@@ -1,19 +1,19 @@
 //! Connected nodes and edges with the boxes around them.
 
-ghost use Rattle.std.specs.Prelude.{◌≡◌, ◌++◌, IfOk, OnOk, map, option_to_list};
-ghost use Rattle.std.specs.List.{flat_map};
-ghost use Rattle.geometry_spec.specs.Points.{Point as SpecPoint};
+ghost use Rattle.std.specs.Prelude.{◌≡◌, ◌++◌, All, IfOk, IfSome, IsTrue, OnOk};
+ghost use Rattle.s57_types.specs.declared.cell.Cell.{Cell as SpecCell};
+ghost use Rattle.s57_types.specs.declared.name.RecName.{RecName as SpecRecName};
+ghost use Rattle.check_pairs.specs.Parts.{IsPart};
 ghost use Rattle.rule_spec.specs.EdgePoints.{node_position};
-ghost use Rattle.rule_spec.specs.Records.{the_only};
-ghost use Rattle.finding_laws.specs.Pairs.{extent_of};
+ghost use Rattle.rule_spec.specs.Records.{is_chain_part, the_only};
 ghost use Rattle.cell_findings.specs.Near.{leaves_at, leaves_in};
-ghost use Rattle.cell_findings.specs.Points.{segments_at as spec_segments_at, segments_between};
+ghost use Rattle.cell_findings.specs.Parts.{AreParts};
 
 use box_tree::Leaf;
-use chain_topo::{ListLook, Look, Steps, edge_points};
-use check_words::{Segment, numbered, segments_of};
-use geometry_spec::{Box4, Point};
-use line_boxes::box_of_line;
+use chain_topo::{ListLook, Look, Steps};
+use check_pairs::ChainPart;
+use check_words::is_edge_name;
+use geometry_spec::Point;
 use s57_types::{Kind, Rec, RecName};
 use std::alloc::{AllocError, Global};
 use std::sync::ledger::Ledger;
@@ -47,87 +47,127 @@ pub(crate) fn position_at<B: Look, L: Ledger>(
     }
 }
 
-/// The segment from a point to it, if there is a point.
-fn segment_at(alloc: Global, place: Option<Point>) -> Result<Vec<Segment>, AllocError>
-    ensures { IfOk result (λ segments. segments.items ≡ map (λ (p : SpecPoint). (p, p)) (option_to_list place)) }
-{
-    match place {
-        Some(place) => Ok(vec![in alloc; (place, place)]?),
-        None => Ok(Vec::new(alloc)),
+/// Connected nodes and edges of a cell in the order of their names, and the boxes around those that have a point.
+pub(crate) struct PlacedParts<'a> {
+    pub(crate) nodes: Vec<ChainPart<'a>>,
+    pub(crate) edges: Vec<ChainPart<'a>>,
+    pub(crate) leaves: Vec<Leaf>,
+}
+
+impl<'a> Drop for PlacedParts<'a> {
+    fn drop(self) {
+        let PlacedParts {
+            nodes: _,
+            edges: _,
+            leaves: _,
+        } = self;
     }
 }
 
-/// The segments between the points of an edge, if it has a line.
-fn edge_segments<L: Ledger>(
-    alloc: Global,
-    look: &ListLook,
-    name: RecName,
-    steps: &mut Steps<L>,
-) -> Result<Vec<Segment>, AllocError>
-    ensures { IfOk result (λ segments. segments.items ≡ segments_between look.now name) }
+fn push_leaf(leaves: &mut Vec<Leaf>, part: &ChainPart) -> Result<(), AllocError>
+    ensures { (c : SpecCell) → IsPart c part.now → OnOk result (leaves.new.items ≡ leaves.old.items ++ leaves_at c part.now.name) }
 {
-    match edge_points(alloc, look, name, steps)? {
-        Some(points) => segments_of(alloc, points.as_slice()),
-        None => Ok(Vec::new(alloc)),
-    }
-}
-
-fn segments_at<L: Ledger>(
-    alloc: Global,
-    look: &ListLook,
-    name: RecName,
-    steps: &mut Steps<L>,
-) -> Result<Vec<Segment>, AllocError>
-    ensures { IfOk result (λ segments. segments.items ≡ spec_segments_at look.now name) }
-{
-    match name.kind {
-        Kind::Vc => segment_at(alloc, position_at(look, name, steps)),
-        Kind::Ve => edge_segments(alloc, look, name, steps),
-        _ => Ok(Vec::new(alloc)),
-    }
-}
-
-fn extent_at<L: Ledger>(
-    alloc: Global,
-    look: &ListLook,
-    name: RecName,
-    steps: &mut Steps<L>,
-) -> Result<Option<Box4>, AllocError>
-    ensures { IfOk result (λ extent. extent ≡ extent_of look.now name) }
-{
-    let segments = segments_at(alloc, look, name, steps)?;
-    let segments = numbered(alloc, &segments)?;
-    Ok(box_of_line(&segments))
-}
-
-fn push_leaf<L: Ledger>(
-    alloc: Global,
-    leaves: &mut Vec<Leaf>,
-    look: &ListLook,
-    name: RecName,
-    steps: &mut Steps<L>,
-) -> Result<(), AllocError>
-    ensures { OnOk result (leaves.new.items ≡ leaves.old.items ++ leaves_at look.now name) }
-{
-    if let Some(around) = extent_at(alloc, look, name, steps)? {
-        leaves.push(Leaf { name, around })?;
+    if let Some(around) = part.extent() {
+        leaves.push(Leaf {
+            name: part.name(),
+            around,
+        })?;
     }
     Ok(())
 }
 
-/// The connected nodes and edges of some names, in their order, each with the least box around its points. Those without a
-/// point are left out.
-pub(crate) fn leaves_of<L: Ledger>(
+/// Appends the connected node or the edge of a name, which is looked up, and the box around it.
+fn push_part<'a, L: Ledger>(
     alloc: Global,
-    look: &ListLook,
+    placed: &mut PlacedParts<'a>,
+    look: &'a ListLook,
+    name: RecName,
+    steps: &mut Steps<L>,
+) -> Result<(), AllocError>
+    requires named { IsTrue (is_chain_part look.now name) }
+    requires parts { AreParts look.now placed.old }
+    ensures parts { OnOk result (AreParts look.now placed.new) }
+    ensures leaves { OnOk result (placed.new.leaves.items ≡ placed.old.leaves.items ++ leaves_at look.now name) }
+{
+    let part = ChainPart::find(alloc, look, name, steps)?;
+    push_leaf(&mut placed.leaves, &part)?;
+    if is_edge_name(name) {
+        placed.edges.push(part)?;
+        return Ok(());
+    }
+    placed.nodes.push(part)?;
+    Ok(())
+}
+
+/// The connected nodes and edges of some names, each looked up once, with the least box around the points of each.
+pub(crate) fn parts_of<'a, L: Ledger>(
+    alloc: Global,
+    look: &'a ListLook,
     names: &[RecName],
     steps: &mut Steps<L>,
-) -> Result<Vec<Leaf>, AllocError>
-    ensures { IfOk result (λ leaves. leaves.items ≡ leaves_in look.now names.now) }
+) -> Result<PlacedParts<'a>, AllocError>
+    requires { All (λ (n : SpecRecName). IsTrue (is_chain_part look.now n)) names.now }
+    ensures parts { IfOk result (AreParts look.now) }
+    ensures leaves { IfOk result (λ placed. placed.leaves.items ≡ leaves_in look.now names.now) }
 {
-    let mut leaves = Vec::new(alloc);
+    let mut placed = PlacedParts {
+        nodes: Vec::new(alloc),
+        edges: Vec::new(alloc),
+        leaves: Vec::with_capacity(alloc, names.len())?,
+    };
     for name in names {
-        push_leaf(alloc, &mut leaves, look, *name, steps)?;
+        push_part(alloc, &mut placed, look, *name, steps)?;
     }
-    Ok(leaves)
+    Ok(placed)
+}
+
+/// The part at a place, if it has a name.
+fn named_at<'a, 'b>(
+    parts: &'b [ChainPart<'a>],
+    place: usize,
+    name: RecName,
+) -> Option<&'b ChainPart<'a>>
+    ensures named { IfSome result (λ part. part.now.name ≡ name) }
+    ensures held { (c : SpecCell) → All (IsPart c) parts.now → IfSome result (λ part. IsPart c part.now) }
+{
+    match parts.get(place) {
+        Some(part) if part.name() == name => Some(part),
+        _ => None,
+    }
+}
+
+/// The place of a name among ascending parts of one kind where no number is left out between them.
+fn likely_place(parts: &[ChainPart], name: RecName) -> usize {
+    match parts.first() {
+        Some(part) => name.id.saturating_sub(part.name().id) as usize,
+        None => 0,
+    }
+}
+
+/// The part of a name among ascending ones of its kind.
+fn part_among<'a, 'b>(parts: &'b [ChainPart<'a>], name: RecName) -> Option<&'b ChainPart<'a>>
+    ensures named { IfSome result (λ part. part.now.name ≡ name) }
+    ensures held { (c : SpecCell) → All (IsPart c) parts.now → IfSome result (λ part. IsPart c part.now) }
+{
+    match named_at(parts, likely_place(parts, name), name) {
+        Some(part) => Some(part),
+        None => named_at(
+            parts,
+            parts.partition_point(|part| part.name() < name),
+            name,
+        ),
+    }
+}
+
+impl<'a> PlacedParts<'a> {
+    /// The connected node or the edge of a name.
+    pub(crate) fn part(&self, name: RecName) -> Option<&ChainPart<'a>>
+        ensures named { IfSome result (λ part. part.now.name ≡ name) }
+        ensures held { (c : SpecCell) → AreParts c self.now → IfSome result (λ part. IsPart c part.now) }
+    {
+        match name.kind {
+            Kind::Ve => part_among(&self.edges, name),
+            _ => part_among(&self.nodes, name),
+        }
+    }
 }

@@ -2,3 +2,5 @@ pub mod NoContact
 pub mod Keys
 pub mod Parts
 pub mod Places
+pub mod Extents
+pub mod NumberedSegments

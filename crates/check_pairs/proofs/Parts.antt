@@ -34,11 +34,11 @@ no_node c n v h k =
     rw h (rw rank refl)
 
 -- ---- a rule is silent about what isn't of its kind
-no_line : (c : Cell) (n : RecName) → edge_named c n ≡ None → edge_line_of c n ≡ None
+pub no_line : (c : Cell) (n : RecName) → edge_named c n ≡ None → edge_line_of c n ≡ None
 unfolding edge_line_of
 no_line c n h = ap (option_and_then (line_of c)) h
 
-no_place : (c : Cell) (n : RecName) → node_named c n ≡ None → node_position c n ≡ None
+pub no_place : (c : Cell) (n : RecName) → node_named c n ≡ None → node_position c n ≡ None
 no_place c n h = ap (option_and_then (λ (node : Vector). the_only node.plane)) h
 
 none_with_first : (kind : ℕ) (c : Cell) (a b : RecName) → edge_named c a ≡ None → contact_of_lines kind c (edge_line_of c a) (edge_line_of c b) ≡ []

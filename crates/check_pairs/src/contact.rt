@@ -1,9 +1,7 @@
 //! The first illegal contact of two lines.
 
-ghost use Rattle.std.specs.Prelude.{◌≡◌, ◌++◌, IfOk, OnOk, Some, find, map};
-ghost use Rattle.std.specs.List.{enumerate_from};
+ghost use Rattle.std.specs.Prelude.{◌≡◌, Some, find, map, option_to_list};
 ghost use Rattle.std.specs.Option.{option_copied};
-ghost use Rattle.rule_spec.specs.EdgePoints.{segments_of as spec_segments};
 ghost use Rattle.rule_spec.specs.Vectors.{each_with_each, meeting_of_segments as spec_meeting};
 ghost use Rattle.rule_spec.specs.Contacts.{is_on as spec_is_on, meet_at_one_of as spec_meet_at, is_illegal as spec_illegal};
 ghost use Rattle.rule_spec.specs.Contacts.{have_illegal_contact as spec_have_illegal};
@@ -11,13 +9,13 @@ ghost use Rattle.line_boxes.specs.LineBoxes.{line_box};
 ghost use Rattle.check_pairs.specs.SharedPlaces.{is_end_of as spec_is_end_of, place_if, shared_places as spec_shared_places};
 ghost use Rattle.check_pairs.specs.SharedPlaces.{first_contact as spec_first_contact};
 
-use check_words::{Numbered, Segment, numbered, segments_of};
+use crate::line::SegmentedLine;
+use check_words::{Numbered, Segment};
 use geo_exact::{meeting, on_segment};
 use geometry_spec::{Box4, MeetCase, Point};
-use line_boxes::{are_disjoint, box_of_line, box_of_segment};
+use line_boxes::{are_disjoint, box_of_segment};
 use rule_spec::EdgeLine;
 use s57_types::RecName;
-use std::alloc::{AllocError, Global};
 
 /// Whether a point lies on a segment.
 pub(crate) fn is_on(s: Segment, w: Point) -> bool
@@ -110,32 +108,24 @@ fn first_contact_by_rows(
     None
 }
 
-/// The first illegal contact of two lists of segments. Lines whose boxes are disjoint have none.
-fn first_contact_of_segments(
+/// The first illegal contact of two lines that may meet at these places. Lines whose boxes are disjoint have none.
+fn first_contact_at(
     places: &[Point],
-    first: &[Numbered],
-    second: &[Numbered],
+    first: &SegmentedLine,
+    second: &SegmentedLine,
 ) -> Option<(Numbered, Numbered)>
-    ensures { result ≡ find (spec_have_illegal places.now) (each_with_each first.now second.now) }
+    ensures { result ≡ spec_first_contact places.now first.now second.now }
 {
-    let Some(first_box) = box_of_line(first) else {
+    let Some(first_box) = first.around() else {
         return None;
     };
-    let Some(second_box) = box_of_line(second) else {
+    let Some(second_box) = second.around() else {
         return None;
     };
     if are_disjoint(first_box, second_box) {
         return None;
     }
-    first_contact_by_rows(places, first, second, second_box)
-}
-
-fn numbered_segments(alloc: Global, line: &EdgeLine) -> Result<Vec<Numbered>, AllocError>
-    ensures { IfOk result (λ list. list.items ≡ enumerate_from 1 (spec_segments line.now.points)) }
-{
-    let segments = segments_of(alloc, line.points.as_slice())?;
-    let list = numbered(alloc, &segments)?;
-    Ok(list)
+    first_contact_by_rows(places, first.segments(), second.segments(), second_box)
 }
 
 fn is_end_of(line: &EdgeLine, name: RecName) -> bool
@@ -144,43 +134,32 @@ fn is_end_of(line: &EdgeLine, name: RecName) -> bool
     name == line.begins || name == line.ends
 }
 
-fn push_place(
-    places: &mut Vec<Point>,
-    is_shared: bool,
-    place: Option<&Point>,
-) -> Result<(), AllocError>
-    ensures { OnOk result (places.new.items ≡ places.old.items ++ place_if is_shared (option_copied place.entry)) }
+/// A place, if two lines share the node that is there.
+fn shared_place(is_shared: bool, place: Option<&Point>) -> Option<Point>
+    ensures { option_to_list result ≡ place_if is_shared (option_copied place.entry) }
 {
-    if let Some(place) = place {
-        if is_shared {
-            places.push(*place)?;
-        }
+    if is_shared {
+        return place.copied();
     }
-    Ok(())
-}
-
-/// The places of the nodes that two lines share.
-fn shared_places(alloc: Global, a: &EdgeLine, b: &EdgeLine) -> Result<Vec<Point>, AllocError>
-    ensures { IfOk result (λ places. places.items ≡ spec_shared_places a.now b.now) }
-{
-    let points = a.points.as_slice();
-    let mut places = Vec::new(alloc);
-    push_place(&mut places, is_end_of(b, a.begins), points.first())?;
-    push_place(&mut places, is_end_of(b, a.ends), points.last())?;
-    Ok(places)
+    None
 }
 
 /// The first illegal contact of two lines: the least two segments by the number on the first line, then on the second.
 /// They may meet at the places of nodes that both name.
 pub(crate) fn first_contact(
-    alloc: Global,
-    a: &EdgeLine,
-    b: &EdgeLine,
-) -> Result<Option<(Numbered, Numbered)>, AllocError>
-    ensures { IfOk result (λ pair. pair ≡ spec_first_contact (spec_shared_places a.now b.now) a.now b.now) }
+    first: &SegmentedLine,
+    second: &SegmentedLine,
+) -> Option<(Numbered, Numbered)>
+    ensures { result ≡ spec_first_contact (spec_shared_places first.now second.now) first.now second.now }
 {
-    let places = shared_places(alloc, a, b)?;
-    let first = numbered_segments(alloc, a)?;
-    let second = numbered_segments(alloc, b)?;
-    Ok(first_contact_of_segments(&places, &first, &second))
+    let (a, b) = (first.line(), second.line());
+    let points = a.points.as_slice();
+    let begins = shared_place(is_end_of(b, a.begins), points.first());
+    let ends = shared_place(is_end_of(b, a.ends), points.last());
+    match (begins, ends) {
+        (Some(p), Some(q)) => first_contact_at(&[p, q], first, second),
+        (Some(p), None) => first_contact_at(&[p], first, second),
+        (None, Some(q)) => first_contact_at(&[q], first, second),
+        (None, None) => first_contact_at(&[], first, second),
+    }
 }

@@ -1,6 +1,6 @@
 //! The findings about two edges, two nodes, or a node and an edge.
 
-ghost use Rattle.std.specs.Prelude.{◌≡◌, ◌≤◌, ◌+◌, ◌++◌, IfOk, OnOk, Some, map};
+ghost use Rattle.std.specs.Prelude.{◌≡◌, ◌++◌, IfOk, OnOk, Some, map};
 ghost use Rattle.std.specs.List.{position_from};
 ghost use Rattle.s57_types.specs.declared.cell.Cell.{Cell as SpecCell};
 ghost use Rattle.s57_types.specs.declared.name.RecName.{RecName as SpecRecName};
@@ -9,21 +9,22 @@ ghost use Rattle.cell_spec.specs.Lookup.{lookup_record};
 ghost use Rattle.rule_spec.specs.declared.kind.TheConstants.{NODE_ON_EDGE, SAME_PLACE};
 ghost use Rattle.rule_spec.specs.Contacts.{is_on as spec_is_on, touch_at_an_end as spec_touch, kind_of_contact as spec_kind};
 ghost use Rattle.rule_spec.specs.Contacts.{are_same_place as spec_same, same_place, segment_under, node_on_edge};
-ghost use Rattle.rule_spec.specs.EdgePoints.{Segment as SpecSegment};
 ghost use Rattle.rule_spec.specs.Findings.{finding};
 ghost use Rattle.rule_spec.specs.Records.{edge_named};
+ghost use Rattle.rule_spec.specs.Vectors.{Numbered as SpecNumbered};
 ghost use Rattle.check_pairs.specs.Contacts.{contact_findings, edge_contacts};
+ghost use Rattle.check_pairs.specs.Parts.{IsPart};
+ghost use Rattle.check_pairs.specs.SharedPlaces.{first_contact as first_contact_of, shared_places};
 
 use crate::contact::{first_contact, is_on, meeting_of_segments};
-use crate::part::{names_node, position_of};
+use crate::line::SegmentedLine;
+use crate::part::{ChainPart, names_node, position_of};
 use cell_spec::Finding;
-use chain_topo::{Look, Steps, edge_line};
-use check_words::{Numbered, Segment, number, same_point, segments_of};
+use check_words::{Numbered, Segment, number, same_point};
 use geometry_spec::{MeetCase, Point};
-use rule_spec::{COINCIDE, CROSS, EdgeLine, NODE_ON_EDGE, SAME_PLACE, TOUCH};
-use s57_types::{RecName, Vector};
+use rule_spec::{COINCIDE, CROSS, NODE_ON_EDGE, SAME_PLACE, TOUCH};
+use s57_types::Vector;
 use std::alloc::{AllocError, Global};
-use std::sync::ledger::Ledger;
 
 fn touch_at_an_end(s: Segment, t: Segment) -> bool
     ensures { result ≡ spec_touch s t }
@@ -53,31 +54,33 @@ fn push_contact(findings: &mut Vec<Finding>, a: Numbered, b: Numbered) -> Result
     Ok(())
 }
 
-/// The findings about two edges: Cross, Touch or Coincide by their first illegal contact. It makes at most six
-/// look-ups.
-pub(crate) fn edge_pair<B: Look, L: Ledger>(
+/// The findings about two lines: Cross, Touch or Coincide by their first illegal contact.
+fn line_pair(
     alloc: Global,
-    look: &B,
-    a: RecName,
-    b: RecName,
-    steps: &mut Steps<L>,
+    first: &SegmentedLine,
+    second: &SegmentedLine,
 ) -> Result<Vec<Finding>, AllocError>
-    ensures found { IfOk result (λ findings. findings.items ≡ edge_contacts (B.cell look.now) a b) }
-    ensures steps { steps.new ≤ steps.old + 6 }
-    ensures counted { steps.old ≤ steps.new }
+    ensures { IfOk result (λ findings. findings.items ≡ contact_findings (first_contact_of (shared_places first.now second.now) first.now second.now)) }
 {
     let mut findings = Vec::new(alloc);
-    let Some(first) = edge_line(alloc, look, a, steps)? else {
-        return Ok(findings);
-    };
-    let Some(second) = edge_line(alloc, look, b, steps)? else {
-        return Ok(findings);
-    };
-    let Some((s, t)) = first_contact(alloc, &first, &second)? else {
-        return Ok(findings);
-    };
-    push_contact(&mut findings, s, t)?;
+    if let Some((s, t)) = first_contact(first, second) {
+        push_contact(&mut findings, s, t)?;
+    }
     Ok(findings)
+}
+
+/// The findings about two edges: those about their lines, if both have one.
+pub(crate) fn edge_pair(
+    alloc: Global,
+    a: &ChainPart,
+    b: &ChainPart,
+) -> Result<Vec<Finding>, AllocError>
+    ensures { (c : SpecCell) → IsPart c a.now → IsPart c b.now → IfOk result (λ findings. findings.items ≡ edge_contacts c a.now.name b.now.name) }
+{
+    match (&a.line, &b.line) {
+        (Some(first), Some(second)) => line_pair(alloc, first, second),
+        _ => Ok(Vec::new(alloc)),
+    }
 }
 
 fn are_same_place(p: Option<Point>, q: Option<Point>) -> bool
@@ -108,11 +111,11 @@ pub(crate) fn node_pair(
     Ok(findings)
 }
 
-fn first_segment_under(w: Point, segments: &[Segment]) -> Option<usize>
-    ensures { result ≡ position_from (λ (s : SpecSegment). spec_is_on s w) 1 segments.now }
+fn first_segment_under(w: Point, segments: &[Numbered]) -> Option<usize>
+    ensures { result ≡ position_from (λ (s : SpecNumbered). spec_is_on s.1 w) 1 segments.now }
 {
     for (k, segment) in segments.iter().enumerate() {
-        if is_on(*segment, w) {
+        if is_on(segment.1, w) {
             return Some(k + 1);
         }
     }
@@ -120,15 +123,13 @@ fn first_segment_under(w: Point, segments: &[Segment]) -> Option<usize>
 }
 
 fn push_segment_under(
-    alloc: Global,
     findings: &mut Vec<Finding>,
     w: Point,
-    line: &EdgeLine,
+    line: &SegmentedLine,
 ) -> Result<(), AllocError>
     ensures { OnOk result (findings.new.items ≡ findings.old.items ++ map (finding NODE_ON_EDGE) (segment_under (Some w) (Some line.now))) }
 {
-    let segments = segments_of(alloc, line.points.as_slice())?;
-    if let Some(k) = first_segment_under(w, &segments) {
+    if let Some(k) = first_segment_under(w, line.segments()) {
         let nums = [number(k)?, 0, 0, 0];
         findings.push(Finding {
             kind: NODE_ON_EDGE,
@@ -138,32 +139,25 @@ fn push_segment_under(
     Ok(())
 }
 
-/// The findings about a connected node and an edge: NodeOnEdge by the first segment. It makes at most three look-ups.
-pub(crate) fn node_and_edge<B: Look, L: Ledger>(
+/// The findings about a connected node and an edge: NodeOnEdge by the first segment.
+pub(crate) fn node_and_edge(
     alloc: Global,
-    look: &B,
-    a: RecName,
-    node: &Vector,
-    b: RecName,
-    edge: &Vector,
-    steps: &mut Steps<L>,
+    a: &ChainPart,
+    b: &ChainPart,
 ) -> Result<Vec<Finding>, AllocError>
-    requires node { lookup_record (B.cell look.now) a ≡ Some (SpecV node.now) }
-    requires edge { edge_named (B.cell look.now) b ≡ Some edge.now }
-    ensures found { IfOk result (λ findings. findings.items ≡ map (finding NODE_ON_EDGE) (node_on_edge (B.cell look.now) a b)) }
-    ensures steps { steps.new ≤ steps.old + 3 }
-    ensures counted { steps.old ≤ steps.new }
+    ensures { (c : SpecCell) → IsPart c a.now → IsPart c b.now → edge_named c b.now.name ≡ Some b.now.record.now
+        → IfOk result (λ findings. findings.items ≡ map (finding NODE_ON_EDGE) (node_on_edge c a.now.name b.now.name)) }
 {
     let mut findings = Vec::new(alloc);
-    if names_node(edge, a) {
+    if names_node(b.record, a.name) {
         return Ok(findings);
     }
-    let Some(place) = position_of(node) else {
+    let Some(place) = position_of(a.record) else {
         return Ok(findings);
     };
-    let Some(line) = edge_line(alloc, look, b, steps)? else {
+    let Some(line) = &b.line else {
         return Ok(findings);
     };
-    push_segment_under(alloc, &mut findings, place, &line)?;
+    push_segment_under(&mut findings, place, line)?;
     Ok(findings)
 }

@@ -3,7 +3,9 @@
 
 mod contact;
 mod finding;
+mod line;
 mod part;
 mod verdict;
 
-pub use verdict::verdict_pair;
+pub use part::ChainPart;
+pub use verdict::{pair_findings, verdict_pair};

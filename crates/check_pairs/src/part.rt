@@ -1,30 +1,49 @@
 //! Connected nodes and edges: the parts of which chains are made (S-57 Part 2, 2.2.1.2).
 
-ghost use Rattle.std.specs.Prelude.{◌≡◌, ◌+◌, IsTrue, IfOk, Some};
+ghost use Rattle.std.specs.Prelude.{◌≡◌, ◌≤◌, ◌+◌, IsTrue, IfOk, Some, map, option_to_list};
+ghost use Rattle.std.specs.List.{enumerate_from};
+ghost use Rattle.geometry_spec.specs.Points.{Point as SpecPoint};
+ghost use Rattle.line_boxes.specs.LineBoxes.{line_box};
 ghost use Rattle.s57_types.specs.declared.cell.Cell.{Cell as SpecCell};
 ghost use Rattle.s57_types.specs.declared.name.RecName.{RecName as SpecRecName};
 ghost use Rattle.s57_types.specs.declared.record.Rec.TheVariants.{V as SpecV};
 ghost use Rattle.cell_spec.specs.declared.key.Subject.TheVariants.{Pair as SpecPair};
 ghost use Rattle.cell_spec.specs.Lookup.{lookup_record};
-ghost use Rattle.rule_spec.specs.EdgePoints.{node_position};
+ghost use Rattle.rule_spec.specs.EdgePoints.{edge_line_of, node_position};
 ghost use Rattle.rule_spec.specs.Records.{is_chain_part, is_edge_name};
 ghost use Rattle.rule_spec.specs.Contacts.{names_node as spec_names_node};
 ghost use Rattle.rule_spec.specs.Reads.{read_set};
+ghost use Rattle.check_pairs.specs.Parts.{IsPart, extent_at};
 
+use crate::line::SegmentedLine;
 use cell_spec::{Keys, ascending_keys};
-use chain_topo::{Look, Steps};
-use geometry_spec::Point;
+use chain_topo::{Look, Steps, edge_line};
+use geometry_spec::{Box4, Point};
+use line_boxes::box_of_line;
 use read_sets::push_vector_keys;
 use s57_types::{Kind, Rec, RecName, Vector};
 use std::alloc::{AllocError, Global};
 use std::sync::ledger::Ledger;
 
+/// A connected node or an edge of a cell, with all that the rules on two of them ask of each: its record, and the line of an edge.
+pub struct ChainPart<'a> {
+    pub(crate) name: RecName,
+    pub(crate) record: &'a Vector,
+    pub(crate) line: Option<SegmentedLine>,
+}
+
+impl<'a> Drop for ChainPart<'a> {
+    fn drop(self) {
+        let ChainPart {
+            name: _,
+            record: _,
+            line: _,
+        } = self;
+    }
+}
+
 /// The record of a connected node or an edge.
-pub(crate) fn chain_part<'a, B: Look, L: Ledger>(
-    look: &'a B,
-    name: RecName,
-    steps: &mut Steps<L>,
-) -> &'a Vector
+fn record_of<'a, B: Look, L: Ledger>(look: &'a B, name: RecName, steps: &mut Steps<L>) -> &'a Vector
     requires { IsTrue (is_chain_part (B.cell look.now) name) }
     ensures found { lookup_record (B.cell look.now) name ≡ Some (SpecV result.now) }
     ensures step { steps.new ≡ steps.old + 1 }
@@ -32,6 +51,72 @@ pub(crate) fn chain_part<'a, B: Look, L: Ledger>(
     match look.get(name, steps) {
         Some(Rec::V(part)) => part,
         _ => unreachable!(),
+    }
+}
+
+/// The line of the edge of a name with its segments, if it has one.
+fn line_of<B: Look, L: Ledger>(
+    alloc: Global,
+    look: &B,
+    name: RecName,
+    steps: &mut Steps<L>,
+) -> Result<Option<SegmentedLine>, AllocError>
+    ensures line { IfOk result (λ line. line ≡ edge_line_of (B.cell look.now) name) }
+    ensures steps { steps.new ≤ steps.old + 3 }
+    ensures counted { steps.old ≤ steps.new }
+{
+    match edge_line(alloc, look, name, steps)? {
+        Some(line) => Ok(Some(SegmentedLine::of_line(alloc, line)?)),
+        None => Ok(None),
+    }
+}
+
+/// The least box around a position, if there is one.
+fn box_of_place(place: Option<Point>) -> Option<Box4>
+    ensures { result ≡ line_box (enumerate_from 1 (map (λ (p : SpecPoint). (p, p)) (option_to_list place))) }
+{
+    match place {
+        Some(place) => box_of_line(&[(1, (place, place))]),
+        None => None,
+    }
+}
+
+impl<'a> ChainPart<'a> {
+    /// The connected node or the edge of a name.
+    ///
+    /// It makes at most four look-ups. An `Err` means out of memory.
+    pub fn find<B: Look, L: Ledger>(
+        alloc: Global,
+        look: &'a B,
+        name: RecName,
+        steps: &mut Steps<L>,
+    ) -> Result<ChainPart<'a>, AllocError>
+        requires { IsTrue (is_chain_part (B.cell look.now) name) }
+        ensures part { IfOk result (IsPart (B.cell look.now)) }
+        ensures named { IfOk result (λ part. part.name ≡ name) }
+        ensures steps { steps.new ≤ steps.old + 4 }
+        ensures counted { steps.old ≤ steps.new }
+    {
+        let record = record_of(look, name, steps);
+        let line = line_of(alloc, look, name, steps)?;
+        Ok(ChainPart { name, record, line })
+    }
+
+    /// Its name.
+    pub fn name(&self) -> RecName
+        ensures { result ≡ self.now.name }
+    {
+        self.name
+    }
+
+    /// The least box around its points: the position of a connected node that has exactly one, or the line of an edge.
+    pub fn extent(&self) -> Option<Box4>
+        ensures { (c : SpecCell) → IsPart c self.now → result ≡ extent_at c self.now.name }
+    {
+        match &self.line {
+            Some(line) => line.around(),
+            None => box_of_place(position_of(self.record)),
+        }
     }
 }
 

@@ -1,39 +1,35 @@
 //! The verdict on two connected nodes or edges.
 
-ghost use Rattle.std.specs.Prelude.{◌≡◌, ◌≤◌, ◌+◌, ◌*◌, IsTrue, IfOk, Some, length};
-ghost use Rattle.s57_types.specs.declared.record.Rec.TheVariants.{V as SpecV};
+ghost use Rattle.std.specs.Prelude.{◌≡◌, ◌≤◌, ◌+◌, ◌*◌, IsTrue, IfOk, length, true};
+ghost use Rattle.s57_types.specs.declared.cell.Cell.{Cell as SpecCell};
 ghost use Rattle.cell_spec.specs.declared.key.Subject.TheVariants.{Pair as SpecPair};
-ghost use Rattle.cell_spec.specs.Lookup.{lookup_record};
-ghost use Rattle.rule_spec.specs.Findings.{is_subject, findings_about, findings_of_subject};
+ghost use Rattle.rule_spec.specs.Findings.{is_subject, findings_of_subject};
 ghost use Rattle.rule_spec.specs.Reads.{read_set};
+ghost use Rattle.check_pairs.specs.Parts.{IsPart};
 
 use crate::finding::{edge_pair, node_and_edge, node_pair};
-use crate::part::{chain_part, is_edge, pair_keys};
+use crate::part::{ChainPart, is_edge, pair_keys};
 use cell_spec::{Finding, Row, Subject};
 use chain_topo::{Look, Steps};
-use s57_types::{Items, RecName, Vector};
+use s57_types::{Items, RecName};
 use std::alloc::{AllocError, Global};
 use std::sync::ledger::Ledger;
 
-fn pair_findings<B: Look, L: Ledger>(
+/// The findings about two connected nodes or edges of a cell, the lesser name first, as `verdict_pair` tells them.
+///
+/// An `Err` means out of memory.
+pub fn pair_findings(
     alloc: Global,
-    look: &B,
-    a: RecName,
-    first: &Vector,
-    b: RecName,
-    second: &Vector,
-    steps: &mut Steps<L>,
+    a: &ChainPart,
+    b: &ChainPart,
 ) -> Result<Vec<Finding>, AllocError>
-    requires first { lookup_record (B.cell look.now) a ≡ Some (SpecV first.now) }
-    requires second { lookup_record (B.cell look.now) b ≡ Some (SpecV second.now) }
-    ensures found { IfOk result (λ findings. findings.items ≡ findings_about (B.cell look.now) (SpecPair a b)) }
-    ensures steps { steps.new ≤ steps.old + 6 }
-    ensures counted { steps.old ≤ steps.new }
+    ensures { (c : SpecCell) → IsPart c a.now → IsPart c b.now → is_subject c (SpecPair a.now.name b.now.name) ≡ true
+        → IfOk result (λ findings. findings.items ≡ findings_of_subject c (SpecPair a.now.name b.now.name)) }
 {
-    match (is_edge(first), is_edge(second)) {
-        (true, true) => edge_pair(alloc, look, a, b, steps),
-        (false, true) => node_and_edge(alloc, look, a, first, b, second, steps),
-        (false, false) => node_pair(alloc, first, second),
+    match (is_edge(a.record), is_edge(b.record)) {
+        (true, true) => edge_pair(alloc, a, b),
+        (false, true) => node_and_edge(alloc, a, b),
+        (false, false) => node_pair(alloc, a.record, b.record),
         (true, false) => Ok(Vec::new(alloc)),
     }
 }
@@ -61,10 +57,10 @@ pub fn verdict_pair<B: Look, L: Ledger>(
     ensures steps { steps.new ≤ steps.old + 4 * length (read_set (B.cell look.now) (SpecPair a b)) }
     ensures counted { steps.old ≤ steps.new }
 {
-    let first = chain_part(look, a, steps);
-    let second = chain_part(look, b, steps);
-    let reads = pair_keys(alloc, a, first, b, second)?;
-    let findings = pair_findings(alloc, look, a, first, b, second, steps)?;
+    let first = ChainPart::find(alloc, look, a, steps)?;
+    let second = ChainPart::find(alloc, look, b, steps)?;
+    let reads = pair_keys(alloc, a, first.record, b, second.record)?;
+    let findings = pair_findings(alloc, &first, &second)?;
     Ok(Row {
         subject: Subject::Pair(a, b),
         findings: Items::of_vec(findings),

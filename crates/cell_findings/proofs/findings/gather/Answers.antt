@@ -1,4 +1,4 @@
-use Rattle.std.proofs.Common.{◌++◌, [], ◌∙◌, IsTrue, map, subst, sym}
+use Rattle.std.proofs.Common.{◌++◌, [], ◌∙◌, IsTrue, filter, map, subst, sym}
 use Rattle.std.specs.List.{All, flat_map}
 use Rattle.std.specs.List.Sorted.{IsStrictlySortedBy}
 use Rattle.std.proofs.lemmas.List.Concat.{flat_map-append}
@@ -8,10 +8,11 @@ use Rattle.cell_spec.specs.Names.{name_order}
 use Rattle.cell_spec.proofs.Ascending.{sorted-ascending}
 use Rattle.cell_spec.proofs.Orders.{total_names}
 use Rattle.rule_spec.specs.Findings.{is_subject, record_names}
+use Rattle.rule_spec.specs.Records.{is_chain_part}
 use Rattle.cell_findings.specs.Gathered.{IsOver}
-use Rattle.cell_findings.specs.Judged.{identities_in, names_in, part_pairs, records_and_sides, subject_findings}
+use Rattle.cell_findings.specs.Judged.{identities_in, is_part_name, names_in, part_pairs, records_and_sides, subject_findings}
 use Rattle.cell_findings.proofs.Gathering.{over_more}
-use Rattle.cell_findings.proofs.Judged.{pairs_are_subjects}
+use Rattle.cell_findings.proofs.Judged.{pairs_are_subjects, parts_are_chained}
 use Rattle.cell_findings.proofs.findings.gather.Goals as goal
 
 pub push_pairs_and_identities-requires-clause-subjects : goal.push_pairs_and_identities-requires-clause-subjects
@@ -19,6 +20,12 @@ push_pairs_and_identities-requires-clause-subjects g c =
     subst (λ ns. All (λ s. IsTrue (is_subject c.in_ok-look.look s)) (part_pairs ns)) (sym (c.as_slice-names.ensures ∙ c.in_ok-names.ensures))
     (subst (λ cell. All (λ s. IsTrue (is_subject cell s)) (part_pairs (names_in c.args.cell.now))) (sym c.in_ok-look.ensures)
     (pairs_are_subjects c.args.cell.now c.requires.writable))
+
+pub push_pairs_and_identities-requires-clause-parts : goal.push_pairs_and_identities-requires-clause-parts
+push_pairs_and_identities-requires-clause-parts g c =
+    subst (λ ns. All (λ n. IsTrue (is_chain_part c.in_ok-look.look n)) (filter is_part_name ns)) (sym (c.as_slice-names.ensures ∙ c.in_ok-names.ensures))
+    (subst (λ cell. All (λ n. IsTrue (is_chain_part cell n)) (filter is_part_name (names_in c.args.cell.now))) (sym c.in_ok-look.ensures)
+    (parts_are_chained c.args.cell.now c.requires.writable))
 
 pub push_pairs_and_identities-requires-clause-ascending : goal.push_pairs_and_identities-requires-clause-ascending
 push_pairs_and_identities-requires-clause-ascending g c =
