@@ -20,13 +20,13 @@ use crate::groups::Groups;
 use crate::listed::{list_identities, list_pointers, name_of, records_of};
 use cell_spec::{Ref, orders_are_by_parts};
 use look_counter::Steps;
-use s57_types::{Cell, Duplicate, Lnam, Rec, RecName};
+use s57_types::{Cell, Duplicate, Kind, Lnam, Rec, RecName};
 use std::alloc::{AllocError, Global};
 use std::marker::Model;
 use std::sync::ledger::Ledger;
 
 /// A cell with its records sorted by name, its pointers by target and its features by identifier: each look-up is a
-/// binary search.
+/// binary search, but that of a record where the numbers of its kind have no gaps.
 pub struct ListLook<'a> {
     cell: &'a Cell,
     head: Rec,
@@ -82,6 +82,28 @@ impl<'a> ListLook<'a> {
     }
 }
 
+impl<'a> ListLook<'a> {
+    /// Where the records of a kind begin among those sorted by name, if each list of the cell has one kind.
+    fn first_place(&self, kind: Kind) -> usize {
+        let nodes = self.cell.vi.len().saturating_add(self.cell.vc.len());
+        match kind {
+            Kind::Vi => 0,
+            Kind::Vc => self.cell.vi.len(),
+            Kind::Ve => nodes,
+            Kind::Fe | Kind::Head => nodes.saturating_add(self.cell.ve.len()),
+        }
+    }
+
+    /// The place of a name among the sorted records, if its kind has a record for each number from the least to it.
+    fn likely_place(&self, name: RecName) -> usize {
+        let first = self.first_place(name.kind);
+        match self.records.get(first) {
+            Some(rec) => first.saturating_add(name.id.saturating_sub(name_of(rec).id) as usize),
+            None => first,
+        }
+    }
+}
+
 impl<'a> Look for ListLook<'a> {
     ghost cell = { λ look. look };
 
@@ -94,7 +116,7 @@ impl<'a> Look for ListLook<'a> {
         if name == RecName::of_head() {
             return Some(&self.head);
         }
-        find_sorted(&self.records, name)
+        find_near(&self.records, self.likely_place(name), name)
     }
 
     fn refs<L: Ledger>(&self, name: RecName, steps: &mut Steps<L>) -> &[Ref] {
@@ -115,6 +137,25 @@ fn sorted_by_name<'a>(mut records: Vec<&'a Rec>) -> Vec<&'a Rec>
     orders_are_by_parts();
     records.sort_unstable_by_key(|rec| name_of(rec));
     records
+}
+
+fn has_name(rec: &Rec, name: RecName) -> bool
+    ensures { result ≡ is_named name rec.now }
+{
+    name == name_of(rec)
+}
+
+/// The record of a name, which is looked for at a place first.
+fn find_near<'a>(records: &[&'a Rec], place: usize, name: RecName) -> Option<&'a Rec>
+    requires { IsByName records.now }
+    ensures { option_copied result ≡ find (is_named name) (map (λ (r : Bor SpecRec). r.now) records.now) }
+{
+    if let Some(rec) = records.get(place) {
+        if has_name(rec, name) {
+            return Some(*rec);
+        }
+    }
+    find_sorted(records, name)
 }
 
 fn find_sorted<'a>(records: &[&'a Rec], name: RecName) -> Option<&'a Rec>
