@@ -1,4 +1,5 @@
 mod Absent
 mod Counted
+mod Gathered
 mod Parts
 mod Places

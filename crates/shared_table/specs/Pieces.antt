@@ -33,7 +33,11 @@ blocks_of parts = map (λ part. part.1) parts
 abbrev pub rows_of : {K V : Type 0} → List (K × List (K × V)) → List (K × V)
 rows_of parts = joined (blocks_of parts)
 
+-- each part has rows and stands under its first key
+abbrev pub AllBegin : {K V : Type 0} → List (K × List (K × V)) → Type 0
+AllBegin parts = All (λ part. BeginsWith part.0 part.1) parts
+
 -- the keys ascend through all parts, and each part has rows and stands under its first key
 pub record AreParts {K V : Type 0} (cmp : K → K → Ordering) (parts : List (K × List (K × V))) : Type 0 where
   pub ascending : IsAscending cmp (rows_of parts)
-  pub begin : All (λ part. BeginsWith part.0 part.1) parts
+  pub begin : AllBegin parts

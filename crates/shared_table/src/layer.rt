@@ -74,6 +74,17 @@ impl<K: Ord + Drop, V: Drop, P: Piece<K, V>> Layer<K, V, P> {
     }
 }
 
+impl<K: Ord + Drop, V: Drop, P: Piece<K, V>> Layer<K, V, P> {
+    /// A layer of these pieces. An `Err` says that their rows are too many to be counted.
+    pub(crate) fn of(entries: Vec<Entry<K, V, P>>) -> Result<Layer<K, V, P>, AllocError>
+        requires { AreParts K.cmp entries.items }
+        ensures { IfOk result (λ layer. layer ≡ entries.items) }
+    {
+        let len = rows_in(&entries)?;
+        Ok(Layer { entries, len })
+    }
+}
+
 impl<K: Ord + Copy + Drop, V: Drop, P: ChangingPiece<K, V>> Layer<K, V, P> {
     // Where a full piece is cut: in the middle, but the last one near its end, so that rows that come in ascending order fill pieces.
     fn cut_place(&self, place: usize) -> usize
@@ -146,6 +157,22 @@ impl<K: Ord + Copy + Drop, V: Drop, P: ChangingPiece<K, V>> Layer<K, V, P> {
         }
         Ok(())
     }
+}
+
+// How many rows the pieces have.
+fn rows_in<K: Ord + Drop, V: Drop, P: Piece<K, V>>(
+    entries: &[Entry<K, V, P>],
+) -> Result<usize, AllocError>
+    ensures { IfOk result (λ count. count ≡ length (rows_of entries.now)) }
+{
+    let mut count: usize = 0;
+    for entry in entries {
+        if entry.len() > usize::MAX - count {
+            return Err(AllocError);
+        }
+        count += entry.len();
+    }
+    Ok(count)
 }
 
 // The same entries, of which the pieces are shared.

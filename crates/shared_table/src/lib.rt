@@ -2,6 +2,7 @@
 #![tactic(auto)]
 
 mod entry;
+mod filled;
 mod layer;
 mod piece;
 mod rows;

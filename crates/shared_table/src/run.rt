@@ -44,6 +44,16 @@ impl<K: Ord + Drop, V: Drop> Run<K, V> {
     }
 }
 
+impl<K: Ord, V> Run<K, V> {
+    /// A run of rows that ascend.
+    pub(crate) fn of(rows: Vec<(K, V)>) -> Run<K, V>
+        requires { IsAscending K.cmp rows.items }
+        ensures { result ≡ rows.items }
+    {
+        Run { rows }
+    }
+}
+
 impl<K: Ord + Drop, V: Drop> Piece<K, V> for Run<K, V> {
     ghost rows = { λ r. r };
 

@@ -6,6 +6,7 @@ ghost use Rattle.std.specs.Arc.{arc_value};
 ghost use Rattle.row_table.specs.Rows.{IsAscending, value_of, with_row, without_key, lower_bound};
 ghost use Rattle.shared_table.specs.Pieces.{IsRunAt};
 
+use crate::filled::{layers_of, runs_of};
 use crate::layer::Layer;
 use crate::piece::{ChangingPiece, Piece, put_shared, take_shared};
 use crate::rows::SharedRows;
@@ -132,11 +133,13 @@ impl<K: Ord + Copy + Drop, V: Duplicate + Drop> SharedTable<K, V> {
         requires { IsAscending K.cmp rows.items }
         ensures { IfOk result (λ table. table ≡ rows.items) }
     {
-        let mut table = SharedTable::make();
-        for (key, value) in rows {
-            table.put(alloc, key, value)?;
-        }
-        Ok(table)
+        let runs = runs_of(alloc, rows)?;
+        let low = layers_of(alloc, runs)?;
+        let middle = layers_of(alloc, low)?;
+        let top = Root::of(layers_of(alloc, middle)?)?;
+        Ok(SharedTable {
+            root: Some(Arc::new(alloc, top)?),
+        })
     }
 
     /// Puts the value at the key.

@@ -1,0 +1,6 @@
+use Rattle.std.proofs.Common.{◌≡◌, ◌++◌}
+use Rattle.shared_table.specs.Pieces.{AllBegin, rows_of}
+use Rattle.shared_table.proofs.filled.runs_of.Given as goal
+
+abbrev pub invariant-loop-row : goal.invariant-loop-row
+invariant-loop-row g l = (rows_of l.runs.items ++ (l.run.items ++ l.row-iterator.rest.items) ≡ l.fn.rows.items) × AllBegin l.runs.items
