@@ -1,10 +1,10 @@
 -- The calls of a disk while an entry is added, one after the other.
-use Rattle.std.proofs.Common.{◌≡◌, ◌↔◌, inl, inr, ℕ, ◌+◌, ◌<◌, ◌≤◌, List, [], ◌∷◌, length, take, get_or, Option, None, Some, IfSome, IsSome, refl, sym, ap, subst, ◌∙◌, arith}
+use Rattle.std.proofs.Common.{◌≡◌, ◌↔◌, inl, ℕ, ◌+◌, ◌<◌, ◌≤◌, List, [], ◌∷◌, length, take, get_or, Option, None, Some, IfSome, IsSome, refl, sym, ap, subst, ◌∙◌, arith}
 use Rattle.std.proofs.lemmas.Bool.{false≢true}
 use Rattle.enc_outside.specs.Files.{Told}
 use Rattle.crash_disk.specs.Disk.{Elapses, Follows, Holds, LeavesOnly, NoMore, Only, Torn, overlaid}
 use Rattle.crash_disk.proofs.Moments.{goes_on, started}
-use Rattle.book_journal.specs.Writing.{IsTornEntry, with_entry, with_part}
+use Rattle.book_journal.specs.Writing.{IsTornEntry, with_entry}
 use Rattle.book_journal.proofs.Told.{if_some, some_at, told_at}
 use Rattle.book_journal.proofs.Torn.{long, mark_crash, marked_is, part_crash, staged}
 

@@ -1,8 +1,7 @@
 -- A commit that a book accepts, as an entry of its journal.
-use Rattle.std.proofs.Common.{◌≡◌, ◌⊎◌, inl, inr, ℕ, ◌+◌, ◌<◌, ◌≤◌, ◌^◌, ◌==◌, nat_lt, if◌then◌else◌, Bool, true, false, cond, List, [], ◌∷◌, ◌++◌, length, take, map, fold, Option, None, Some, refl, sym, ap, subst, ◌∙◌, arith}
+use Rattle.std.proofs.Common.{◌≡◌, ◌⊎◌, inl, inr, ℕ, ◌+◌, ◌==◌, nat_lt, if◌then◌else◌, Bool, true, false, cond, List, [], ◌∷◌, ◌++◌, length, Option, None, Some, refl, ap, subst, ◌∙◌}
 use Rattle.std.specs.List.{cons_option, filter_map}
 use Rattle.std.specs.Option.{option_and_then, option_map, option_map_or}
-use Rattle.s57_types.specs.declared.cell.Cell.{Cell}
 use Rattle.s57_types.specs.declared.name.RecName.{RecName}
 use Rattle.cell_spec.specs.Ascending.{ascending}
 use Rattle.cell_spec.specs.declared.edit.Edit.{Edit}
@@ -12,14 +11,14 @@ use Rattle.rule_spec.specs.Findings.{finding_total}
 use Rattle.edit_sets.specs.FormFault.{GuardedEdits, edit_limit, first_edit_fault, form_fault, guard_limit}
 use Rattle.edit_sets.specs.declared.fault.FormFault.{FormFault}
 use Rattle.edit_sets.specs.declared.fault.FormFault.TheVariants.{Empty, TooMany, TooManyGuards}
-use Rattle.history_spec.specs.declared.entry.Asked.TheVariants.{View, Faulty, Commit}
+use Rattle.history_spec.specs.declared.entry.Asked.TheVariants.{Commit}
 use Rattle.history_spec.specs.declared.reply.Reply.{Reply}
 use Rattle.history_spec.specs.declared.reply.Reply.TheVariants.{Viewed, Formed, Newer, Refused, Accepted}
-use Rattle.history_spec.specs.Entries.{event_asked, replayed}
+use Rattle.history_spec.specs.Entries.{replayed}
 use Rattle.history_spec.specs.Steps.{AcceptedCommit, History, answer, cell_after, clash_with, commit, contested_names, first_of, newer_answer, state_refusal}
 use Rattle.room_laws.proofs.Bases.{newest_cell}
 use Rattle.commit_book.specs.Books.{BookState, IsEntered, history_of}
-use Rattle.commit_book.proofs.Kept.{after_reply, commits_left, replayed_entered}
+use Rattle.commit_book.proofs.Kept.{after_reply, replayed_entered}
 use Rattle.book_journal.specs.Journals.{IsAcceptance}
 use Rattle.book_journal.proofs.Lists.{accepting_none}
 

@@ -1,8 +1,8 @@
 -- The calls of a disk while it is read, and while an empty list is made of a file of at most one byte.
-use Rattle.std.proofs.Common.{◌≡◌, ◌↔◌, ℕ, ◌+◌, ◌≤◌, max, List, [], ◌∷◌, ◌++◌, length, take, drop, Option, None, Some, IfSome, IsSome, refl, sym, ap, subst, ◌∙◌, arith, append-nil}
+use Rattle.std.proofs.Common.{◌≡◌, ℕ, ◌≤◌, List, [], ◌∷◌, length, Option, Some, IfSome, IsSome, sym, ap, subst, ◌∙◌, arith}
 use Rattle.std.proofs.lemmas.List.{drop_all}
 use Rattle.enc_outside.specs.Files.{Told}
-use Rattle.crash_disk.specs.Disk.{Elapses, Follows, Holds, LeavesOnly, NoMore, Only, SameImages, Torn, overlaid}
+use Rattle.crash_disk.specs.Disk.{Elapses, Follows, Holds, LeavesOnly, NoMore, Only, Torn, overlaid}
 use Rattle.crash_disk.proofs.Moments.{goes_on, started}
 use Rattle.book_journal.proofs.Told.{if_some, some_at, told_at}
 

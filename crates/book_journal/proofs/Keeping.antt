@@ -1,12 +1,12 @@
 -- An entry more in a list that stands, and what a crash leaves meanwhile.
-use Rattle.std.proofs.Common.{◌≡◌, ◌⊎◌, inl, inr, ℕ, ◌+◌, ◌<◌, ◌≤◌, List, [], ◌∷◌, ◌++◌, length, take, drop, refl, sym, ap, subst, ◌∙◌, arith, append_assoc, length-append, take-append-drop}
+use Rattle.std.proofs.Common.{◌≡◌, inl, inr, ℕ, ◌+◌, ◌<◌, List, [], ◌∷◌, ◌++◌, length, take, drop, sym, ap, subst, ◌∙◌, arith, append_assoc, length-append, take-append-drop}
 use Rattle.std.proofs.lemmas.Bool.{cases_eq}
 use Rattle.std.proofs.lemmas.List.{take_at}
 use Rattle.s57_types.specs.declared.cell.Cell.{Cell}
 use Rattle.history_spec.specs.Steps.{AcceptedCommit}
 use Rattle.crash_disk.specs.Disk.{Only}
 use Rattle.book_journal.specs.Entries.{edit_lines, entry_bytes, entry_part, list_bytes}
-use Rattle.book_journal.specs.Journals.{IsAcceptedBehind, IsEnd, IsListOf, IsReadTo}
+use Rattle.book_journal.specs.Journals.{IsAcceptedBehind, IsEnd, IsListOf}
 use Rattle.book_journal.specs.Keeping.{HasOrHasNot, IsStanding}
 use Rattle.book_journal.specs.Writing.{IsTornEntry, with_entry, with_part}
 use Rattle.book_journal.proofs.Lists.{accepted_more, list_more}

@@ -1,5 +1,5 @@
 -- Lists of entries: one commit more, and the places where they are damaged.
-use Rattle.std.proofs.Common.{◌≡◌, ◌⊎◌, inl, inr, ℕ, ◌+◌, ◌<◌, ◌≤◌, ◌^◌, List, [], ◌∷◌, ◌++◌, length, take, drop, fold, Option, None, Some, refl, sym, ap, subst, ◌∙◌, arith, append_assoc, append-nil, length-append}
+use Rattle.std.proofs.Common.{◌≡◌, ℕ, ◌+◌, ◌<◌, ◌^◌, List, [], ◌∷◌, ◌++◌, length, take, fold, Option, None, Some, refl, sym, ap, subst, ◌∙◌, arith, append_assoc, append-nil}
 use Rattle.std.specs.List.{enumerate_from, filter_map}
 use Rattle.std.specs.Option.{option_map_or}
 use Rattle.std.proofs.Math.Seq.{take-length}
@@ -13,14 +13,13 @@ use Rattle.rule_spec.specs.Findings.{finding_total}
 use Rattle.edit_sets.specs.FormFault.{form_fault}
 use Rattle.history_spec.specs.declared.refusal.StateRefusal.{StateRefusal}
 use Rattle.history_spec.specs.declared.reply.Reply.{Reply}
-use Rattle.history_spec.specs.declared.reply.Reply.TheVariants.{Viewed, Formed, Newer, Refused, Accepted}
+use Rattle.history_spec.specs.declared.reply.Reply.TheVariants.{Refused, Accepted}
 use Rattle.history_spec.specs.Steps.{AcceptedCommit, answer, cell_after, clash_with, commit, first_of, newer_answer, opening, state_refusal}
 use Rattle.room_laws.proofs.Steps.{level_left}
 use Rattle.book_journal.specs.Cuts.{HasNoEntry, IsEntryOf, IsMarked}
-use Rattle.book_journal.specs.Entries.{HasEntry, HaveLines, edit_lines, entry_bytes, entry_part, list_bytes, marked}
+use Rattle.book_journal.specs.Entries.{edit_lines, entry_bytes, entry_part, list_bytes}
 use Rattle.book_journal.specs.Journals.{AreAcceptedBehind, IsAcceptance, IsAcceptedBehind, IsDamagedAt, IsReadTo, state_after}
 use Rattle.book_journal.specs.Replaying.{AreTaken, IsNotTaken}
-use Rattle.book_journal.specs.Texts.{AreEditsOf}
 use Rattle.book_journal.proofs.Numbers.{marked_same}
 
 pub list_more : (commits : List AcceptedCommit) (one : AcceptedCommit) → list_bytes (commits ++ one ∷ []) ≡ list_bytes commits ++ entry_bytes one

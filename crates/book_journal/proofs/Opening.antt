@@ -1,5 +1,5 @@
 -- Opening a journal: what a crash leaves is read as before.
-use Rattle.std.proofs.Common.{◌≡◌, ◌⊎◌, ◌↔◌, inl, inr, ℕ, ◌+◌, ◌<◌, ◌≤◌, List, [], ◌∷◌, ◌++◌, length, Option, None, Some, IfSome, IsSome, Result, Ok, Err, refl, sym, ap, subst, ◌∙◌, arith}
+use Rattle.std.proofs.Common.{◌≡◌, inl, ℕ, ◌<◌, ◌≤◌, List, [], ◌∷◌, length, Option, None, Some, IfSome, IsSome, Result, Ok, Err, refl, sym, ap, subst, ◌∙◌, arith}
 use Rattle.std.proofs.lemmas.Bool.{false≢true}
 use Rattle.s57_types.specs.declared.cell.Cell.{Cell}
 use Rattle.history_spec.specs.Steps.{AcceptedCommit}
@@ -9,6 +9,9 @@ use Rattle.crash_disk.proofs.Moments.{then, weakened}
 use Rattle.book_journal.specs.Entries.{list_bytes}
 use Rattle.book_journal.specs.Journals.{IsJournalOf, IsReadTo, IsReading}
 use Rattle.book_journal.specs.Keeping.{AreAlike, IsAsBefore, IsStanding}
+use Rattle.book_journal.specs.Opening.{IsOpenCause, IsOpenRefusal}
+use Rattle.book_journal.specs.declared.refusal.OpenRefusal.{OpenRefusal}
+use Rattle.book_journal.specs.declared.refusal.OpenRefusal.TheVariants.{BadJournal, DiskFault, JournalFull, FindingsFull, NoMemory}
 use Rattle.book_journal.specs.Replaying.{IsReplayed}
 use Rattle.book_journal.proofs.Readings.{short_journal}
 use Rattle.book_journal.proofs.Told.{if_some, some_at}
@@ -99,3 +102,11 @@ read_journal c o bytes commits read journal = if_some _ _ o read (λ file told i
 pub no_place : (c : Cell) (file : List ℕ) (book : BookState) (place : ℕ) → length file ≤ 1 → IsReplayed c file book place → place ≡ 0
 no_place c file book place short replayed =
     replayed.place_is ∙ ap (λ (l : List AcceptedCommit). length (list_bytes l)) (short_journal c file (history_of book).commits short replayed.journal)
+
+-- why a journal isn't opened, without the disk's faults
+pub cause_of : (c : Cell) (before : Option (List ℕ)) (faults now : ℕ) (why : OpenRefusal) → IsOpenRefusal c before faults now why → IsOpenCause c before why
+cause_of c before faults now (BadJournal place) is = is
+cause_of c before faults now DiskFault is = tt
+cause_of c before faults now (JournalFull count) is = is
+cause_of c before faults now FindingsFull is = is
+cause_of c before faults now NoMemory is = tt

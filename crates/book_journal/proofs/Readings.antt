@@ -1,9 +1,9 @@
 -- A journal is read in one way alone.
-use Rattle.std.proofs.Common.{◌≡◌, ◌⊎◌, inl, inr, ℕ, ◌+◌, ◌<◌, ◌≤◌, List, [], ◌∷◌, ◌++◌, length, map, Result, Ok, Err, refl, sym, ap, subst, ◌∙◌, arith, append_assoc, append-nil, length-append}
+use Rattle.std.proofs.Common.{◌≡◌, inl, inr, ℕ, ◌<◌, ◌≤◌, List, [], ◌∷◌, ◌++◌, length, Result, Ok, Err, refl, sym, ap, subst, ◌∙◌, arith, append_assoc, append-nil, length-append}
 use Rattle.s57_types.specs.declared.cell.Cell.{Cell}
 use Rattle.cell_spec.specs.declared.edit.Edit.{Edit}
 use Rattle.history_spec.specs.Steps.{AcceptedCommit}
-use Rattle.book_journal.specs.Entries.{HaveLines, edit_lines, entry_bytes, list_bytes}
+use Rattle.book_journal.specs.Entries.{edit_lines, entry_bytes, list_bytes}
 use Rattle.book_journal.specs.Journals.{AreAcceptedBehind, IsAcceptedBehind, IsDamagedAt, IsEnd, IsJournalOf, IsListOf, IsReading, IsReadTo}
 use Rattle.book_journal.specs.Texts.{AreLinesOf}
 use Rattle.book_journal.proofs.Numbers.{length-part, marked_same}

@@ -1,8 +1,6 @@
 -- A journal taken into a book, or refused.
-use Rattle.std.proofs.Common.{◌≡◌, ◌⊎◌, inl, inr, ℕ, ◌+◌, ◌-◌, ◌<◌, ◌≤◌, List, [], ◌∷◌, length, refl, sym, ap, subst, ◌∙◌, arith, length-append}
+use Rattle.std.proofs.Common.{◌≡◌, ◌⊎◌, inl, inr, ℕ, ◌+◌, ◌-◌, ◌<◌, ◌≤◌, List, [], length, sym, ap, ◌∙◌, arith, length-append}
 use Rattle.s57_types.specs.declared.cell.Cell.{Cell}
-use Rattle.history_spec.specs.declared.entry.Entry.{Entry}
-use Rattle.history_spec.specs.Entries.{replayed}
 use Rattle.history_spec.specs.Steps.{AcceptedCommit}
 use Rattle.commit_book.specs.Books.{BookState, IsOpened, history_of}
 use Rattle.book_journal.specs.Cuts.{HasNoEntry}

@@ -1,5 +1,5 @@
 -- Entries taken one after the other.
-use Rattle.std.proofs.Common.{◌≡◌, ◌⊎◌, inl, inr, ℕ, ◌+◌, ◌-◌, ◌<◌, ◌≤◌, List, [], ◌∷◌, ◌++◌, length, None, refl, sym, ap, subst, ◌∙◌, arith, append_assoc, length-append}
+use Rattle.std.proofs.Common.{◌≡◌, inr, ℕ, ◌+◌, ◌-◌, ◌<◌, ◌≤◌, List, [], ◌∷◌, ◌++◌, length, refl, sym, ap, subst, ◌∙◌, arith, length-append}
 use Rattle.s57_types.specs.declared.cell.Cell.{Cell}
 use Rattle.cell_spec.specs.Edits.{apply_edits}
 use Rattle.history_spec.specs.declared.entry.Entry.{Entry}
@@ -8,11 +8,11 @@ use Rattle.history_spec.specs.Steps.{AcceptedCommit, cell_after}
 use Rattle.commit_book.specs.Books.{BookState, history_of}
 use Rattle.book_journal.specs.Cuts.{HasNoEntry, IsEntryOf, IsMarked}
 use Rattle.book_journal.specs.Entries.{edit_lines, entry_bytes, list_bytes, marked}
-use Rattle.book_journal.specs.Journals.{IsAcceptedBehind, IsDamagedAt, IsEnd, IsJournalOf, IsReadTo}
+use Rattle.book_journal.specs.Journals.{IsDamagedAt, IsEnd, IsReadTo}
 use Rattle.book_journal.specs.Keeping.{commit_limit}
 use Rattle.book_journal.specs.Replaying.{AreTaken, HasCommitOf, IsBookTo, IsCounted, IsCountedTo, IsEditedBy, IsNotTaken}
 use Rattle.book_journal.proofs.Committing.{cell_of_all}
-use Rattle.book_journal.proofs.Lists.{cell_more, list_more, no_entry_damaged, not_taken_damaged, read_more, taken_accepted}
+use Rattle.book_journal.proofs.Lists.{cell_more, no_entry_damaged, not_taken_damaged, read_more, taken_accepted}
 use Rattle.book_journal.proofs.Numbers.{length-part}
 
 -- before the first entry

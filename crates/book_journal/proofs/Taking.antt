@@ -1,5 +1,5 @@
 -- A text that a book is asked to take.
-use Rattle.std.proofs.Common.{◌≡◌, ℕ, ◌+◌, List, [], ◌∷◌, ◌++◌, length, Bool, true, false, MatchBool, Option, None, Some, refl, sym, ap, subst, ◌∙◌, arith, length-append}
+use Rattle.std.proofs.Common.{◌≡◌, ℕ, ◌+◌, List, [], ◌∷◌, length, Bool, true, false, MatchBool, Option, None, Some, sym, ap, subst, ◌∙◌, length-append}
 use Rattle.std.specs.Option.{option_map_or}
 use Rattle.s57_types.specs.declared.cell.Cell.{Cell}
 use Rattle.s57_types.specs.declared.name.RecName.{RecName}
@@ -19,7 +19,7 @@ use Rattle.room_laws.proofs.Bases.{newest_cell}
 use Rattle.commit_book.specs.Books.{BookState, IsEntered, LeavesCommits, entry_of, history_of}
 use Rattle.book_journal.specs.Journals.{IsAcceptance}
 use Rattle.book_journal.specs.Replaying.{AreTaken, IsBookTaken}
-use Rattle.book_journal.specs.Texts.{AreEditsOf, IsSetRead}
+use Rattle.book_journal.specs.Texts.{IsSetRead}
 use Rattle.book_journal.proofs.Committing.{commits_accepted, none_against}
 use Rattle.book_journal.proofs.Lists.{accepting, none_newer}
 

@@ -15,7 +15,7 @@ use Rattle.edit_sets.specs.declared.fault.FormFault.TheVariants.{Empty, TooMany}
 use Rattle.text_spec.specs.EditLine.{edit_line, has_line}
 use Rattle.text_spec.specs.ScriptLines.{IsCommand, IsLine, IsScript, ScriptLine, command_limit, line_text, skipped, spoken, spoken_command}
 use Rattle.text_spec.specs.declared.command.Command.{Command}
-use Rattle.text_spec.specs.declared.command.Command.TheVariants.{View, Commit, Drop, List as Findings, Push, Guard}
+use Rattle.text_spec.specs.declared.command.Command.TheVariants.{Push}
 use Rattle.script_text.specs.Reading.{IsOnlyReading, IsReading}
 use Rattle.book_journal.specs.Entries.{HaveLines, edit_lines}
 use Rattle.book_journal.specs.Texts.{AreEditsOf, AreEditsRead, AreLinesOf, IsScriptRead, IsSetRead}

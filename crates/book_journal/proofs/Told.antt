@@ -1,5 +1,5 @@
 -- Facts of bytes that a disk may tell.
-use Rattle.std.proofs.Common.{◌≡◌, ◌↔◌, ℕ, ◌+◌, ◌<◌, ◌≤◌, List, length, Option, None, Some, IfSome, IsSome, OnOk, Result, Ok, Err, refl, sym, ap, subst, ◌∙◌, arith}
+use Rattle.std.proofs.Common.{◌≡◌, Option, None, Some, IfSome, IsSome, OnOk, Result, Ok, Err, refl, subst}
 use Rattle.std.proofs.lemmas.Bool.{false≢true}
 use Rattle.enc_outside.specs.Files.{Told}
 

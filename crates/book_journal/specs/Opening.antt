@@ -39,3 +39,12 @@ LeavesBytes before now DiskFault = Unit {0}
 LeavesBytes before now (JournalFull count) = now ≡ before
 LeavesBytes before now FindingsFull = now ≡ before
 LeavesBytes before now NoMemory = now ≡ before
+
+-- the same without what only a fault of the disk leaves
+abbrev pub IsOpenCause : Cell → Option (List ℕ) → OpenRefusal → Type 0
+IsOpenCause c before (BadJournal place) = IfSome before (λ file. IsDamagedAt c file place)
+IsOpenCause c before DiskFault = Unit {0}
+IsOpenCause c before (JournalFull count) =
+    IfSome before (λ file. (commits : List AcceptedCommit) × IsJournalOf c file commits × (commit_limit < length commits) × (count ≡ length commits))
+IsOpenCause c before FindingsFull = finding_limit < finding_total c
+IsOpenCause c before NoMemory = Unit {0}

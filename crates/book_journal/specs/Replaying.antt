@@ -1,12 +1,12 @@
 -- The entries of a list taken one after the other, by a book and then by a bench. This project's own.
-use Rattle.std.specs.Prelude.{◌≡◌, ◌⊎◌, ℕ, ◌+◌, ◌<◌, ◌≤◌, Bool, true, false, List, [], ◌∷◌, ◌++◌, length, Option, None}
+use Rattle.std.specs.Prelude.{◌≡◌, ◌⊎◌, ℕ, ◌+◌, ◌<◌, ◌≤◌, Bool, true, false, List, [], ◌∷◌, ◌++◌, length, None}
 use Rattle.s57_types.specs.declared.cell.Cell.{Cell}
 use Rattle.cell_spec.specs.declared.edit.Edit.{Edit}
 use Rattle.cell_spec.specs.Edits.{apply_edits}
 use Rattle.rule_spec.specs.Findings.{finding_total}
 use Rattle.history_spec.specs.Steps.{AcceptedCommit, cell_after, finding_limit, state_refusal}
 use Rattle.commit_book.specs.Books.{BookState, history_of}
-use Rattle.book_journal.specs.Cuts.{HasNoEntry, IsEntryOf}
+use Rattle.book_journal.specs.Cuts.{HasNoEntry}
 use Rattle.book_journal.specs.Entries.{list_bytes}
 use Rattle.book_journal.specs.Journals.{IsDamagedAt, IsEnd, IsJournalOf, IsReadTo}
 use Rattle.book_journal.specs.Keeping.{commit_limit}

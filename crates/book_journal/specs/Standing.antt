@@ -1,10 +1,10 @@
 -- A journal between two calls, and what its commits are refused for. This project's own rules.
-use Rattle.std.specs.Prelude.{◌≡◌, ℕ, ◌+◌, ◌*◌, ◌<◌, ◌≤◌, ◌^◌, true, false, List, length, Option, IfSome}
+use Rattle.std.specs.Prelude.{◌≡◌, ℕ, ◌+◌, ◌*◌, ◌<◌, ◌^◌, true, false, List, length, Option, IfSome}
 use Rattle.enc_outside.specs.Count.{Rose}
 use Rattle.cell_bench.specs.Benches.{PreparedCommit}
 use Rattle.history_spec.specs.declared.entry.Asked.TheVariants.{Commit}
 use Rattle.history_spec.specs.declared.reply.Reply.{Reply}
-use Rattle.commit_book.specs.Books.{BookState, IsEntered, entry_limit, history_of}
+use Rattle.commit_book.specs.Books.{IsEntered, entry_limit, history_of}
 use Rattle.book_journal.specs.Entries.{text_limit}
 use Rattle.book_journal.specs.Journals.{IsAcceptance}
 use Rattle.book_journal.specs.Keeping.{IsStanding}

@@ -8,8 +8,8 @@ ghost use Rattle.commit_book.specs.Prepared.{AreRight, commit_budget};
 ghost use Rattle.crash_disk.specs.Disk.{LeavesOnly, Only};
 ghost use Rattle.enc_outside.specs.Count.{Rose};
 ghost use Rattle.book_journal.specs.Entries.{HaveLines, text_limit};
-ghost use Rattle.book_journal.specs.Keeping.{HasOrHasNot, IsAsBefore};
-ghost use Rattle.book_journal.specs.Opening.{IsBookOfJournal, IsOpenedAt};
+ghost use Rattle.book_journal.specs.Keeping.{HasOrHasNot, IsAsBefore, IsStanding};
+ghost use Rattle.book_journal.specs.Opening.{IsBookOfJournal, IsOpenCause, IsOpenedAt};
 ghost use Rattle.book_journal.specs.Parts.{IsFullOrOut, IsPartOf, IsPartRefusal, commit_asked, text_asked};
 ghost use Rattle.book_journal.specs.Standing.{IsKeepRefusal, IsStill};
 ghost use Rattle.book_journal.specs.Writing.{IsTornEntry, with_entry};
@@ -65,10 +65,11 @@ pub struct Journal<'a, D: Disk> {
 
 impl<'a, D: Disk> Journal<'a, D> {
     /// Opens the journal on a disk, over the cell that it began with: its book has the journal's commits, an entry for each. Nothing is repaired and
-    /// nothing is cut: a file of at most one byte becomes an empty list, and no other file is written to.
+    /// nothing is cut: a file of at most one byte becomes an empty list, and no other file is written to. What a refusal leaves of the disk is told by
+    /// `open_book`, which is asked here.
     ///
     /// An `Err` says that a call of the disk failed, that the cell has more findings than the limit, at which place of the file, from 0, an entry is damaged,
-    /// or how many commits over the limit there are, or means out of memory. Only after the first the disk's bytes may be others.
+    /// or how many commits over the limit there are, or means out of memory.
     pub fn start<R: Threads + Sync, L: Ledger>(
         rt: &R,
         alloc: Global,
@@ -82,19 +83,37 @@ impl<'a, D: Disk> Journal<'a, D> {
         ensures opened { IfOk result (λ journal. IsOpenedAt cell journal.book journal.end (D.content disk.old) (D.content journal.disk.now)
             (D.images journal.disk.now)) }
         ensures whole { IfOk result (λ journal. journal.broken ≡ false) }
+        ensures stays_told { IfOk result (λ journal. IsSome (D.content disk.old) → IsSome (D.content journal.disk.now)) }
         ensures still { IfOk result (IsStill D.content D.images) }
         // A crash at any moment of the call leaves what is read as something that a crash before it may have left.
         ensures moments { IfOk result (λ journal. IfSome (D.content disk.old)
             (λ _. LeavesOnly D.moment D.left_since disk.old journal.disk.now (IsAsBefore cell (D.images disk.old)))) }
         ensures no_fall { IfOk result (λ journal. D.faults disk.old ≤ D.faults journal.disk.now) }
+        ensures err { IfErr result (IsOpenCause cell (D.content disk.old)) }
     {
-        let (book, end) = open_book(rt, alloc, cell, disk, steps)?;
-        Ok(Journal {
+        match open_book(rt, alloc, cell, disk, steps) {
+            Ok((book, end)) => Ok(Journal::over(disk, book, end)),
+            Err(why) => Err(why),
+        }
+    }
+
+    /// The journal on a disk whose commits a book has, and whose list ends at a place.
+    pub fn over(disk: &'a mut D, book: Book, end: u64) -> Journal<'a, D>
+        requires room { end < 2 ^ 63 }
+        requires standing { IfSome (D.content disk.old) (IsStanding book.opening (history_of book).commits end (D.images disk.old)) }
+        ensures same_reference { result.disk.ghost_name ≡ disk.entry.ghost_name }
+        ensures disk { result.disk.now ≡ disk.old }
+        ensures book { result.book ≡ book }
+        ensures end { result.end ≡ end }
+        ensures whole { result.broken ≡ false }
+        ensures still { IsStill D.content D.images result }
+    {
+        Journal {
             disk,
             book,
             end,
             broken: false,
-        })
+        }
     }
 
     /// The book.
@@ -156,6 +175,7 @@ impl<'a, D: Disk> Journal<'a, D> {
         ensures no_fall { D.faults self.old.disk.now ≤ D.faults self.new.disk.now }
         ensures content { OnOk result (IfSome (D.content self.old.disk.now) (λ file. D.content self.new.disk.now ≡ Some (with_entry file self.old.end part.now))) }
         ensures told { IsSome (D.content self.new.disk.now) → IsSome (D.content self.old.disk.now) }
+        ensures stays_told { IsSome (D.content self.old.disk.now) → IsSome (D.content self.new.disk.now) }
         ensures kept { OnOk result (IfSome (D.content self.old.disk.now) (λ file. Only (with_entry file self.old.end part.now) (D.images self.new.disk.now))) }
         ensures moments { IfSome (D.content self.old.disk.now)
             (λ file. LeavesOnly D.moment D.left_since self.old.disk.now self.new.disk.now (IsTornEntry file self.old.end part.now)) }
@@ -191,6 +211,7 @@ impl<'a, D: Disk> Journal<'a, D> {
         ensures ok { IfOk result (λ told. IsEntered self.old.book desk (Asked.Commit prepared.now.base prepared.now.edits) self.new.book told.reply) }
         ensures news { IfOk result (IsNews prepared.now.base self.new.book) }
         ensures whole { OnOk result (self.new.broken ≡ false) }
+        ensures stays_told { IsSome (D.content self.old.disk.now) → IsSome (D.content self.new.disk.now) }
         ensures err { IfErr result (IsKeepRefusal D.faults desk prepared.now self.old self.new) }
         ensures broken { self.old.broken ≡ true → result ≡ Err KeepRefusal.Broken }
         ensures long { text_limit < length (text_asked prepared.now) → OnOk result ⊥ }

@@ -15,4 +15,5 @@ mod writing;
 
 pub use journal::Journal;
 pub use law::a_journal_has_one_reading;
+pub use open::open_book;
 pub use refusal::{KeepRefusal, OpenRefusal};

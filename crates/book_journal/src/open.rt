@@ -1,6 +1,6 @@
 //! Opening a journal.
 
-ghost use Rattle.std.specs.Prelude.{◌≡◌, ◌≤◌, IfErr, IfOk, IfSome};
+ghost use Rattle.std.specs.Prelude.{◌≡◌, ◌≤◌, IfErr, IfOk, IfSome, IsSome};
 ghost use Rattle.cell_spec.specs.Writable.{IsWritable};
 ghost use Rattle.crash_disk.specs.Disk.{LeavesOnly};
 ghost use Rattle.book_journal.specs.Keeping.{IsAsBefore};
@@ -18,8 +18,11 @@ use std::sync::ledger::Ledger;
 use std::thread::Threads;
 
 /// The book of the commits of a disk's journal, and the place where their list ends. Nothing is repaired and nothing is cut: a file of at most one
-/// byte becomes an empty list, and no other file is written to.
-pub(crate) fn open_book<R: Threads + Sync, L: Ledger, D: Disk>(
+/// byte becomes an empty list, and no other file is written to. Its look-ups are counted.
+///
+/// An `Err` says that a call of the disk failed, that the cell has more findings than the limit, at which place of the file, from 0, an entry is damaged,
+/// or how many commits over the limit there are, or means out of memory. Only after the first the disk's bytes may be others.
+pub fn open_book<R: Threads + Sync, L: Ledger, D: Disk>(
     rt: &R,
     alloc: Global,
     cell: Cell,
@@ -31,6 +34,7 @@ pub(crate) fn open_book<R: Threads + Sync, L: Ledger, D: Disk>(
     ensures opened { IfOk result (λ opened. IsOpenedAt cell opened.0 opened.1 (D.content disk.old) (D.content disk.new) (D.images disk.new)) }
     ensures err { IfErr result (IsOpenRefusal cell (D.content disk.old) (D.faults disk.old) (D.faults disk.new)) }
     ensures left { IfErr result (LeavesBytes (D.content disk.old) (D.content disk.new)) }
+    ensures stays_told { IsSome (D.content disk.old) → IsSome (D.content disk.new) }
     ensures moments { IfSome (D.content disk.old) (λ _. LeavesOnly D.moment D.left_since disk.old disk.new (IsAsBefore cell (D.images disk.old))) }
     ensures no_fall { D.faults disk.old ≤ D.faults disk.new }
 {

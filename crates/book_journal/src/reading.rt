@@ -30,6 +30,7 @@ pub(crate) fn begin_list<D: Disk>(disk: &mut D) -> Result<(), DiskFailed>
     requires { IfSome (D.content disk.old) (λ file. (length file ≤ 1) × Only file (D.images disk.old)) }
     ensures content { OnOk result (IfSome (D.content disk.old) (λ _. D.content disk.new ≡ Some (0 ∷ []))) }
     ensures told { IsSome (D.content disk.new) → IsSome (D.content disk.old) }
+    ensures stays_told { IsSome (D.content disk.old) → IsSome (D.content disk.new) }
     ensures kept { OnOk result (IfSome (D.content disk.old) (λ _. Only (0 ∷ []) (D.images disk.new))) }
     ensures moments { IfSome (D.content disk.old) (λ _. LeavesOnly D.moment D.left_since disk.old disk.new (λ image. length image ≤ 1)) }
     ensures faults { Counts (D.faults disk.old) (D.faults disk.new) result }

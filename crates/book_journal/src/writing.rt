@@ -15,6 +15,7 @@ pub(crate) fn add_entry<D: Disk>(disk: &mut D, end: u64, part: &[u8]) -> Result<
     requires standing { IfSome (D.content disk.old) (λ file. (end < length file) × Only file (D.images disk.old)) }
     ensures content { OnOk result (IfSome (D.content disk.old) (λ file. D.content disk.new ≡ Some (with_entry file end part.now))) }
     ensures told { IsSome (D.content disk.new) → IsSome (D.content disk.old) }
+    ensures stays_told { IsSome (D.content disk.old) → IsSome (D.content disk.new) }
     ensures kept { OnOk result (IfSome (D.content disk.old) (λ file. Only (with_entry file end part.now) (D.images disk.new))) }
     ensures moments { IfSome (D.content disk.old) (λ file. LeavesOnly D.moment D.left_since disk.old disk.new (IsTornEntry file end part.now)) }
     ensures faults { Counts (D.faults disk.old) (D.faults disk.new) result }

@@ -1,4 +1,4 @@
-use Rattle.std.proofs.Common.{◌≡◌, ℕ, ◌≤◌, List, Option, IfSome, Some, length, ap, arith, subst, sym, ◌∙◌}
+use Rattle.std.proofs.Common.{ℕ, ◌≤◌, List, Option, IfSome, length, ap, arith, subst}
 use Rattle.commit_book.specs.Books.{history_of}
 use Rattle.crash_disk.specs.Disk.{LeavesOnly}
 use Rattle.book_journal.specs.Journals.{IsJournalOf}

@@ -1,4 +1,4 @@
-use Rattle.std.proofs.Common.{◌≡◌, ◌+◌, ◌≤◌, List, ℕ, length, refl, arith}
+use Rattle.std.proofs.Common.{refl, arith}
 use Rattle.book_journal.proofs.Adding.{mark_kept, mark_within, mark_written, marked_bytes, marked_only, marked_told, part_kept, part_written}
 use Rattle.book_journal.proofs.Told.{if_ok, if_some, on_ok}
 use Rattle.book_journal.proofs.writing.add_entry.Goals as goal
