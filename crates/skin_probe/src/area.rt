@@ -85,7 +85,8 @@ fn push_area<'a>(
     sort: AreaSort,
     rec: &'a Rec,
 ) -> Result<(), AllocError>
-    ensures { OnOk result (map (λ f. f.now) areas.new.items ≡ map (λ f. f.now) areas.old.items ++ filter (is_of_sort sort) (option_to_list (feature_in rec.now))) }
+    ensures { OnOk result (map (λ f. f.now) areas.new.items ≡
+        map (λ f. f.now) areas.old.items ++ filter (is_of_sort sort) (option_to_list (feature_in rec.now))) }
 {
     if let Rec::F(feature) = rec {
         if sort.has(feature) {

@@ -98,7 +98,8 @@ module _ {X : Type 0} (tag : FieldTag) (content : List ℕ → Result (List X) F
   rows_here tagged = rows_joined ∙ ap (λ rows. rows_of tag content (take k fields) ++ rows) (rw tagged (append-nil (result_unwrap_or (content f.bytes) [])))
 
   pub rows_elsewhere : is_tagged tag f ≡ false → rows_of tag content (take (k + 1) fields) ≡ rows_of tag content (take k fields)
-  rows_elsewhere other = rows_joined ∙ ap (λ rows. rows_of tag content (take k fields) ++ rows) (rw other refl) ∙ append-nil (rows_of tag content (take k fields))
+  rows_elsewhere other = rows_joined ∙ ap (λ rows. rows_of tag content (take k fields) ++ rows) (rw other refl) ∙ append-nil (rows_of tag
+      content (take k fields))
 
 -- what a comparison of a field's name with a tag's text tells
 not_false : (b : Bool) → not b ≡ false → b ≡ true

@@ -269,7 +269,8 @@ feature_rows nall f good =
     let attf = attribute_texts 0 f.attf in
     let natf = attribute_texts nall f.natf in
     let partners = flat_map partner_row f.partners in
-    let both = both_parts (list_all is_plain (attf ++ natf)) (list_all is_plain partners) (sym (list_all-append is_plain (attf ++ natf) partners) ∙ good.texts) in
+    let both = both_parts (list_all is_plain (attf ++ natf)) (list_all is_plain partners) (sym (list_all-append is_plain (attf ++ natf)
+    partners) ∙ good.texts) in
     let two = both_parts (list_all is_plain attf) (list_all is_plain natf) (sym (list_all-append is_plain attf natf) ∙ both.0) in
     record {
       places = (both_parts (is_feature_kind f.name.kind) (list_all place_names_vector f.places) good.names).1;

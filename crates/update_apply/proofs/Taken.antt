@@ -413,7 +413,8 @@ feature_taken c readable level earlier fields e is =
     let ids = step (identifiers fields) (feature_instruction_then c level earlier fields) e good.2 in
     let i = step (ok_or (instruction_of ids.0.frid.ruin) (Record NotBase)) (feature_next_then c level earlier fields ids.0) e ids.2 in
     let name = feature_name ids.0.frid in
-    let next = passed (is_next earlier name) (demand (not (mixed c.head.nall level fields)) LevelMix >> feature_edit i.0 c level ids.0.frid ids.0.foid fields) e i.2 in
+    let next = passed (is_next earlier name) (demand (not (mixed c.head.nall level fields)) LevelMix >> feature_edit i.0 c level ids.0.frid
+    ids.0.foid fields) e i.2 in
     let level_is = demanded (not (mixed c.head.nall level fields)) LevelMix (feature_edit i.0 c level ids.0.frid ids.0.foid fields) e next.1 in
     taken_by c earlier name e next.0 (feature_founded i.0 c readable level ids.0.frid ids.0.foid fields e level_is.0 level_is.1)
 

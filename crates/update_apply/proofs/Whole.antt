@@ -241,7 +241,8 @@ next_parts {X = X} number end meaning (r ∷ file) x is = by (told_by number mea
     by (Err e) told is = absurd cc
 
 general_lawful : (c : Cell) → IsWritable c → IsReadable c → (end : ℕ) (file : List FileRecord)
-    → Lawful c (told_by_next 2 end (update_identification c.head) file >>= edits_then c) (told_by_next 2 end (update_identification c.head) file >>= cell_then c)
+    → Lawful c (told_by_next 2 end (update_identification c.head) file >>= edits_then c) (told_by_next 2 end (update_identification c.head)
+    file >>= cell_then c)
 general_lawful c writable readable end file = by (told_by_next 2 end (update_identification c.head) file) refl
   where
     by : (t : Result ((HeadEdit × ℕ) × List FileRecord) CellFault) → told_by_next 2 end (update_identification c.head) file ≡ t
@@ -251,7 +252,8 @@ general_lawful c writable readable end file = by (told_by_next 2 end (update_ide
         let parts = next_parts 2 end (update_identification c.head) file general told in
         behind_general c readable general (plain_head c.head writable.head_fits parts.0 general.0 parts.1)
 
-pub whole : (c : Cell) → IsWritable c → IsReadable c → (end : ℕ) (file : List FileRecord) → Lawful c (edits_of_records c end file) (updated_by_records c end file)
+pub whole : (c : Cell) → IsWritable c → IsReadable c → (end : ℕ) (file : List FileRecord) → Lawful c (edits_of_records c end file)
+    (updated_by_records c end file)
 unfolding edits_of_records updated_by_records
 whole c writable readable end file = by (told_by_next 1 end Ok file)
   where

@@ -132,7 +132,8 @@ fn field_fault(
     k: usize,
 ) -> Result<Option<RecordFault>, AllocError>
     requires { k < length frame.now.fields }
-    ensures { IfOk result (λ fault. update_fields_fault nall kind (take k frame.now.fields) (drop k frame.now.fields) ≡ option_or fault (update_fields_fault nall kind (take (k + 1) frame.now.fields) (drop (k + 1) frame.now.fields))) }
+    ensures { IfOk result (λ fault. update_fields_fault nall kind (take k frame.now.fields) (drop k frame.now.fields) ≡
+        option_or fault (update_fields_fault nall kind (take (k + 1) frame.now.fields) (drop (k + 1) frame.now.fields))) }
 {
     let (name, bytes) = frame.field(k);
     match control_in(kind, &name) {

@@ -60,7 +60,8 @@ fn read_next(
     requires nall { nall ≡ look.now.head.nall }
     requires before_end { at < length bytes.now }
     ensures within { IfOk result (λ x. (0 < x.1) × (at + x.1 ≤ length bytes.now)) }
-    ensures step { IfOk result (λ x. edits_with look.now level number earlier (records_after bytes.now at false) ≡ edits_with look.now level (number + 1) x.0 (records_after bytes.now (at + x.1) false)) }
+    ensures step { IfOk result (λ x. edits_with look.now level number earlier (records_after bytes.now at false) ≡
+        edits_with look.now level (number + 1) x.0 (records_after bytes.now (at + x.1) false)) }
     ensures fault { IfErr result (λ e. RefusesAt number at e (edits_with look.now level number earlier (records_after bytes.now at false))) }
 {
     let frame = match next_record(bytes, at, false) {

@@ -80,7 +80,8 @@ fn modified_coordinates(
     target: &Vector,
     frame: &Frame<'_>,
 ) -> Result<(Plane, Deep), StepRefusal>
-    ensures { GivesUpdate result (updated_coordinates (control_among Sgcc frame.now.fields) (given_coordinates frame.now.fields) (target.now.plane, target.now.deep)) }
+    ensures { GivesUpdate result
+        (updated_coordinates (control_among Sgcc frame.now.fields) (given_coordinates frame.now.fields) (target.now.plane, target.now.deep)) }
 {
     let given = given_coordinates(alloc, frame)?;
     let control = control_among(frame, ControlTag::Sgcc);

@@ -14,5 +14,6 @@ returns-in_err-updated c other =
 
 pub returns : goal.returns
 returns c other =
-    ap (λ r. r >>= λ (d : List (ℤ × ℤ)). Ok (d, c.args.deep.now)) (ap (updated_rows c.args.control c.args.given) (sym c.as_slice.ensures) ∙ c.in_ok-updated.ensures)
+    ap (λ r. r >>= λ (d : List (ℤ × ℤ)). Ok (d, c.args.deep.now)) (ap (updated_rows c.args.control c.args.given) (sym c.as_slice.ensures) ∙
+    c.in_ok-updated.ensures)
     ∙ ap (λ p. Ok (c.in_ok-updated.updated, p)) (sym c.in_ok-copy.ensures)

@@ -14,5 +14,6 @@ returns-in_err-updated c other =
 
 pub returns : goal.returns
 returns c other =
-    ap (λ r. r >>= λ (d : List (ℤ × ℤ × ℤ)). Ok (c.args.plane.now, d)) (ap (updated_rows c.args.control c.args.given) (sym c.as_slice.ensures) ∙ c.in_ok-updated.ensures)
+    ap (λ r. r >>= λ (d : List (ℤ × ℤ × ℤ)). Ok (c.args.plane.now, d)) (ap (updated_rows c.args.control c.args.given) (sym
+    c.as_slice.ensures) ∙ c.in_ok-updated.ensures)
     ∙ ap (λ p. Ok (p, c.in_ok-updated.updated)) (sym c.in_ok-copy.ensures)

@@ -13,10 +13,12 @@ pub returns-in_err-partners : goal.returns-in_err-partners
 unfolding modified_feature
 returns-in_err-partners c = let target = c.args.target.now in let fields = c.args.frame.now.fields in
     refused_result _ (updated_rows (control_among Ffpc fields) (rows_of tags.Ffpt partner_content fields) target.partners)
-    (modified_feature c.args.level target c.args.frid fields) c.from_residual.result c.from_residual.ensures.1 c.in_err-partners.ensures (λ fault failed. rw failed refl)
+    (modified_feature c.args.level target c.args.frid fields) c.from_residual.result c.from_residual.ensures.1 c.in_err-partners.ensures (λ
+    fault failed. rw failed refl)
 
 pub returns-in_err-places : goal.returns-in_err-places
 unfolding modified_feature
 returns-in_err-places c = let target = c.args.target.now in let fields = c.args.frame.now.fields in
     refused_result _ (updated_rows (control_among Fspc fields) (rows_of tags.Fspt place_content fields) target.places)
-    (modified_feature c.args.level target c.args.frid fields) c.from_residual-in_err-places.result c.from_residual-in_err-places.ensures.1 c.in_err-places.ensures (λ fault failed. rw (c.in_ok-partners.ensures, failed) refl)
+    (modified_feature c.args.level target c.args.frid fields) c.from_residual-in_err-places.result c.from_residual-in_err-places.ensures.1
+    c.in_err-places.ensures (λ fault failed. rw (c.in_ok-partners.ensures, failed) refl)

@@ -19,4 +19,5 @@ pub returns-in_err-points : goal.returns-in_err-points
 unfolding modified_vector
 returns-in_err-points c = let target = c.args.target.now in let fields = c.args.frame.now.fields in
     refused_result _ (updated_coordinates (control_among Sgcc fields) (given_coordinates fields) (target.plane, target.deep))
-    (modified_vector target c.args.vrid fields) c.from_residual-in_err-points.result c.from_residual-in_err-points.ensures.1 c.in_err-points.ensures (λ fault failed. rw (c.in_ok-ends.ensures, failed) refl)
+    (modified_vector target c.args.vrid fields) c.from_residual-in_err-points.result c.from_residual-in_err-points.ensures.1
+    c.in_err-points.ensures (λ fault failed. rw (c.in_ok-ends.ensures, failed) refl)
