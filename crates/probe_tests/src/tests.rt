@@ -1,0 +1,5 @@
+mod benches;
+mod drawn;
+mod lines;
+mod north;
+mod points;
