@@ -1,5 +1,8 @@
 -- Pairs of a key and a subject: their order, what a put and a removal change, and what many of them do.
-use Rattle.std.proofs.Common.{◌≡◌, ◌&&◌, ◌||◌, Bool, true, false, not, List, Option, None, Some, cond, is_some, refl, ap, ◌∙◌}
+use Rattle.std.proofs.Common.{◌≡◌, ◌&&◌, ◌||◌, Bool, true, false, not, List, [], ◌∷◌, Option, None, Some, cond, is_some, refl, sym, subst, ap, ◌∙◌}
+use Rattle.std.specs.List.{list_any}
+use Rattle.std.specs.List.Sorted.{IsStrictlySortedBy}
+use Rattle.std.specs.Map.{keys_of}
 use Rattle.std.specs.Ordering.{is_eq}
 use Rattle.std.specs.Cmp.{Equal-is, IsTotalOrder, eq_by_cmp_equiv}
 use Rattle.std.proofs.lemmas.Cmp.{on_total, then_total}
@@ -7,11 +10,13 @@ use Rattle.std.proofs.lemmas.Map.Lookups.{CmpEqualImpliesEq, exact_pairs}
 use Rattle.cell_spec.specs.declared.key.Key.{Key}
 use Rattle.cell_spec.specs.declared.key.Subject.{Subject}
 use Rattle.cell_spec.specs.Names.{key_order, same_key, same_subject, subject_order}
+use Rattle.cell_spec.specs.Ascending.{ascending}
+use Rattle.cell_spec.proofs.Ascending.{sorted-ascending}
 use Rattle.cell_spec.proofs.Orders.{both_tie, exact_keys, total_keys}
 use Rattle.cell_spec.proofs.SubjectOrder.{exact_subjects, total_subjects}
 use Rattle.row_table.specs.Rows.{IsAscending, value_of, with_row, without_key}
 use Rattle.row_table.proofs.Changes.{value_of-with_row, value_of-without_key}
-use Rattle.depend_map.specs.Readers.{has_pair, reader_order, same_pair}
+use Rattle.depend_map.specs.Readers.{has_pair, reader_order, rows_with, same_pair}
 
 pub total_readers : IsTotalOrder reader_order
 total_readers = then_total (on_total (λ (p : Key × Subject). p.0) total_keys) (on_total (λ (p : Key × Subject). p.1) total_subjects)
@@ -56,6 +61,22 @@ module _ {V : Type 0} (pairs : List ((Key × Subject) × V)) (j : Key) (t : Subj
       ap is_some (value_of-without_key reader_order total_readers pairs (j, t) (k, s) ascending)
       ∙ took_some (is_eq (reader_order (j, t) (k, s))) (value_of reader_order pairs (k, s))
       ∙ ap (λ b. not b && has_pair pairs k s) tie
+
+-- ---- pairs alone as rows
+
+pub has-rows : (pairs : List (Key × Subject)) (k : Key) (s : Subject) → has_pair (rows_with pairs) k s ≡ list_any (λ (p : Key × Subject). same_pair p.0 p.1 k s) pairs
+has-rows [] k s = refl
+has-rows (p ∷ pairs) k s =
+    put_some (is_eq (reader_order p (k, s))) tt (value_of reader_order (rows_with pairs) (k, s))
+    ∙ ap (λ b. b || has_pair (rows_with pairs) k s) (both_tie (key_order p.0 k) (subject_order p.1 s))
+    ∙ ap (λ b. same_pair p.0 p.1 k s || b) (has-rows pairs k s)
+
+keys-rows : (pairs : List (Key × Subject)) → keys_of (rows_with pairs) ≡ pairs
+keys-rows [] = refl
+keys-rows (p ∷ pairs) = ap (λ rest. p ∷ rest) (keys-rows pairs)
+
+pub rows_ascend : (pairs : List (Key × Subject)) → IsAscending reader_order (rows_with (ascending reader_order pairs))
+rows_ascend pairs = subst (IsStrictlySortedBy reader_order) (sym (keys-rows (ascending reader_order pairs))) (sorted-ascending reader_order total_readers pairs)
 
 -- ---- one more key, where all of one subject are looked at in turn
 -- it isn't among the new ones, and is taken

@@ -29,6 +29,10 @@ is_reader rows k s = option_map_or (λ keys. holds_key keys k) (value_of subject
 abbrev pub same_pair : Key → Subject → Key → Subject → Bool
 same_pair j t k s = same_key j k && same_subject t s
 
+-- pairs as rows, which have no values
+abbrev pub rows_with : List (Key × Subject) → List ((Key × Subject) × Unit {0})
+rows_with pairs = map (λ pair. (pair, tt)) pairs
+
 module _ {V : Type 0} where
   -- whether a key stands among the pairs with a subject
   abbrev pub has_pair : List ((Key × Subject) × V) → Key → Subject → Bool

@@ -6,9 +6,9 @@ ghost use Rattle.std.specs.List.Sorted.{IsStrictlySortedBy};
 ghost use Rattle.cell_spec.specs.declared.key.Key.{Key as SpecKey};
 ghost use Rattle.cell_spec.specs.declared.key.Subject.{Subject as SpecSubject};
 ghost use Rattle.cell_spec.specs.Names.{key_order, same_subject};
-ghost use Rattle.depend_map.specs.Readers.{has_pair, holds_key, is_lost, same_pair};
+ghost use Rattle.depend_map.specs.Readers.{has_pair, holds_key, is_lost, rows_with, same_pair};
 
-use cell_spec::{Key, Subject, ascending_keys, orders_are_by_parts};
+use cell_spec::{Key, Subject, ascending_keys, distinct, orders_are_by_parts};
 use s57_types::Items;
 use shared_table::SharedTable;
 use std::alloc::{AllocError, Global};
@@ -114,16 +114,27 @@ pub(crate) fn replace_keys(
     put_gained(alloc, readers, subject, new)
 }
 
+// Pairs as rows, which have no values.
+fn rows_with(
+    alloc: Global,
+    pairs: &[(Key, Subject)],
+) -> Result<Vec<((Key, Subject), ())>, AllocError>
+    ensures { IfOk result (λ rows. rows.items ≡ rows_with pairs.now) }
+{
+    let mut rows = Vec::with_capacity(alloc, pairs.len())?;
+    for pair in pairs {
+        rows.push((*pair, ()))?;
+    }
+    Ok(rows)
+}
+
 /// The set of these pairs.
-pub(crate) fn set_of(alloc: Global, mut pairs: Vec<(Key, Subject)>) -> Result<ReaderSet, AllocError>
+pub(crate) fn set_of(alloc: Global, pairs: Vec<(Key, Subject)>) -> Result<ReaderSet, AllocError>
     ensures { IfOk result (λ set. (k : SpecKey) (s : SpecSubject) →
         has_pair set k s ≡ list_any (λ pair. same_pair pair.0 pair.1 k s) pairs.items) }
 {
-    // Rows that come in ascending order fill the table's pieces, and each is put where the last one was.
-    pairs.sort_unstable();
-    let mut set = SharedTable::make();
-    for (key, subject) in pairs {
-        put(alloc, &mut set, key, subject)?;
-    }
+    orders_are_by_parts();
+    let rows = rows_with(alloc, &distinct(pairs))?;
+    let set = SharedTable::from_ascending(alloc, rows)?;
     Ok(set)
 }
