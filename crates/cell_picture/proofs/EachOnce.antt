@@ -37,15 +37,14 @@ use Rattle.cell_findings.specs.declared.list.SubjectFinding.{SubjectFinding}
 use Rattle.cell_spec.specs.Lookup.{name_of}
 use Rattle.geometry_spec.specs.declared.tile.Box4.{Box4}
 use Rattle.rule_spec.specs.Features.{is_coverage_area, is_group1_area}
-use Rattle.cell_picture.specs.declared.page.PagePoint.{PagePoint}
+use Rattle.picture_places.specs.declared.page.PagePoint.{PagePoint}
 use Rattle.cell_picture.specs.declared.shape.Class.TheVariants.{Group1, Coverage}
 use Rattle.cell_picture.specs.declared.shape.Figure.{Figure}
 use Rattle.cell_picture.specs.declared.shape.Mark.{Mark}
 use Rattle.cell_picture.specs.declared.shape.Row.{Row}
 use Rattle.cell_picture.specs.declared.shape.TheConstants.{MARK_LIMIT}
-use Rattle.cell_picture.specs.Labels.{anchor_of}
+use Rattle.picture_places.specs.Labels.{anchor_of}
 use Rattle.cell_picture.specs.Laws.{EachIsDrawnOnce, is_drawn, is_numbered_somewhere, is_somewhere, line_marked, name_drawn, number_marked, numbered_line, numbered_marks, row_listed}
-use Rattle.cell_picture.specs.Places.{place_of}
 use Rattle.cell_picture.specs.Shapes.{
   Shape,
   area_figure,
@@ -56,6 +55,7 @@ use Rattle.cell_picture.specs.Shapes.{
   mark,
   mark_at,
   marks_from,
+  place_of,
   record_shapes,
   row,
   row_of,
@@ -67,7 +67,7 @@ use Rattle.cell_picture.specs.Shapes.{
   taken_with,
   vector_figure,
 }
-use Rattle.cell_picture.specs.Strokes.{Stroke}
+use Rattle.picture_places.specs.Strokes.{Stroke}
 
 -- what is asked of records alone, of findings alone, of rows alone, the others don't answer
 none_of_area : {X : Type 0} (ask : Shape → Option X) (group1 coverage : Bool) (a b : Figure) (rest : List Shape) → ((f : Figure) → ask (figure f) ≡ None)

@@ -7,10 +7,9 @@ use Rattle.s57_types.specs.declared.cell.Cell.{Cell}
 use Rattle.cell_findings.specs.Rows.{line_of}
 use Rattle.cell_findings.specs.declared.list.SubjectFinding.{SubjectFinding}
 use Rattle.geometry_spec.specs.declared.tile.Box4.{Box4}
-use Rattle.cell_picture.specs.Labels.{anchor_of, field_of, free_field}
-use Rattle.cell_picture.specs.Places.{place_of}
-use Rattle.cell_picture.specs.declared.page.PagePoint.{PagePoint}
-use Rattle.cell_picture.specs.Strokes.{Stroke}
+use Rattle.picture_places.specs.Labels.{anchor_of, field_of, free_field}
+use Rattle.picture_places.specs.declared.page.PagePoint.{PagePoint}
+use Rattle.picture_places.specs.Strokes.{Stroke}
 use Rattle.cell_picture.specs.ShapeText.{mark_text, row_text, shape_text, spot_text}
 use Rattle.cell_picture.specs.Shapes.{
   drawing_order,
@@ -18,6 +17,7 @@ use Rattle.cell_picture.specs.Shapes.{
   mark_at,
   mark_in,
   marks_from,
+  place_of,
   record_shapes,
   row_of,
   rows_from,

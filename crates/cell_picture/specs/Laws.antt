@@ -2,11 +2,9 @@
 use Rattle.std.specs.Prelude.{
   ◌≡◌,
   ℕ,
-  ◌≤◌,
   ◌<◌,
   ◌||◌,
   ◌==◌,
-  ◌≤ℤ◌,
   Bool,
   true,
   false,
@@ -31,23 +29,12 @@ use Rattle.s57_types.specs.declared.record.Rec.TheVariants.{V, F, H}
 use Rattle.cell_findings.specs.Rows.{line_of}
 use Rattle.cell_findings.specs.declared.list.SubjectFinding.{SubjectFinding}
 use Rattle.cell_spec.specs.Lookup.{name_of}
-use Rattle.geometry_spec.specs.Points.{Point}
 use Rattle.geometry_spec.specs.declared.tile.Box4.{Box4}
 use Rattle.rule_spec.specs.Features.{is_coverage_area, is_group1_area}
 use Rattle.cell_picture.specs.declared.shape.TheConstants.{MARK_LIMIT}
 use Rattle.cell_picture.specs.Escapes.{escaped}
-use Rattle.cell_picture.specs.Labels.{anchor_of}
-use Rattle.cell_picture.specs.Page.{page_point}
-use Rattle.cell_picture.specs.Places.{place_of}
-use Rattle.cell_picture.specs.Shapes.{Shape, drawing_order, figure, mark, row, shapes, spot}
-
--- north is up and east to the right: of two points in the box that is drawn, the one further north isn't lower, and the one further east not
--- further left
-abbrev pub NorthIsUp : Type 0
-NorthIsUp = (around : Box4) (p q : Point) → p.0 ≤ℤ q.0 → q.0 ≤ℤ around.north → (page_point around q).y ≤ (page_point around p).y
-
-abbrev pub EastIsRight : Type 0
-EastIsRight = (around : Box4) (p q : Point) → around.west ≤ℤ p.1 → p.1 ≤ℤ q.1 → (page_point around p).x ≤ (page_point around q).x
+use Rattle.picture_places.specs.Labels.{anchor_of}
+use Rattle.cell_picture.specs.Shapes.{Shape, drawing_order, figure, mark, place_of, row, shapes, spot}
 
 -- the record that a shape draws, the line of the finding that it marks, the number by which it does, and number and line of a row
 abbrev pub name_drawn : Shape → Option RecName

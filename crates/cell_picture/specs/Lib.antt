@@ -1,8 +1,3 @@
-pub mod Page
-pub mod Strokes
-pub mod Areas
-pub mod Places
-pub mod Labels
 pub mod Escapes
 pub mod Shapes
 pub mod ShapeText

@@ -1,25 +1,25 @@
 -- The picture of a cell and its findings as an SVG document. This project's own.
-use Rattle.std.specs.Prelude.{ℕ, ◌+◌, ◌*◌, ℤ, List, [], ◌∷◌, ◌++◌, codes, length, flat_map}
+use Rattle.std.specs.Prelude.{ℕ, ◌+◌, ◌*◌, ◌/◌, ℤ, List, [], ◌∷◌, ◌++◌, codes, length, flat_map}
 use Rattle.std.specs.Fmt.{decimal, signed_decimal}
 use Rattle.s57_types.specs.declared.cell.Cell.{Cell}
 use Rattle.cell_findings.specs.declared.list.SubjectFinding.{SubjectFinding}
 use Rattle.geometry_spec.specs.declared.tile.Box4.{Box4}
 use Rattle.text_spec.specs.Lines.{spaced_words}
-use Rattle.cell_picture.specs.declared.page.TheConstants.{PAGE_LEFT, PAGE_WIDTH}
+use Rattle.picture_places.specs.declared.page.TheConstants.{PAGE_LEFT, PAGE_WIDTH}
 use Rattle.cell_picture.specs.declared.shape.TheConstants.{LIST_TOP, ROW_HEIGHT}
 use Rattle.cell_picture.specs.Escapes.{escaped}
-use Rattle.cell_picture.specs.Page.{extent_of}
+use Rattle.picture_places.specs.Page.{extent_of}
 use Rattle.cell_picture.specs.ShapeText.{pair_text, shape_text, text_at}
 use Rattle.cell_picture.specs.Shapes.{shapes}
 
--- how high the page is: the picture, and a row for each finding
+-- how high the page is: the picture, and a row for each finding. A browser shows ten units as a pixel
 abbrev pub page_height : ℕ → ℕ
 page_height total = LIST_TOP + (total + 2) * ROW_HEIGHT
 
 abbrev pub opening_text : ℕ → List ℕ
 opening_text total =
-    codes "<svg xmlns='http://www.w3.org/2000/svg' width='1200' viewBox='0 0"
-    ++ (pair_text PAGE_WIDTH (page_height total) ++ codes "'>\n")
+    codes "<svg xmlns='http://www.w3.org/2000/svg' width='1200' height='" ++ (decimal (page_height total / 10)
+    ++ (codes "' viewBox='0 0" ++ (pair_text PAGE_WIDTH (page_height total) ++ codes "'>\n")))
 
 -- the name of the data set (DSNM), and what was counted
 abbrev pub counted_text : Cell → ℕ → List ℕ
@@ -57,15 +57,20 @@ abbrev pub line_style : List ℕ
 line_style =
     codes "<style>svg{background:#fff}path{fill:none;stroke-linecap:round;stroke-linejoin:round}\n"
     ++ (codes ".frame{stroke:#000;stroke-width:8}.edge{stroke:#666;stroke-width:14}.node{stroke:#004a80;stroke-width:56}\n"
-    ++ (codes ".isolated{stroke:#004a80;stroke-width:70;stroke-linecap:square}.sounding{stroke:#3b8fc4;stroke-width:36}\n"
-    ++ (codes ".group1,.coverage{fill-rule:evenodd;fill-opacity:.25}.group1{fill:#56b4e9}.coverage{fill:#f0e442}\n")))
+    ++ (codes ".isolated{stroke:#004a80;stroke-width:70;stroke-linecap:square}.sounding{stroke:#3b8fc4;stroke-width:50}\n"
+    ++ (codes ".group1,.coverage{fill-rule:evenodd}.group1{fill:#56b4e9;fill-opacity:.25}.coverage{fill:url(#hatch)}.hatch{stroke:#999;stroke-width:12}\n")))
 
 abbrev pub mark_style : List ℕ
 mark_style =
     codes ".mark,.spot{stroke:#d55e00;stroke-width:100;stroke-opacity:.45}.spot{stroke-width:50}\n"
-    ++ (codes ".lead{stroke:#d55e00;stroke-width:12}text{font-family:sans-serif;font-size:150px}\n"
+    ++ (codes ".lead{stroke:#8a3b00;stroke-width:12}text{font-family:sans-serif;font-size:150px}\n"
     ++ (codes ".label{font-weight:bold;font-size:190px;text-anchor:middle;dominant-baseline:central;\n"
     ++ (codes "paint-order:stroke;stroke:#fff;stroke-width:50}.heading{font-size:260px}</style>\n")))
+
+-- how coverage is filled
+abbrev pub hatch_text : List ℕ
+hatch_text =
+    codes "<pattern id='hatch' patternUnits='userSpaceOnUse' width='180' height='180'><path class='hatch' d='M 0 180 180 0h0'/></pattern>\n"
 
 -- what each sort of shape stands for
 abbrev pub key_text : List ℕ
@@ -86,8 +91,8 @@ heading_text c total = text_at (codes "heading") PAGE_LEFT 330 ++ (counted_text 
 
 abbrev pub head_text : Box4 → Cell → ℕ → List ℕ
 head_text around c total =
-    opening_text total ++ (names_text c total ++ (description_text around ++ (line_style ++ (mark_style ++ (heading_text c total
-    ++ (key_text ++ area_key_text))))))
+    opening_text total ++ (names_text c total ++ (description_text around ++ (line_style ++ (mark_style ++ (hatch_text ++ (heading_text c total
+    ++ (key_text ++ area_key_text)))))))
 
 -- the frame, with the coordinates of its sides, and the head of the list
 abbrev pub corner_text : ℕ → List ℕ → List ℕ

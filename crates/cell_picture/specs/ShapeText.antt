@@ -4,8 +4,8 @@ use Rattle.std.specs.Fmt.{decimal}
 use Rattle.s57_types.specs.declared.name.RecName.{RecName}
 use Rattle.text_spec.specs.CellText.{name_words}
 use Rattle.text_spec.specs.Lines.{spaced, spaced_words}
-use Rattle.cell_picture.specs.declared.page.PagePoint.{PagePoint}
-use Rattle.cell_picture.specs.declared.page.TheConstants.{PAGE_LEFT}
+use Rattle.picture_places.specs.declared.page.PagePoint.{PagePoint}
+use Rattle.picture_places.specs.declared.page.TheConstants.{PAGE_LEFT}
 use Rattle.cell_picture.specs.declared.shape.Class.{Class}
 use Rattle.cell_picture.specs.declared.shape.Class.TheVariants.{Group1, Coverage, Edge, Node, Isolated, Sounding}
 use Rattle.cell_picture.specs.declared.shape.Figure.{Figure}
@@ -13,7 +13,7 @@ use Rattle.cell_picture.specs.declared.shape.Mark.{Mark}
 use Rattle.cell_picture.specs.declared.shape.Row.{Row}
 use Rattle.cell_picture.specs.Escapes.{escaped}
 use Rattle.cell_picture.specs.Shapes.{Shape, figure, mark, spot, row}
-use Rattle.cell_picture.specs.Strokes.{Stroke}
+use Rattle.picture_places.specs.Strokes.{Stroke}
 
 abbrev pub class_word : Class → List ℕ
 class_word Group1 = codes "group1"

@@ -12,17 +12,17 @@ use Rattle.cell_findings.specs.Rows.{line_of}
 use Rattle.cell_findings.specs.declared.list.SubjectFinding.{SubjectFinding}
 use Rattle.geometry_spec.specs.declared.tile.Box4.{Box4}
 use Rattle.rule_spec.specs.Features.{is_coverage_area, is_group1_area}
-use Rattle.cell_picture.specs.declared.page.PagePoint.{PagePoint}
+use Rattle.picture_places.specs.declared.page.PagePoint.{PagePoint}
 use Rattle.cell_picture.specs.declared.shape.Class.{Class}
 use Rattle.cell_picture.specs.declared.shape.Class.TheVariants.{Group1, Coverage, Edge, Node, Isolated, Sounding}
 use Rattle.cell_picture.specs.declared.shape.Figure.{Figure}
 use Rattle.cell_picture.specs.declared.shape.Mark.{Mark}
 use Rattle.cell_picture.specs.declared.shape.Row.{Row}
 use Rattle.cell_picture.specs.declared.shape.TheConstants.{ROW_HEIGHT, MARK_LIMIT, LIST_TOP}
-use Rattle.cell_picture.specs.Areas.{area_strokes}
-use Rattle.cell_picture.specs.Labels.{anchor_of, field_of, free_field, label_point}
-use Rattle.cell_picture.specs.Places.{place_of}
-use Rattle.cell_picture.specs.Strokes.{Stroke, vector_strokes}
+use Rattle.picture_places.specs.Areas.{area_strokes}
+use Rattle.picture_places.specs.Labels.{anchor_of, field_of, free_field, label_point}
+use Rattle.picture_places.specs.Places.{place_about}
+use Rattle.picture_places.specs.Strokes.{Stroke, vector_strokes}
 
 -- a record, a finding where it is, one of very many findings, a row of the list
 pub data Shape : Type 0 where
@@ -64,6 +64,9 @@ record_shapes c around (H h) = []
 -- the records in the order in which they are drawn
 abbrev pub drawing_order : Cell → List Rec
 drawing_order c = c.fe ++ (c.ve ++ (c.vc ++ c.vi))
+
+abbrev pub place_of : Cell → Box4 → SubjectFinding → List Stroke
+place_of c around found = place_about c around found.subject found.finding
 
 -- the mark of a finding that is held at a point, with its number in a field
 abbrev pub mark_in : ℕ → List ℕ → List Stroke → PagePoint → ℕ → Mark

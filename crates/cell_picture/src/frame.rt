@@ -2,20 +2,20 @@
 
 ghost use Rattle.std.specs.Prelude.{◌≡◌, ◌++◌, ◌∷◌, [], OnOk, codes, decimal};
 ghost use Rattle.text_spec.specs.Lines.{spaced_words};
-ghost use Rattle.cell_picture.specs.Picture.{area_key_text, corner_text, counted_text, description_head, description_tail, description_text, frame_text, head_text, heading_text, key_text, line_style, mark_style, names_text, north_west_text, opening_text, page_height as spec_page_height, side_words, south_east_text};
+ghost use Rattle.cell_picture.specs.Picture.{area_key_text, corner_text, counted_text, description_head, description_tail, description_text, frame_text, hatch_text, head_text, heading_text, key_text, line_style, mark_style, names_text, north_west_text, opening_text, page_height as spec_page_height, side_words, south_east_text};
 ghost use Rattle.cell_picture.specs.ShapeText.{text_at};
 
 use crate::escape::push_escaped;
-use crate::page::{PAGE_LEFT, PAGE_WIDTH};
 use crate::shape::{LIST_TOP, ROW_HEIGHT};
 use crate::text::{push_pair, push_text_at};
 use geometry_spec::Box4;
 use itoa::Buffer;
+use picture_places::{PAGE_LEFT, PAGE_WIDTH};
 use s57_types::Cell;
 use std::alloc::AllocError;
 use text_lines::{push_text, push_word};
 
-/// How high the page is with so many findings, in page units.
+/// How high the page is with so many findings, in page units. A browser shows ten of them as a pixel.
 fn page_height(total: u32) -> u64
     ensures { result ≡ spec_page_height total }
 {
@@ -26,11 +26,15 @@ fn page_height(total: u32) -> u64
 fn push_svg(out: &mut Vec<u8>, total: u32) -> Result<(), AllocError>
     ensures { OnOk result (out.new.items ≡ out.old.items ++ opening_text total) }
 {
+    let height = page_height(total);
+    let mut buffer = Buffer::new();
     push_text(
         out,
-        "<svg xmlns='http://www.w3.org/2000/svg' width='1200' viewBox='0 0",
+        "<svg xmlns='http://www.w3.org/2000/svg' width='1200' height='",
     )?;
-    push_pair(out, PAGE_WIDTH, page_height(total))?;
+    push_text(out, buffer.format(height / 10))?;
+    push_text(out, "' viewBox='0 0")?;
+    push_pair(out, PAGE_WIDTH, height)?;
     push_text(out, "'>\n")
 }
 
@@ -130,11 +134,11 @@ fn push_line_style(out: &mut Vec<u8>) -> Result<(), AllocError>
     )?;
     push_text(
         out,
-        ".isolated{stroke:#004a80;stroke-width:70;stroke-linecap:square}.sounding{stroke:#3b8fc4;stroke-width:36}\n",
+        ".isolated{stroke:#004a80;stroke-width:70;stroke-linecap:square}.sounding{stroke:#3b8fc4;stroke-width:50}\n",
     )?;
     push_text(
         out,
-        ".group1,.coverage{fill-rule:evenodd;fill-opacity:.25}.group1{fill:#56b4e9}.coverage{fill:#f0e442}\n",
+        ".group1,.coverage{fill-rule:evenodd}.group1{fill:#56b4e9;fill-opacity:.25}.coverage{fill:url(#hatch)}.hatch{stroke:#999;stroke-width:12}\n",
     )
 }
 
@@ -148,7 +152,7 @@ fn push_mark_style(out: &mut Vec<u8>) -> Result<(), AllocError>
     )?;
     push_text(
         out,
-        ".lead{stroke:#d55e00;stroke-width:12}text{font-family:sans-serif;font-size:150px}\n",
+        ".lead{stroke:#8a3b00;stroke-width:12}text{font-family:sans-serif;font-size:150px}\n",
     )?;
     push_text(
         out,
@@ -157,6 +161,16 @@ fn push_mark_style(out: &mut Vec<u8>) -> Result<(), AllocError>
     push_text(
         out,
         "paint-order:stroke;stroke:#fff;stroke-width:50}.heading{font-size:260px}</style>\n",
+    )
+}
+
+/// Appends how coverage is filled.
+fn push_hatch(out: &mut Vec<u8>) -> Result<(), AllocError>
+    ensures { OnOk result (out.new.items ≡ out.old.items ++ hatch_text) }
+{
+    push_text(
+        out,
+        "<pattern id='hatch' patternUnits='userSpaceOnUse' width='180' height='180'><path class='hatch' d='M 0 180 180 0h0'/></pattern>\n",
     )
 }
 
@@ -222,6 +236,7 @@ pub(crate) fn push_head(
     push_description(out, around)?;
     push_line_style(out)?;
     push_mark_style(out)?;
+    push_hatch(out)?;
     push_heading(out, cell, total)?;
     push_key(out)?;
     push_area_key(out)

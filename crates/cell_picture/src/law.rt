@@ -1,12 +1,6 @@
 //! Laws of the definitions, each the contract of a function that does nothing.
 
-ghost use Rattle.cell_picture.specs.Laws.{EachIsDrawnOnce, EastIsRight, EscapesLeaveNoMarkup, NorthIsUp};
-
-/// In a picture north is up and east to the right.
-pub fn north_is_up()
-    ensures north { NorthIsUp }
-    ensures east { EastIsRight }
-{}
+ghost use Rattle.cell_picture.specs.Laws.{EachIsDrawnOnce, EscapesLeaveNoMarkup};
 
 /// Each node and edge and each area of Group 1 and of coverage is drawn once; each finding has one row in the list by its number, and one mark if it
 /// is anywhere, which has the number too where there are at most 500.

@@ -5,26 +5,24 @@ ghost use Rattle.cell_findings.specs.Rows.{line_of as spec_line_of};
 ghost use Rattle.cell_spec.specs.Writable.{IsWritable};
 ghost use Rattle.chain_topo.specs.Readable.{IsReadable};
 ghost use Rattle.s57_types.specs.declared.record.Rec.TheVariants.{V};
-ghost use Rattle.cell_picture.specs.Labels.{anchor_of as spec_anchor_of};
-ghost use Rattle.cell_picture.specs.Places.{place_of as spec_place_of};
+ghost use Rattle.picture_places.specs.Holds.{IsHeld};
+ghost use Rattle.picture_places.specs.Labels.{anchor_of as spec_anchor_of};
 ghost use Rattle.cell_picture.specs.Picture.{picture, picture_around};
 ghost use Rattle.cell_picture.specs.ShapeText.{figure_text, mark_text, row_text, shape_text, spot_text};
-ghost use Rattle.cell_picture.specs.Shapes.{area_figure, class_by, drawing_order, feature_shapes, finding_shapes, mark_at, mark_in, marks_from, node_class, record_shapes, row_of, rows_from, shapes, spot_at, spot_of, taken_with, vector_figure};
+ghost use Rattle.cell_picture.specs.Shapes.{area_figure, class_by, drawing_order, feature_shapes, finding_shapes, mark_at, mark_in, marks_from, node_class, place_of as spec_place_of, record_shapes, row_of, rows_from, shapes, spot_at, spot_of, taken_with, vector_figure};
 
-use crate::area::{area_strokes_of, is_coverage_area};
-use crate::extent::extent_of;
 use crate::frame::{push_frame, push_head};
-use crate::label::{anchor_of, field_of, free_field, label_point};
-use crate::page::PagePoint;
-use crate::place::place_of;
 use crate::shape::{Class, Figure, LIST_TOP, MARK_LIMIT, Mark, ROW_HEIGHT, Row};
-use crate::stroke::{Strokes, push_vector};
 use crate::text::{push_figure, push_mark, push_row, push_spot};
 use cell_findings::{SubjectFinding, push_findings};
 use cell_spec::writable_cells_are_readable;
 use chain_topo::{ListLook, Steps};
 use check_words::{is_group1_area, number};
 use geometry_spec::Box4;
+use picture_places::{
+    Held, PagePoint, Strokes, anchor_of, area_strokes_of, extent_of, field_of, free_field,
+    is_coverage_area, label_point, mark_anchor, place_of, push_vector,
+};
 use s57_types::{Cell, Feature, Kind, Rec, Text, Vector};
 use std::alloc::{AllocError, Global};
 use std::sync::ledger::Ledger;
@@ -232,7 +230,7 @@ fn draw_mark<L: Ledger>(
         (spec_anchor_of (spec_place_of look.now around found)))) }
     ensures taken { OnOk result (taken.new.items ≡ taken_with taken.old.items (spec_anchor_of (spec_place_of look.now around found))) }
 {
-    let strokes = place_of(alloc, look, around, found, steps)?;
+    let strokes = place_of(alloc, look, around, found.subject, found.finding, steps)?;
     let anchor = anchor_of(strokes.as_slice());
     draw_mark_at(alloc, out, taken, number, found, strokes, anchor)
 }
@@ -291,12 +289,23 @@ fn draw_spot<L: Ledger>(
     look: &ListLook,
     around: Box4,
     found: SubjectFinding,
+    held: &mut Option<Held>,
     steps: &mut Steps<L>,
 ) -> Result<(), AllocError>
-    ensures { OnOk result (out.new.items ≡ out.old.items ++ flat_map shape_text (spot_of look.now around found)) }
+    requires { IsHeld look.now around held.old }
+    ensures text { OnOk result (out.new.items ≡ out.old.items ++ flat_map shape_text (spot_of look.now around found)) }
+    ensures held { IsHeld look.now around held.new }
 {
-    let strokes = place_of(alloc, look, around, found, steps)?;
-    draw_spot_at(alloc, out, found, anchor_of(strokes.as_slice()))
+    let at = mark_anchor(
+        alloc,
+        look,
+        around,
+        found.subject,
+        found.finding,
+        held,
+        steps,
+    )?;
+    draw_spot_at(alloc, out, found, at)
 }
 
 /// Appends very many findings as dots.
@@ -311,8 +320,9 @@ fn draw_spots<L: Ledger>(
 ) -> Result<(), AllocError>
     ensures { OnOk result (out.new.items ≡ out.old.items ++ flat_map shape_text (flat_map (spot_of look.now around) findings.now)) }
 {
+    let mut held = None;
     for found in findings {
-        draw_spot(alloc, out, look, around, *found, steps)?;
+        draw_spot(alloc, out, look, around, *found, &mut held, steps)?;
     }
     Ok(())
 }

@@ -1,7 +1,6 @@
 //! What a picture is made of.
 
-use crate::page::PagePoint;
-use crate::stroke::Strokes;
+use picture_places::{PagePoint, Strokes};
 use s57_types::{RecName, Text};
 
 /// How high a row of the list is, in page units.

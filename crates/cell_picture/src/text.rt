@@ -5,10 +5,9 @@ ghost use Rattle.text_spec.specs.Lines.{spaced, spaced_words};
 ghost use Rattle.cell_picture.specs.ShapeText.{class_word, figure_text, mark_number_text, mark_place_text, mark_text, pair_text, path_text, point_words, record_title, row_text, spot_text, stroke_text, text_at, title_text};
 
 use crate::escape::push_escaped;
-use crate::page::{PAGE_LEFT, PagePoint};
 use crate::shape::{Class, Figure, Mark, Row};
-use crate::stroke::Stroke;
 use itoa::Buffer;
+use picture_places::{PAGE_LEFT, PagePoint, Stroke};
 use s57_types::RecName;
 use std::alloc::AllocError;
 use text_lines::{push_name, push_number, push_text, push_word};

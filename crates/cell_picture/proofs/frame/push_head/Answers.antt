@@ -1,5 +1,5 @@
 use Rattle.std.proofs.Common.{◌++◌}
-use Rattle.cell_picture.specs.Picture.{area_key_text, description_text, heading_text, key_text, line_style, mark_style, names_text, opening_text}
+use Rattle.cell_picture.specs.Picture.{area_key_text, description_text, hatch_text, heading_text, key_text, line_style, mark_style, names_text, opening_text}
 use Rattle.std.proofs.lemmas.Result.{on_ok_weaker}
 use Rattle.cell_picture.proofs.Pushes.{after}
 use Rattle.cell_picture.proofs.frame.push_head.Goals as goal
@@ -12,11 +12,12 @@ returns c =
     let description = description_text c.args.around in
     let heading = heading_text c.args.cell.now c.args.total in
     on_ok_weaker c.push_area_key.result
-    (λ last. after out opening (names ++ (description ++ (line_style ++ (mark_style ++ (heading ++ (key_text ++ area_key_text)))))) c.in_ok-push_svg.ensures
-    (after c.push_svg.new.out.items names (description ++ (line_style ++ (mark_style ++ (heading ++ (key_text ++ area_key_text))))) c.in_ok-push_names.ensures
-    (after c.push_names.new.out.items description (line_style ++ (mark_style ++ (heading ++ (key_text ++ area_key_text)))) c.in_ok-push_description.ensures
-    (after c.push_description.new.out.items line_style (mark_style ++ (heading ++ (key_text ++ area_key_text))) c.in_ok-push_line_style.ensures
-    (after c.push_line_style.new.out.items mark_style (heading ++ (key_text ++ area_key_text)) c.in_ok-push_mark_style.ensures
-    (after c.push_mark_style.new.out.items heading (key_text ++ area_key_text) c.in_ok-push_heading.ensures
-    (after c.push_heading.new.out.items key_text area_key_text c.in_ok-push_key.ensures last)))))))
+    (λ last. after out opening (names ++ (description ++ (line_style ++ (mark_style ++ (hatch_text ++ (heading ++ (key_text ++ area_key_text))))))) c.in_ok-push_svg.ensures
+    (after c.push_svg.new.out.items names (description ++ (line_style ++ (mark_style ++ (hatch_text ++ (heading ++ (key_text ++ area_key_text)))))) c.in_ok-push_names.ensures
+    (after c.push_names.new.out.items description (line_style ++ (mark_style ++ (hatch_text ++ (heading ++ (key_text ++ area_key_text))))) c.in_ok-push_description.ensures
+    (after c.push_description.new.out.items line_style (mark_style ++ (hatch_text ++ (heading ++ (key_text ++ area_key_text)))) c.in_ok-push_line_style.ensures
+    (after c.push_line_style.new.out.items mark_style (hatch_text ++ (heading ++ (key_text ++ area_key_text))) c.in_ok-push_mark_style.ensures
+    (after c.push_mark_style.new.out.items hatch_text (heading ++ (key_text ++ area_key_text)) c.in_ok-push_hatch.ensures
+    (after c.push_hatch.new.out.items heading (key_text ++ area_key_text) c.in_ok-push_heading.ensures
+    (after c.push_heading.new.out.items key_text area_key_text c.in_ok-push_key.ensures last))))))))
     c.push_area_key.ensures

@@ -1,7 +1,7 @@
 use Rattle.std.proofs.Common.{◌≡◌, ◌++◌, ◌∷◌, [], ap, sym, ◌∙◌}
 use Rattle.std.proofs.lemmas.Result.{on_ok_weaker}
 use Rattle.cell_findings.specs.Rows.{line_of}
-use Rattle.cell_picture.specs.Labels.{field_of, free_field}
+use Rattle.picture_places.specs.Labels.{field_of, free_field}
 use Rattle.cell_picture.specs.ShapeText.{mark_text}
 use Rattle.cell_picture.specs.Shapes.{mark_in, taken_with}
 use Rattle.cell_picture.proofs.Marks.{mark_here}

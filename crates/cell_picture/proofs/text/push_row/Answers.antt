@@ -1,7 +1,7 @@
 use Rattle.std.proofs.Common.{◌++◌, ◌∙◌}
 use Rattle.std.specs.Prelude.{codes}
 use Rattle.std.specs.Fmt.{decimal}
-use Rattle.cell_picture.specs.declared.page.TheConstants.{PAGE_LEFT}
+use Rattle.picture_places.specs.declared.page.TheConstants.{PAGE_LEFT}
 use Rattle.cell_picture.specs.Escapes.{escaped}
 use Rattle.cell_picture.specs.ShapeText.{text_at}
 use Rattle.std.proofs.lemmas.Result.{on_ok_weaker}

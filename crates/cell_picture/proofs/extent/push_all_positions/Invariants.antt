@@ -1,7 +1,0 @@
-use Rattle.std.proofs.Common.{◌≡◌, ◌++◌, take}
-use Rattle.std.specs.List.{flat_map}
-use Rattle.cell_picture.specs.Page.{record_positions}
-use Rattle.cell_picture.proofs.extent.push_all_positions.Given as goal
-
-abbrev pub invariant-loop-rec : goal.invariant-loop-rec
-invariant-loop-rec l = l.points.items ≡ l.initial.points.items ++ flat_map record_positions (take l.rec-index l.recs)

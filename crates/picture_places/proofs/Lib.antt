@@ -1,0 +1,4 @@
+pub mod Weights
+pub mod Scales
+pub mod Fields
+pub mod Anchors

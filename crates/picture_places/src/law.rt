@@ -1,0 +1,9 @@
+//! A law of the definitions, the contract of a function that does nothing.
+
+ghost use Rattle.picture_places.specs.North.{EastIsRight, NorthIsUp};
+
+/// In a picture north is up and east to the right.
+pub fn north_is_up()
+    ensures north { NorthIsUp }
+    ensures east { EastIsRight }
+{}
