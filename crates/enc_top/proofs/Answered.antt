@@ -41,9 +41,20 @@ use Rattle.enc_outside.specs.Count.{Rose}
 use Rattle.enc_outside.specs.Files.{Files}
 use Rattle.text_spec.specs.declared.command.Command.{Command}
 use Rattle.enc_top.specs.Inputs.{AreScripts, IsInputOf, IsInputStatus, IsReached, IsReachedScript, OutputIs, ScriptIs, ScriptsAre, Tells}
-use Rattle.enc_top.specs.Outcome.{IsAskedBy, IsBuilt, IsOutput}
-use Rattle.enc_top.specs.Task.{task_of}
-use Rattle.enc_top.specs.Words.{Form}
+use Rattle.enc_top.specs.Outcome.{Asks, IsAskedBy, IsBuilt, IsBuiltFor, IsOutput}
+use Rattle.enc_top.specs.Task.{Task, task_of}
+use Rattle.enc_top.specs.Words.{
+  Form,
+  apply_form,
+  check_form,
+  drill_form,
+  edge_form,
+  make_form,
+  no_form,
+  probe_form,
+  replay_form,
+  room_form,
+}
 use Rattle.enc_top.specs.declared.work.Work.{Work}
 use Rattle.report_text.specs.declared.status.Status.{Status}
 use Rattle.report_text.specs.declared.status.Status.TheVariants.{
@@ -121,28 +132,75 @@ status_of_more P Q DiskFault more is = is
 status_of_more P Q (OpRefused cause) more is = is
 status_of_more P Q (JournalFull count) more is = is
 
--- the status at which the input files of a built form end a call
-pub asked_status : (sticks : Type 0) (form : Form) (files : Option Files) (before after : ℕ) (status : Status) → IsBuilt form
+-- ---- forms that have input files
+abbrev pub HasInput : Form → Type 0
+HasInput (make_form n out) = ⊥
+HasInput (drill_form n sessions) = ⊥
+HasInput no_form = ⊥
+HasInput form = Unit {0}
+
+built_of_input : (form : Form) → HasInput form → IsBuilt form
+built_of_input (check_form cell) has = tt
+built_of_input (replay_form cell out order scripts) has = tt
+built_of_input (room_form cell out scripts) has = tt
+built_of_input (make_form n out) has = tt
+built_of_input (drill_form n sessions) has = tt
+built_of_input (edge_form cell out operation) has = tt
+built_of_input (probe_form cell at) has = tt
+built_of_input (apply_form cell out update) has = tt
+built_of_input no_form has = has
+
+built_for_input : (form : Form) (before after : ℕ) → HasInput form → IsBuiltFor form before after
+built_for_input (check_form cell) before after has = tt
+built_for_input (replay_form cell out order scripts) before after has = tt
+built_for_input (room_form cell out scripts) before after has = tt
+built_for_input (make_form n out) before after has = absurd has
+built_for_input (drill_form n sessions) before after has = absurd has
+built_for_input (edge_form cell out operation) before after has = tt
+built_for_input (probe_form cell at) before after has = tt
+built_for_input (apply_form cell out update) before after has = tt
+built_for_input no_form before after has = absurd has
+
+asks_of_told : (form : Form) (files : Option Files) (before after : ℕ) (answer : Result Task Status) → HasInput form
+    → IfSome files (λ fs. OutputIs form fs answer) → Asks form files before after answer
+asks_of_told (check_form cell) files before after answer has told = told
+asks_of_told (replay_form cell out order scripts) files before after answer has told = told
+asks_of_told (room_form cell out scripts) files before after answer has told = told
+asks_of_told (make_form n out) files before after answer has told = absurd has
+asks_of_told (drill_form n sessions) files before after answer has told = absurd has
+asks_of_told (edge_form cell out operation) files before after answer has told = told
+asks_of_told (probe_form cell at) files before after answer has told = told
+asks_of_told (apply_form cell out update) files before after answer has told = told
+asks_of_told no_form files before after answer has told = absurd has
+
+-- the status at which the input files of a form end a call
+pub asked_status : (sticks : Type 0) (form : Form) (files : Option Files) (before after : ℕ) (status : Status) → HasInput form
     → IsInputStatus (IsInputOf form) status
     → Tells task_of (OutputIs form) (IsReached form) files before after (Err status) → IsAskedBy sticks form files before after (Err status)
-asked_status sticks form files before after Done built is tells = absurd is
-asked_status sticks form files before after Usage built is tells = absurd is
-asked_status sticks form files before after (Absent name) built is tells = (is, built, tells)
-asked_status sticks form files before after (BadCell fault) built is tells = (built, tells)
-asked_status sticks form files before after (BadScript session line code) built is tells = (built, tells)
-asked_status sticks form files before after (ReadFault name) built is tells = (is, tells.0, tells.1)
-asked_status sticks form files before after WriteFault built is tells = absurd is
-asked_status sticks form files before after (TooLarge name) built is tells = (is, built, tells)
-asked_status sticks form files before after NoMemory built is tells = built
-asked_status sticks form files before after (BadOrder place) built is tells = (built, tells)
-asked_status sticks form files before after (Stuck desk serial) built is tells = absurd is
-asked_status sticks form files before after TooManyFindings built is tells = (built, tells)
-asked_status sticks form files before after (BadUpdate fault) built is tells = absurd is
-asked_status sticks form files before after (Refused refusal) built is tells = absurd is
-asked_status sticks form files before after (BadJournal place) built is tells = absurd is
-asked_status sticks form files before after DiskFault built is tells = absurd is
-asked_status sticks form files before after (OpRefused cause) built is tells = absurd is
-asked_status sticks form files before after (JournalFull count) built is tells = absurd is
+asked_status sticks form files before after Done has is tells = absurd is
+asked_status sticks form files before after Usage has is tells = absurd is
+asked_status sticks form files before after (Absent name) has is tells =
+    (is, built_of_input form has, asks_of_told form files before after (Err (Absent name)) has tells)
+asked_status sticks form files before after (BadCell fault) has is tells =
+    (built_of_input form has, asks_of_told form files before after (Err (BadCell fault)) has tells)
+asked_status sticks form files before after (BadScript session line code) has is tells =
+    (built_of_input form has, asks_of_told form files before after (Err (BadScript session line code)) has tells)
+asked_status sticks form files before after (ReadFault name) has is tells = (is, tells.0, tells.1)
+asked_status sticks form files before after WriteFault has is tells = absurd is
+asked_status sticks form files before after (TooLarge name) has is tells =
+    (is, built_of_input form has, asks_of_told form files before after (Err (TooLarge name)) has tells)
+asked_status sticks form files before after NoMemory has is tells = built_for_input form before after has
+asked_status sticks form files before after (BadOrder place) has is tells =
+    (built_of_input form has, asks_of_told form files before after (Err (BadOrder place)) has tells)
+asked_status sticks form files before after (Stuck desk serial) has is tells = absurd is
+asked_status sticks form files before after TooManyFindings has is tells =
+    (built_of_input form has, asks_of_told form files before after (Err TooManyFindings) has tells)
+asked_status sticks form files before after (BadUpdate fault) has is tells = absurd is
+asked_status sticks form files before after (Refused refusal) has is tells = absurd is
+asked_status sticks form files before after (BadJournal place) has is tells = absurd is
+asked_status sticks form files before after DiskFault has is tells = absurd is
+asked_status sticks form files before after (OpRefused cause) has is tells = absurd is
+asked_status sticks form files before after (JournalFull count) has is tells = absurd is
 
 -- ---- scripts one after the other
 pub name_there : (names : List (String Global)) (k : ℕ) (name : String Global) → k < length names → name ≡ get_or names k name
@@ -210,12 +268,12 @@ tells_last seen Step Whole Near Far P files before mid after (Ok a) le known mak
 tells_last seen Step Whole Near Far P files before mid after (Err status) le known make reach tells =
     tells_later seen seen Step Whole Near Far P files before mid after status le known (λ fs p step. make fs (Err status) p step) reach tells
 
--- an answer of a built form
+-- an answer of a form that has input files
 pub asked_answer : (sticks : Type 0) (form : Form) (files : Option Files) (before after : ℕ) (result : Result Work Status)
-    → IsBuilt form → IfOk result (λ work. IsOutput form files (task_of work)) → IfErr result (IsInputStatus (IsInputOf form))
+    → HasInput form → IfOk result (λ work. IsOutput form files (task_of work)) → IfErr result (IsInputStatus (IsInputOf form))
     → Tells task_of (OutputIs form) (IsReached form) files before after result → IsAskedBy sticks form files before after result
-asked_answer sticks form files before after (Ok work) built output is tells = (output, tells)
-asked_answer sticks form files before after (Err status) built output is tells = asked_status sticks form files before after status built is tells
+asked_answer sticks form files before after (Ok work) has output is tells = (output, asks_of_told form files before after (Ok (task_of work)) has tells)
+asked_answer sticks form files before after (Err status) has output is tells = asked_status sticks form files before after status has is tells
 
 pub if_err_more : {A : Type 0} (P Q : List ℕ → Type 0) (result : Result A Status) → ((name : List ℕ) → P name → Q name)
     → IfErr result (IsInputStatus P) → IfErr result (IsInputStatus Q)

@@ -1,18 +1,27 @@
 -- The cause of each status, from what the files ask for and what was put.
-use Rattle.std.proofs.Common.{◌≡◌, ◌⊎◌, inl, inr, ℕ, List, Option, Some, Result, Ok, Err, refl, sym, subst}
+use Rattle.std.proofs.Common.{◌≡◌, ◌⊎◌, inl, inr, ℕ, List, Option, Some, Result, Ok, Err, refl, sym, ◌∙◌, subst}
 use Rattle.std.specs.Prelude.{IfSome}
-use Rattle.enc_outside.specs.Files.{Files}
+use Rattle.enc_outside.specs.Count.{Rose}
+use Rattle.enc_outside.specs.Files.{Files, Told}
 use Rattle.enc_top.specs.Inputs.{IsInputOf, OutputIs}
+use Rattle.enc_top.specs.Output.{Adds, AddsFront}
 use Rattle.enc_top.specs.Outcome.{
+  AreBegun,
+  AreWritten,
+  Asks,
   IsAsked,
   IsAskedBy,
   IsBuilt,
+  IsBuiltFor,
   IsCause,
   IsCauseOf,
   IsCut,
+  IsCutFile,
+  IsCutText,
   IsDoneWork,
   IsExact,
   IsExpected,
+  IsFinished,
   IsOutput,
   IsSilent,
   IsSmooth,
@@ -20,7 +29,19 @@ use Rattle.enc_top.specs.Outcome.{
   Outside,
 }
 use Rattle.enc_top.specs.Task.{Task, task_of}
-use Rattle.enc_top.specs.Words.{Form, no_form, form_of}
+use Rattle.enc_top.specs.Words.{
+  Form,
+  apply_form,
+  check_form,
+  drill_form,
+  edge_form,
+  form_of,
+  make_form,
+  no_form,
+  probe_form,
+  replay_form,
+  room_form,
+}
 use Rattle.report_text.specs.declared.status.Status.{Status}
 use Rattle.report_text.specs.declared.status.Status.TheVariants.{
   Done,
@@ -45,7 +66,7 @@ use Rattle.report_text.specs.declared.status.Status.TheVariants.{
 use Rattle.enc_top.specs.declared.work.Work.{Work}
 
 pub work_cause : (sticks : Type 0) (form : Form) (before after : Outside) (work : Work) (status : Status)
-    → IsOutput form before.files (task_of work) → IsAsked before form (Ok (task_of work)) → IsDoneWork (task_of work) before after status
+    → IsOutput form before.files (task_of work) → IsAsked before after form (Ok (task_of work)) → IsDoneWork (task_of work) before after status
     → IsCauseOf sticks form before after status
 work_cause sticks form before after work Done output asked done = (task_of work, output, asked, done)
 work_cause sticks form before after work WriteFault output asked cut = (task_of work, output, asked, cut)
@@ -66,11 +87,47 @@ work_cause sticks form before after work DiskFault output asked done = absurd do
 work_cause sticks form before after work (OpRefused cause) output asked done = absurd done
 work_cause sticks form before after work (JournalFull count) output asked done = absurd done
 
+-- what was asked stays so while no more is read
+pub asked_still : (form : Form) (before mid after : Outside) (answer : Result Task Status) → after.read_faults ≡ mid.read_faults
+    → IsAsked before mid form answer → IsAsked before after form answer
+asked_still form before mid after answer same asked =
+    subst (λ (reads : ℕ). Asks form before.files before.read_faults reads answer) (sym same) asked
+
+-- the same of what was done before the reading of the input and after it
+module _ (before mid after : Outside) (same_files : mid.files ≡ before.files) (same_faults : mid.write_faults ≡ before.write_faults)
+    (same_written : mid.written ≡ before.written) (same_puts : mid.put_faults ≡ before.put_faults) where
+  finished_still : (task : Task) → IsFinished task mid after → IsFinished task before after
+  finished_still task done = record {
+    written = subst (λ (w : Option (List ℕ)). Told (Adds task.text) w after.written) same_written done.written;
+    files = subst (λ (fs : Option Files). AreWritten task.file fs after.files) same_files done.files;
+  }
+
+  cut_text_still : (task : Task) → IsCutText task mid after → IsCutText task before after
+  cut_text_still task cut = record {
+    rose = subst (λ n. Rose n after.put_faults) same_puts cut.rose;
+    written = subst (λ (w : Option (List ℕ)). Told (AddsFront task.text) w after.written) same_written cut.written;
+    files = cut.files ∙ same_files;
+    write_faults = cut.write_faults ∙ same_faults;
+  }
+
+  cut_file_still : (task : Task) → IsCutFile task mid after → IsCutFile task before after
+  cut_file_still task cut = record {
+    rose = subst (λ n. Rose n after.write_faults) same_faults cut.rose;
+    written = subst (λ (w : Option (List ℕ)). Told (Adds task.text) w after.written) same_written cut.written;
+    files = subst (λ (fs : Option Files). AreBegun task.file fs after.files) same_files cut.files;
+  }
+
+  pub done_still : (task : Task) (status : Status) → IsDoneWork task mid after status → IsDoneWork task before after status
+  done_still task Done done = finished_still task done
+  done_still task WriteFault (inl cut) = inl (cut_text_still task cut)
+  done_still task WriteFault (inr cut) = inr (cut_file_still task cut)
+  done_still task other done = absurd done
+
 pub refused_cause : (sticks : Type 0) (form : Form) (before after : Outside) (status : Status) → IsSilent before after
     → IsAskedBy sticks form before.files before.read_faults after.read_faults (Err status) → IsCauseOf sticks form before after status
 refused_cause sticks form before after Done silent asked = absurd asked
 refused_cause sticks form before after WriteFault silent asked = absurd asked
-refused_cause sticks form before after Usage silent asked = (asked, silent)
+refused_cause sticks form before after Usage silent asked = (asked.0, silent, asked.1)
 refused_cause sticks form before after (Absent name) silent asked = (asked.0, (asked.1, silent, asked.2))
 refused_cause sticks form before after (BadCell fault) silent asked = (asked.0, silent, asked.1)
 refused_cause sticks form before after (BadScript session line code) silent asked = (asked.0, silent, asked.1)
@@ -88,12 +145,29 @@ refused_cause sticks form before after (OpRefused cause) silent asked = (asked.0
 refused_cause sticks form before after (JournalFull count) silent asked = absurd asked
 
 -- ---- where no device failed
-of_told : (told : Option Files) (files : Files) (P : Files → Type 0) → told ≡ Some files → IfSome told P → P files
+pub of_told : (told : Option Files) (files : Files) (P : Files → Type 0) → told ≡ Some files → IfSome told P → P files
 of_told told files P is holds = subst (λ (t : Option Files). IfSome t P) is holds
 
+told_of_asks : (form : Form) (told : Option Files) (files : Files) (before after : ℕ) (answer : Result Task Status) → told ≡ Some files
+    → Asks form told before after answer → OutputIs form files answer
+told_of_asks (check_form cell) told files before after answer is asks = of_told told files (λ fs. OutputIs (check_form cell) fs answer) is asks
+told_of_asks (replay_form cell out order scripts) told files before after answer is asks =
+    of_told told files (λ fs. OutputIs (replay_form cell out order scripts) fs answer) is asks
+told_of_asks (room_form cell out scripts) told files before after answer is asks =
+    of_told told files (λ fs. OutputIs (room_form cell out scripts) fs answer) is asks
+told_of_asks (make_form n out) told files before after answer is asks = asks.0
+told_of_asks (drill_form n sessions) told files before after answer is asks = asks.0
+told_of_asks (edge_form cell out operation) told files before after answer is asks =
+    of_told told files (λ fs. OutputIs (edge_form cell out operation) fs answer) is asks
+told_of_asks (probe_form cell at) told files before after answer is asks = of_told told files (λ fs. OutputIs (probe_form cell at) fs answer) is asks
+told_of_asks (apply_form cell out update) told files before after answer is asks =
+    of_told told files (λ fs. OutputIs (apply_form cell out update) fs answer) is asks
+told_of_asks no_form told files before after answer is asks = asks.0
+
 asked_of : (form : Form) (before after : Outside) (files : Files) (answer : Result Task Status) → IsSmooth before after files
-    → IsAsked before form answer → OutputIs form files answer
-asked_of form before after files answer smooth asked = of_told before.files files (λ fs. OutputIs form fs answer) smooth.told asked
+    → IsAsked before after form answer → OutputIs form files answer
+asked_of form before after files answer smooth asked =
+    told_of_asks form before.files files before.read_faults after.read_faults answer smooth.told asked
 
 none_asked : (form : Form) (files : Files) → form ≡ no_form → OutputIs form files (Err Usage)
 none_asked form files is = subst (λ (f : Form). OutputIs f files (Err Usage)) (sym is) refl
@@ -135,6 +209,9 @@ no_input form name is none = subst (λ (f : Form). IsInputOf f name) none is
 not_built : (form : Form) → IsBuilt form → form ≡ no_form → ⊥
 not_built form built none = subst IsBuilt none built
 
+not_built_for : (form : Form) (before after : ℕ) → IsBuiltFor form before after → form ≡ no_form → ⊥
+not_built_for form before after built none = subst (λ (f : Form). IsBuiltFor f before after) none built
+
 no_output : (form : Form) (files : Option Files) (task : Task) → IsOutput form files task → form ≡ no_form → ⊥
 no_output form files task output none = subst (λ (f : Form). IsOutput f files task) none output
 
@@ -148,7 +225,7 @@ usage_of_none sticks form before after (BadCell fault) cause none = absurd (not_
 usage_of_none sticks form before after (BadScript session line code) cause none = absurd (not_built form cause.0 none)
 usage_of_none sticks form before after (ReadFault name) cause none = absurd (no_input form name cause.0 none)
 usage_of_none sticks form before after (TooLarge name) cause none = absurd (no_input form name cause.0 none)
-usage_of_none sticks form before after NoMemory cause none = absurd (not_built form cause.0 none)
+usage_of_none sticks form before after NoMemory cause none = absurd (not_built_for form before.read_faults after.read_faults cause.0 none)
 usage_of_none sticks form before after (BadOrder place) cause none = absurd (not_built form cause.0 none)
 usage_of_none sticks form before after (Stuck desk serial) cause none = absurd (subst (λ (f : Form). IsStuckAt f before.files desk serial) none cause.2)
 usage_of_none sticks form before after TooManyFindings cause none = absurd (not_built form cause.0 none)

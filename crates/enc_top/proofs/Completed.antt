@@ -134,14 +134,14 @@ not_above limit n within = grind (arith, nat_tests)
 content_is : (limit : ℕ) (name bytes : List ℕ) (files : Files) → IsThere limit name bytes files → FileIs limit name files (Ok bytes)
 content_is limit name bytes files file = rw file.there (rw (not_above limit (length bytes) file.within) refl)
 
-cell_is : (name : List ℕ) (files : Files) (good : IsGoodCell name files) → CellIs name files (Ok good.start)
+pub cell_is : (name : List ℕ) (files : Files) (good : IsGoodCell name files) → CellIs name files (Ok good.start)
 cell_is name files good = inl (
   good.bytes,
   content_is cell_limit name good.bytes files good.file,
   rw good.decoded (rw (not_above finding_limit (finding_total good.start) good.few) refl),
 )
 
-script_is : (session : ℕ) (name : List ℕ) (files : Files) (commands : List Command) → IsGoodScript name files commands
+pub script_is : (session : ℕ) (name : List ℕ) (files : Files) (commands : List Command) → IsGoodScript name files commands
     → ScriptIs session name files (Ok commands)
 script_is session name files commands good = inl (good.bytes, content_is script_limit name good.bytes files good.file, good.script)
 

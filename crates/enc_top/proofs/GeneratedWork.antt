@@ -24,7 +24,7 @@ use Rattle.std.proofs.Common.{
   subst,
   arith,
 }
-use Rattle.std.specs.Prelude.{IfSome, nat_lt}
+use Rattle.std.specs.Prelude.{nat_lt}
 use Rattle.std.proofs.lemmas.Bool.Decides.{nat_tests}
 use Rattle.cell_make.specs.GeneratedCell.{generated_cell}
 use Rattle.drill_run.specs.Drills.{IsDrilled}
@@ -45,18 +45,14 @@ use Rattle.report_text.specs.declared.status.Status.{Status}
 use Rattle.report_text.specs.declared.status.Status.TheVariants.{NoMemory, TooManyFindings}
 use Rattle.enc_top.proofs.Completed.{drilled}
 
-always : {P : Type 0} (files : Option Files) → P → IfSome files (λ fs. P)
-always None p = tt
-always (Some fs) p = p
+pub asked_make : (form : Form) (n : ℕ) (out : List ℕ) (files : Option Files) (count : ℕ) (work : Work) → form ≡ make_form n out
+    → IsMakeOf n out (task_of work) → IsAskedBy ⊥ form files count count (Ok work)
+asked_make form n out files count work is made =
+    subst (λ (f : Form). IsAskedBy ⊥ f files count count (Ok work)) (sym is) (made, (ap (λ (task : Task). Ok task) made.is, refl))
 
-pub asked_make : (form : Form) (n : ℕ) (out : List ℕ) (files : Option Files) (before after : ℕ) (work : Work) → form ≡ make_form n out
-    → IsMakeOf n out (task_of work) → IsAskedBy ⊥ form files before after (Ok work)
-asked_make form n out files before after work is made =
-    subst (λ (f : Form). IsAskedBy ⊥ f files before after (Ok work)) (sym is) (made, always files (ap (λ (task : Task). Ok task) made.is))
-
-pub no_room_to_make : (form : Form) (n : ℕ) (out : List ℕ) (files : Option Files) (before after : ℕ) → form ≡ make_form n out
-    → IsAskedBy ⊥ form files before after (Err NoMemory)
-no_room_to_make form n out files before after is = subst (λ (f : Form). IsAskedBy ⊥ f files before after (Err NoMemory)) (sym is) tt
+pub no_room_to_make : (form : Form) (n : ℕ) (out : List ℕ) (files : Option Files) (count : ℕ) → form ≡ make_form n out
+    → IsAskedBy ⊥ form files count count (Err NoMemory)
+no_room_to_make form n out files count is = subst (λ (f : Form). IsAskedBy ⊥ f files count count (Err NoMemory)) (sym is) refl
 
 same_err : (x y : Status) → ◌≡◌ {A = Result Task Status} (Err x) (Err y) → x ≡ y
 same_err x y e = cc
@@ -72,20 +68,20 @@ full_drill n sessions status is = by (nat_lt finding_limit (finding_total (gener
     by true e = same_err TooManyFindings status e
     by false e = absurd (not_ok (drill_task n sessions) status e)
 
-drill_asked : (n sessions : ℕ) (files : Option Files) (before after : ℕ) (result : Result Work Status)
-    → IsJudged task_of (drill_answer n sessions) result → IsAskedBy ⊥ (drill_form n sessions) files before after result
-drill_asked n sessions files before after (Ok work) is = (is, always files (sym is))
-drill_asked n sessions files before after (Err status) (inr none) =
-    subst (λ (s : Status). IsAskedBy ⊥ (drill_form n sessions) files before after (Err s)) (sym none) tt
-drill_asked n sessions files before after (Err status) (inl is) =
+drill_asked : (n sessions : ℕ) (files : Option Files) (count : ℕ) (result : Result Work Status)
+    → IsJudged task_of (drill_answer n sessions) result → IsAskedBy ⊥ (drill_form n sessions) files count count result
+drill_asked n sessions files count (Ok work) is = (is, (sym is, refl))
+drill_asked n sessions files count (Err status) (inr none) =
+    subst (λ (s : Status). IsAskedBy ⊥ (drill_form n sessions) files count count (Err s)) (sym none) refl
+drill_asked n sessions files count (Err status) (inl is) =
     let full = full_drill n sessions status is in
-    subst (λ (s : Status). IsAskedBy ⊥ (drill_form n sessions) files before after (Err s)) full
-    (tt, always files (sym (is ∙ ap (λ (s : Status). Err s) (sym full))))
+    subst (λ (s : Status). IsAskedBy ⊥ (drill_form n sessions) files count count (Err s)) full
+    (tt, (sym (is ∙ ap (λ (s : Status). Err s) (sym full)), refl))
 
-pub asked_drill : (form : Form) (n sessions : ℕ) (files : Option Files) (before after : ℕ) (result : Result Work Status)
-    → form ≡ drill_form n sessions → IsJudged task_of (drill_answer n sessions) result → IsAskedBy ⊥ form files before after result
-asked_drill form n sessions files before after result is judged =
-    subst (λ (f : Form). IsAskedBy ⊥ f files before after result) (sym is) (drill_asked n sessions files before after result judged)
+pub asked_drill : (form : Form) (n sessions : ℕ) (files : Option Files) (count : ℕ) (result : Result Work Status)
+    → form ≡ drill_form n sessions → IsJudged task_of (drill_answer n sessions) result → IsAskedBy ⊥ form files count count result
+asked_drill form n sessions files count result is judged =
+    subst (λ (f : Form). IsAskedBy ⊥ f files count count result) (sym is) (drill_asked n sessions files count result judged)
 
 -- ---- the tasks, by their parts
 above : (limit n : ℕ) → limit < n → nat_lt limit n ≡ true

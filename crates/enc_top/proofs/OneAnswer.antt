@@ -55,7 +55,7 @@ use Rattle.report_text.specs.declared.status.Status.TheVariants.{
 }
 
 -- a relation that has one answer at most
-abbrev IsOne : {A : Type 0} → (A → Type 0) → Type 0
+abbrev pub IsOne : {A : Type 0} → (A → Type 0) → Type 0
 IsOne {A} P = (x y : A) → P x → P y → x ≡ y
 
 same_ok : {A : Type 0} (x y : A) → ◌≡◌ {A = Result A Status} (Ok x) (Ok y) → x ≡ y
@@ -67,7 +67,7 @@ ok_not_err x status e = cc
 same_err : {A : Type 0} (x y : Status) → ◌≡◌ {A = Result A Status} (Err x) (Err y) → x ≡ y
 same_err x y e = cc
 
-one_then : {A B : Type 0} (First : Result A Status → Type 0) (Next : A → Result B Status → Type 0) → IsOne First → ((a : A) → IsOne (Next a))
+pub one_then : {A B : Type 0} (First : Result A Status → Type 0) (Next : A → Result B Status → Type 0) → IsOne First → ((a : A) → IsOne (Next a))
     → IsOne (AndThen First Next)
 one_then {A} {B} First Next one next x y (inl p) (inl q) = next q.0 x y (subst (λ a. Next a x) (same_ok p.0 q.0 (one (Ok p.0) (Ok q.0) p.1 q.1)) p.2) q.2
 one_then {A} {B} First Next one next x y (inl p) (inr q) = absurd (ok_not_err p.0 q.0 (one (Ok p.0) (Err q.0) p.1 q.1))
@@ -134,7 +134,7 @@ one_script_in session bytes (Err x) (Err y) p q =
     same_faults (f.line, f.code) (g.line, g.code) (same_readings bytes (Err (f.line, f.code)) (Err (g.line, g.code)) f.fault g.fault) in
     ap (λ (status : Status). Err status) (f.is ∙ ap (λ (fault : ℕ × ℕ). BadScript session fault.0 fault.1) same ∙ sym g.is)
 
-one_script : (session : ℕ) (name : List ℕ) (files : Files) → IsOne (ScriptIs session name files)
+pub one_script : (session : ℕ) (name : List ℕ) (files : Files) → IsOne (ScriptIs session name files)
 one_script session name files = one_then (FileIs script_limit name files) (ScriptIn session) (one_file script_limit name files) (one_script_in session)
 
 module _ (names : List (List ℕ)) (files : Files) where

@@ -1,6 +1,6 @@
 -- What input files are, or why a call ends there. A relation tells what a step answers where nothing fails. This project's own.
 use mathlib.Core.List.{IsPrefix}
-use Rattle.std.specs.Prelude.{◌≡◌, ◌⊎◌, ℕ, ◌+◌, ◌<◌, nat_lt, List, [], length, slice_index_or, Option, None, Some, Result, Ok, Err, IfSome, if◌then◌else◌}
+use Rattle.std.specs.Prelude.{◌≡◌, ◌⊎◌, ℕ, ◌+◌, ◌<◌, ◌≤◌, nat_lt, List, [], length, slice_index_or, Option, None, Some, Result, Ok, Err, IfSome, if◌then◌else◌}
 use Rattle.cell_make.specs.GeneratedCell.{generated_cell}
 use Rattle.enc_outside.specs.Count.{Rose}
 use Rattle.enc_outside.specs.Files.{Files}
@@ -92,6 +92,10 @@ ScriptIn session bytes (Err other) = ⊥
 
 abbrev pub ScriptIs : ℕ → List ℕ → Files → Result (List Command) Status → Type 0
 ScriptIs session name files = AndThen (FileIs script_limit name files) (ScriptIn session)
+
+-- the commands of some script that a file may have
+abbrev pub IsScriptWithin : List Command → Type 0
+IsScriptWithin commands = (text : List ℕ) × IsScript text commands × (length text ≤ script_limit)
 
 -- the scripts of all names, for sessions from 1 on, or the status of the first that has one
 pub record AreScripts (names : List (List ℕ)) (files : Files) (scripts : List (List Command)) : Type 0 where
@@ -256,6 +260,11 @@ IsInputStatus IsInput (BadJournal place) = ⊥
 IsInputStatus IsInput DiskFault = ⊥
 IsInputStatus IsInput (OpRefused cause) = ⊥
 IsInputStatus IsInput (JournalFull count) = ⊥
+
+-- it isn't that of an order
+abbrev pub IsNotOfOrder : Status → Type 0
+IsNotOfOrder (BadOrder place) = ⊥
+IsNotOfOrder other = Unit {0}
 
 -- one of these names
 abbrev pub IsAmong : List (List ℕ) → List ℕ → Type 0

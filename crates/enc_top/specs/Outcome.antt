@@ -72,6 +72,12 @@ IsBuilt (probe_form cell at) = Unit {0}
 IsBuilt (apply_form cell out update) = Unit {0}
 IsBuilt no_form = ⊥
 
+-- the words are in one of the forms; where it has no input files, no read was tried: so often reads had failed before and after
+abbrev pub IsBuiltFor : Form → ℕ → ℕ → Type 0
+IsBuiltFor (make_form n out) before after = after ≡ before
+IsBuiltFor (drill_form n sessions) before after = after ≡ before
+IsBuiltFor form before after = IsBuilt form
+
 -- the text of a cell, where the files are told that of the file
 pub record IsCheckOf (cell : List ℕ) (files : Option Files) (task : Task) : Type 0 where
   pub start : Cell
@@ -149,9 +155,16 @@ IsOutput (probe_form cell at) files task = IsProbeOf cell at files task
 IsOutput (apply_form cell out update) files task = IsUpdateWorkOf cell out update files task
 IsOutput no_form files task = ⊥
 
--- where the files are told, this is what they ask for
-abbrev pub IsAsked : Outside → Form → Result Task Status → Type 0
-IsAsked before form answer = IfSome before.files (λ files. OutputIs form files answer)
+-- what a form asks for: by its words alone where it has no input files, and then no read was tried; by the files otherwise, where these are told
+abbrev pub Asks : Form → Option Files → (before after : ℕ) → Result Task Status → Type 0
+Asks (make_form n out) files before after answer = (answer ≡ Ok (make_task n out)) × (after ≡ before)
+Asks (drill_form n sessions) files before after answer = (answer ≡ drill_answer n sessions) × (after ≡ before)
+Asks no_form files before after answer = (answer ≡ Err Usage) × (after ≡ before)
+Asks form files before after answer = IfSome files (λ fs. OutputIs form fs answer)
+
+-- this is what the words and the files before the call ask for
+abbrev pub IsAsked : Outside → Outside → Form → Result Task Status → Type 0
+IsAsked before after form answer = Asks form before.files before.read_faults after.read_faults answer
 
 -- nothing was put or tried to be put, and no file changed or was tried to be changed
 pub record IsSilent (before after : Outside) : Type 0 where
@@ -162,7 +175,7 @@ pub record IsSilent (before after : Outside) : Type 0 where
 
 -- a form whose files end the call so, before anything is written
 abbrev pub IsRefused : Form → Outside → Outside → Status → Type 0
-IsRefused form before after status = IsBuilt form × IsSilent before after × IsAsked before form (Err status)
+IsRefused form before after status = IsBuilt form × IsSilent before after × IsAsked before after form (Err status)
 
 -- a file has its bytes now and the others stay, or all stay where there is none to write
 abbrev pub AreWritten : Option (List ℕ × List ℕ) → Option Files → Option Files → Type 0
@@ -227,16 +240,18 @@ IsOneCommit other = ⊥
 
 -- `sticks`: whether a rendezvous may give up
 abbrev pub IsCauseOf : Type 0 → Form → Outside → Outside → Status → Type 0
-IsCauseOf sticks form before after Done = (task : Task) × IsOutput form before.files task × IsAsked before form (Ok task) × IsFinished task before after
-IsCauseOf sticks form before after Usage = (form ≡ no_form) × IsSilent before after
+IsCauseOf sticks form before after Done = (task : Task) × IsOutput form before.files task × IsAsked before after form (Ok task)
+    × IsFinished task before after
+IsCauseOf sticks form before after Usage = (form ≡ no_form) × IsSilent before after × (after.read_faults ≡ before.read_faults)
 IsCauseOf sticks form before after (Absent name) = IsInputOf form name × IsRefused form before after (Absent name)
 IsCauseOf sticks form before after (BadCell fault) = IsRefused form before after (BadCell fault)
 IsCauseOf sticks form before after (BadScript session line code) = IsRefused form before after (BadScript session line code)
 IsCauseOf sticks form before after (ReadFault name) = IsInputOf form name × IsSilent before after × Rose before.read_faults after.read_faults
     × IfSome before.files (λ files. IsReached form files name)
-IsCauseOf sticks form before after WriteFault = (task : Task) × IsOutput form before.files task × IsAsked before form (Ok task) × IsCut task before after
+IsCauseOf sticks form before after WriteFault = (task : Task) × IsOutput form before.files task × IsAsked before after form (Ok task)
+    × IsCut task before after
 IsCauseOf sticks form before after (TooLarge name) = IsInputOf form name × IsRefused form before after (TooLarge name)
-IsCauseOf sticks form before after NoMemory = IsBuilt form × IsSilent before after
+IsCauseOf sticks form before after NoMemory = IsBuiltFor form before.read_faults after.read_faults × IsSilent before after
 IsCauseOf sticks form before after (BadOrder place) = IsRefused form before after (BadOrder place)
 IsCauseOf sticks form before after TooManyFindings = IsRefused form before after TooManyFindings
 IsCauseOf sticks form before after (BadUpdate fault) = IsOfUpdate form × IsRefused form before after (BadUpdate fault)
@@ -332,25 +347,25 @@ IsReadBackFrom words before after status = status ≡ Done → Told (IsFormReadB
 
 -- the work that a form asks for, or the status at which it ends
 abbrev pub IsAskedBy : Type 0 → Form → Option Files → ℕ → ℕ → Result Work Status → Type 0
-IsAskedBy sticks form files before after (Ok work) = IsOutput form files (task_of work) × IfSome files (λ fs. OutputIs form fs (Ok (task_of work)))
-IsAskedBy sticks form files before after (Err Usage) = form ≡ no_form
+IsAskedBy sticks form files before after (Ok work) = IsOutput form files (task_of work) × Asks form files before after (Ok (task_of work))
+IsAskedBy sticks form files before after (Err Usage) = (form ≡ no_form) × (after ≡ before)
 IsAskedBy sticks form files before after (Err (ReadFault name)) = IsInputOf form name × Rose before after × IfSome files (λ fs. IsReached form fs name)
-IsAskedBy sticks form files before after (Err NoMemory) = IsBuilt form
-IsAskedBy sticks form files before after (Err (Absent name)) = IsInputOf form name × IsBuilt form × IfSome files (λ fs. OutputIs form fs (Err (Absent name)))
-IsAskedBy sticks form files before after (Err (BadCell fault)) = IsBuilt form × IfSome files (λ fs. OutputIs form fs (Err (BadCell fault)))
+IsAskedBy sticks form files before after (Err NoMemory) = IsBuiltFor form before after
+IsAskedBy sticks form files before after (Err (Absent name)) = IsInputOf form name × IsBuilt form × Asks form files before after (Err (Absent name))
+IsAskedBy sticks form files before after (Err (BadCell fault)) = IsBuilt form × Asks form files before after (Err (BadCell fault))
 IsAskedBy sticks form files before after (Err (BadScript session line code)) =
-    IsBuilt form × IfSome files (λ fs. OutputIs form fs (Err (BadScript session line code)))
+    IsBuilt form × Asks form files before after (Err (BadScript session line code))
 IsAskedBy sticks form files before after (Err (TooLarge name)) = IsInputOf form name × IsBuilt form
-    × IfSome files (λ fs. OutputIs form fs (Err (TooLarge name)))
-IsAskedBy sticks form files before after (Err (BadOrder place)) = IsBuilt form × IfSome files (λ fs. OutputIs form fs (Err (BadOrder place)))
-IsAskedBy sticks form files before after (Err TooManyFindings) = IsBuilt form × IfSome files (λ fs. OutputIs form fs (Err TooManyFindings))
+    × Asks form files before after (Err (TooLarge name))
+IsAskedBy sticks form files before after (Err (BadOrder place)) = IsBuilt form × Asks form files before after (Err (BadOrder place))
+IsAskedBy sticks form files before after (Err TooManyFindings) = IsBuilt form × Asks form files before after (Err TooManyFindings)
 IsAskedBy sticks form files before after (Err (Stuck desk serial)) = sticks × IsStuckAt form files desk serial
 IsAskedBy sticks form files before after (Err (BadUpdate fault)) =
-    IsOfUpdate form × IsBuilt form × IfSome files (λ fs. OutputIs form fs (Err (BadUpdate fault)))
+    IsOfUpdate form × IsBuilt form × Asks form files before after (Err (BadUpdate fault))
 IsAskedBy sticks form files before after (Err (Refused refusal)) =
-    IsOneCommit form × IsTooLarge refusal × IsBuilt form × IfSome files (λ fs. OutputIs form fs (Err (Refused refusal)))
+    IsOneCommit form × IsTooLarge refusal × IsBuilt form × Asks form files before after (Err (Refused refusal))
 IsAskedBy sticks form files before after (Err (OpRefused cause)) =
-    IsOnEdges form × IsBuilt form × IfSome files (λ fs. OutputIs form fs (Err (OpRefused cause)))
+    IsOnEdges form × IsBuilt form × Asks form files before after (Err (OpRefused cause))
 IsAskedBy sticks form files before after (Err other) = ⊥
 
 -- the work was done whole, or a device failed in its course

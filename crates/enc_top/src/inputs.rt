@@ -10,7 +10,8 @@ ghost use Rattle.sessions.specs.Replays.{IsShortScript};
 ghost use Rattle.text_spec.specs.OrderLine.{IsOrder, order_of};
 ghost use Rattle.room_laws.specs.Orders.{quotas_of as quotas_of_lem};
 ghost use Rattle.enc_top.specs.Inputs.{CellIs, FileIs, IsAmong, IsCellOfFile, IsFile, IsInputStatus, IsJudged, IsJudgedScript};
-ghost use Rattle.enc_top.specs.Inputs.{IsReachedScript, OrderIs, ScriptIs, ScriptsAre, Tells, cell_in, cell_limit, order_in};
+ghost use Rattle.enc_top.specs.Inputs.{IsReachedScript, IsScriptWithin, OrderIs, ScriptIs, ScriptsAre, Tells, cell_in, cell_limit, order_in};
+ghost use Rattle.enc_top.specs.Inputs.{IsNotOfOrder, script_limit};
 ghost use Rattle.enc_top.specs.Refused.{IsRefusal};
 
 use crate::input::{InputRefusal, read_file};
@@ -54,6 +55,16 @@ impl Drop for Checked {
     }
 }
 
+impl Checked {
+    /// The cell alone.
+    pub fn into_cell(self) -> Cell
+        ensures { result ≡ self.cell }
+    {
+        let Checked { cell, findings: _ } = self;
+        cell
+    }
+}
+
 /// The status of a refused input.
 fn refused(alloc: Global, name: &str, refusal: InputRefusal) -> Status
     ensures { IsRefusal name.now refusal result }
@@ -81,6 +92,7 @@ fn read_input<H: Shelf>(
     ensures tells { Tells (λ bytes. bytes.items) (FileIs limit name.now) (IsFile name.now)
         (H.files shelf.old) (H.read_faults shelf.old) (H.read_faults shelf.new) result }
     ensures status { IfErr result (IsInputStatus (λ n. n ≡ name.now)) }
+    ensures kind { IfErr result IsNotOfOrder }
     ensures within { IfOk result (λ bytes. length bytes.items ≤ limit) }
     ensures files { H.files shelf.new ≡ H.files shelf.old }
     ensures read_faults { H.read_faults shelf.old ≤ H.read_faults shelf.new }
@@ -100,6 +112,7 @@ fn decode(alloc: Global, bytes: &[u8]) -> Result<Cell, Status>
     ensures writable { IfOk result IsWritable }
     ensures of_file { IfOk result IsCellOfFile }
     ensures status { IfErr result (IsInputStatus (λ n. ⊥)) }
+    ensures kind { IfErr result IsNotOfOrder }
 {
     decoded_cell_is_writable();
     match cell_read::read_cell(alloc, bytes) {
@@ -129,8 +142,10 @@ fn find_counted<L: Ledger>(
 fn judge_cell(alloc: Global, bytes: &[u8]) -> Result<Checked, Status>
     requires small { length bytes.now ≤ 16777216 }
     ensures judged { IsJudged (λ checked. checked.cell) (cell_in bytes.now) result }
+    ensures of_file { IfOk result (λ checked. IsCellOfFile checked.cell) }
     ensures findings { IfOk result (λ checked. IsAllOf checked.cell finding_limit checked.findings) }
     ensures status { IfErr result (IsInputStatus (λ n. ⊥)) }
+    ensures kind { IfErr result IsNotOfOrder }
 {
     let cell = match decode(alloc, bytes) {
         Ok(cell) => cell,
@@ -165,8 +180,10 @@ fn judge_bench(alloc: Global, bytes: &[u8]) -> Result<Bench, Status>
 pub fn read_cell<H: Shelf>(alloc: Global, shelf: &mut H, name: &str) -> Result<Checked, Status>
     ensures tells { Tells (λ checked. checked.cell) (CellIs name.now) (IsFile name.now)
         (H.files shelf.old) (H.read_faults shelf.old) (H.read_faults shelf.new) result }
+    ensures of_file { IfOk result (λ checked. IsCellOfFile checked.cell) }
     ensures findings { IfOk result (λ checked. IsAllOf checked.cell finding_limit checked.findings) }
     ensures status { IfErr result (IsInputStatus (λ n. n ≡ name.now)) }
+    ensures kind { IfErr result IsNotOfOrder }
     ensures files { H.files shelf.new ≡ H.files shelf.old }
     ensures read_faults { H.read_faults shelf.old ≤ H.read_faults shelf.new }
     ensures write_faults { H.write_faults shelf.new ≡ H.write_faults shelf.old }
@@ -204,11 +221,13 @@ pub fn read_update<H: Shelf>(alloc: Global, shelf: &mut H, name: &str) -> Result
 
 /// The script of a session that bytes are.
 fn judge_script(alloc: Global, bytes: &[u8], session: u32) -> Result<Script, Status>
-    requires short { length bytes.now < 2 ^ 32 }
+    requires small { length bytes.now ≤ script_limit }
     ensures judged { IsJudgedScript session bytes.now result }
     ensures short { IfOk result IsShortScript }
     ensures of_text { IfOk result IsScriptOfText }
+    ensures within { IfOk result IsScriptWithin }
     ensures status { IfErr result (IsInputStatus (λ n. ⊥)) }
+    ensures kind { IfErr result IsNotOfOrder }
 {
     match read_script(alloc, bytes) {
         Ok(script) => Ok(script),
@@ -228,7 +247,9 @@ pub fn read_session<H: Shelf>(
         (H.files shelf.old) (H.read_faults shelf.old) (H.read_faults shelf.new) result }
     ensures short { IfOk result IsShortScript }
     ensures of_text { IfOk result IsScriptOfText }
+    ensures within { IfOk result IsScriptWithin }
     ensures status { IfErr result (IsInputStatus (λ n. n ≡ name.now)) }
+    ensures kind { IfErr result IsNotOfOrder }
     ensures files { H.files shelf.new ≡ H.files shelf.old }
     ensures read_faults { H.read_faults shelf.old ≤ H.read_faults shelf.new }
     ensures write_faults { H.write_faults shelf.new ≡ H.write_faults shelf.old }

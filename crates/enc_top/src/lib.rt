@@ -16,7 +16,7 @@ mod update;
 mod words;
 mod work;
 
-pub use inputs::{read_bench, read_session};
+pub use inputs::{Checked, read_cell, read_session};
 pub use law::one_answer_is_asked;
 pub use output::finish;
 pub use report_text::{Status, print_status};

@@ -25,7 +25,7 @@ const SESSION_LIMIT: u32 = 16;
 
 /// The line of the generated cell that the words behind `make` ask for, and its file.
 pub(crate) fn make(alloc: Global, others: &[String]) -> Result<Work, Status>
-    ensures { (files : Option Files) (before after : ℕ) → IsAskedBy ⊥ (make_among (map string_bytes others.now)) files before after result }
+    ensures { (files : Option Files) (count : ℕ) → IsAskedBy ⊥ (make_among (map string_bytes others.now)) files count count result }
 {
     let [size, out] = others else {
         return Err(Status::Usage);
@@ -61,7 +61,7 @@ pub(crate) fn drill<R: Threads + Sync>(
     alloc: Global,
     others: &[String],
 ) -> Result<Work, Status>
-    ensures { (files : Option Files) (before after : ℕ) → IsAskedBy ⊥ (drill_among (map string_bytes others.now)) files before after result }
+    ensures { (files : Option Files) (count : ℕ) → IsAskedBy ⊥ (drill_among (map string_bytes others.now)) files count count result }
 {
     let [size, sessions] = others else {
         return Err(Status::Usage);

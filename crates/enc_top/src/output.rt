@@ -48,6 +48,7 @@ fn write_file<H: Shelf>(shelf: &mut H, name: &str, bytes: &[u8]) -> Result<(), F
     ensures ok { OnOk result (Told (Writes name.now bytes.now) (H.files shelf.old) (H.files shelf.new)) }
     ensures err { OnErr result (Told (IsBegun name.now bytes.now) (H.files shelf.old) (H.files shelf.new)) }
     ensures cause { OnErr result (Rose (H.write_faults shelf.old) (H.write_faults shelf.new)) }
+    ensures untold { StaysUntold (H.files shelf.old) (H.files shelf.new) }
     ensures write_faults { H.write_faults shelf.old ≤ H.write_faults shelf.new }
     ensures read_faults { H.read_faults shelf.new ≡ H.read_faults shelf.old }
 {
@@ -60,6 +61,7 @@ fn export_file<H: Shelf>(shelf: &mut H, export: &Export) -> Result<(), Failed>
     ensures ok { OnOk result (Told (Writes (string_bytes export.now.name) export.now.bytes.items) (H.files shelf.old) (H.files shelf.new)) }
     ensures err { OnErr result (Told (IsBegun (string_bytes export.now.name) export.now.bytes.items) (H.files shelf.old) (H.files shelf.new)) }
     ensures cause { OnErr result (Rose (H.write_faults shelf.old) (H.write_faults shelf.new)) }
+    ensures untold { StaysUntold (H.files shelf.old) (H.files shelf.new) }
     ensures write_faults { H.write_faults shelf.old ≤ H.write_faults shelf.new }
     ensures read_faults { H.read_faults shelf.new ≡ H.read_faults shelf.old }
 {
@@ -71,6 +73,8 @@ pub fn finish<H: Shelf, O: Sink>(shelf: &mut H, out: &mut O, work: &Work) -> Sta
     ensures done { IsDoneWork (task_of work.now)
         (outside (H.files shelf.old) (H.read_faults shelf.old) (H.write_faults shelf.old) (O.written out.old) (O.faults out.old))
         (outside (H.files shelf.new) (H.read_faults shelf.new) (H.write_faults shelf.new) (O.written out.new) (O.faults out.new)) result }
+    ensures untold { StaysUntold (H.files shelf.old) (H.files shelf.new) }
+    ensures untold_put { StaysUntold (O.written out.old) (O.written out.new) }
     ensures write_faults { H.write_faults shelf.old ≤ H.write_faults shelf.new }
     ensures read_faults { H.read_faults shelf.new ≡ H.read_faults shelf.old }
     ensures put_faults { O.faults out.old ≤ O.faults out.new }

@@ -1,6 +1,7 @@
 //! The program as one call.
 
 ghost use Rattle.std.specs.Prelude.{◌≡◌, ◌⊎◌, ◌↔◌, ◌≤◌, true, false, All, IfErr, IfOk, length, map, string_bytes};
+ghost use Rattle.enc_outside.specs.Files.{StaysUntold};
 ghost use Rattle.export_laws.specs.ExportedCells.{IsScriptOfText};
 ghost use Rattle.room_laws.specs.Orders.{quotas_of as quotas_of_scripts};
 ghost use Rattle.sessions.specs.Replays.{IsShortScript, session_limit};
@@ -67,6 +68,8 @@ pub fn run<R: Threads + Wait + Sync, H: Shelf, O: Sink, M: Meet + Sync>(
         (outside (H.files shelf.old) (H.read_faults shelf.old) (H.write_faults shelf.old) (O.written out.old) (O.faults out.old))
         (outside (H.files shelf.new) (H.read_faults shelf.new) (H.write_faults shelf.new) (O.written out.new) (O.faults out.new)) result }
     ensures usage { (result ≡ Status.Usage) ↔ (form_of (map string_bytes words.now) ≡ no_form) }
+    ensures untold { StaysUntold (H.files shelf.old) (H.files shelf.new) }
+    ensures untold_put { StaysUntold (O.written out.old) (O.written out.new) }
     ensures read_faults { H.read_faults shelf.old ≤ H.read_faults shelf.new }
     ensures write_faults { H.write_faults shelf.old ≤ H.write_faults shelf.new }
     ensures put_faults { O.faults out.old ≤ O.faults out.new }
@@ -100,6 +103,8 @@ pub fn run_room<R: Threads + Wait + Sync, H: Shelf, O: Sink, M: Meet + Sync>(
         (outside (H.files shelf.old) (H.read_faults shelf.old) (H.write_faults shelf.old) (O.written out.old) (O.faults out.old))
         (outside (H.files shelf.new) (H.read_faults shelf.new) (H.write_faults shelf.new) (O.written out.new) (O.faults out.new)) result }
     ensures usage { (result ≡ Status.Usage) ↔ (form_of (map string_bytes words.now) ≡ no_form) }
+    ensures untold { StaysUntold (H.files shelf.old) (H.files shelf.new) }
+    ensures untold_put { StaysUntold (O.written out.old) (O.written out.new) }
     ensures read_faults { H.read_faults shelf.old ≤ H.read_faults shelf.new }
     ensures write_faults { H.write_faults shelf.old ≤ H.write_faults shelf.new }
     ensures put_faults { O.faults out.old ≤ O.faults out.new }
@@ -132,6 +137,8 @@ pub fn run_plain<R: Threads + Sync, H: Shelf, O: Sink>(
         (outside (H.files shelf.old) (H.read_faults shelf.old) (H.write_faults shelf.old) (O.written out.old) (O.faults out.old))
         (outside (H.files shelf.new) (H.read_faults shelf.new) (H.write_faults shelf.new) (O.written out.new) (O.faults out.new)) result }
     ensures usage { (result ≡ Status.Usage) ↔ (form_of (map string_bytes words.now) ≡ no_form) }
+    ensures untold { StaysUntold (H.files shelf.old) (H.files shelf.new) }
+    ensures untold_put { StaysUntold (O.written out.old) (O.written out.new) }
     ensures read_faults { H.read_faults shelf.old ≤ H.read_faults shelf.new }
     ensures write_faults { H.write_faults shelf.old ≤ H.write_faults shelf.new }
     ensures put_faults { O.faults out.old ≤ O.faults out.new }

@@ -1,5 +1,5 @@
 use Rattle.std.proofs.lemmas.Bool.Decides.{nat_tests}
-use Rattle.std.proofs.Common.{◌≡◌, length, map, rules, sym, ap, ◌∙◌, string_bytes, arith}
+use Rattle.std.proofs.Common.{◌≡◌, length, map, refl, rules, sym, ap, ◌∙◌, string_bytes, arith}
 use Rattle.std.proofs.lemmas.Result.{err_from_is_err_and}
 use Rattle.enc_top.specs.Words.{make_among, make_form, make_of, number_up_to}
 use Rattle.enc_top.proofs.FormWords.{fewer_made, more_made, two_made}
@@ -8,20 +8,21 @@ use Rattle.enc_top.proofs.made.make.Goals as goal
 use Rattle.enc_top.proofs.made.make.Goals.{in_default-via-then-others-lt2, in_default-via-else-others-lt2+else-others-lt3}
 
 pub returns-in_default : goal.returns-in_default
-returns-in_default c = λ files before after.
+returns-in_default c = λ files count.
     elim c.in_default.branch [
-      | in_default-via-then-others-lt2 w ↦ fewer_made c.args.others.now (grind (arith, nat_tests, rules))
-      | in_default-via-else-others-lt2+else-others-lt3 w ↦ more_made c.args.others.now (search rules)
+      | in_default-via-then-others-lt2 w ↦ (fewer_made c.args.others.now (grind (arith, nat_tests, rules)), refl)
+      | in_default-via-else-others-lt2+else-others-lt3 w ↦ (more_made c.args.others.now (search rules), refl)
     ]
 
 pub returns-in_default-number_up_to : goal.returns-in_default-number_up_to
-returns-in_default-number_up_to c = λ files before after.
+returns-in_default-number_up_to c = λ files count.
     let two : length c.args.others.now ≡ 2 = omega (arith, c.in-len2.len_at_least, c.in-len2.len_below) in
-    two_made c.args.others.now c.size-item.result c.out-item.result two c.size-item.is c.out-item.is
-    ∙ ap (make_of (string_bytes c.out-item.result)) (sym (c.in_default-number_up_to.ensures.number ∙ ap (number_up_to 100) c.as_str.ensures.value))
+    let is = two_made c.args.others.now c.size-item.result c.out-item.result two c.size-item.is c.out-item.is
+    ∙ ap (make_of (string_bytes c.out-item.result)) (sym (c.in_default-number_up_to.ensures.number ∙ ap (number_up_to 100) c.as_str.ensures.value)) in
+    (is, refl)
 
 pub returns-in_err-made_work : goal.returns-in_err-made_work
-returns-in_err-made_work c = λ files before after.
+returns-in_err-made_work c = λ files count.
     let two : length c.args.others.now ≡ 2 = omega (arith, c.in-len2.len_at_least, c.in-len2.len_below) in
     let size = c.in-Some.size in
     let out = c.as_str-2.result.now in
@@ -29,14 +30,14 @@ returns-in_err-made_work c = λ files before after.
     two_made c.args.others.now c.size-item.result c.out-item.result two c.size-item.is c.out-item.is
     ∙ (λ i. make_of (sym c.as_str-2.ensures.value i) (sym (c.in-Some.ensures.number ∙ ap (number_up_to 100) c.as_str.ensures.value) i)) in
     let refused = err_from_is_err_and c.from_residual.result c.from_residual.ensures.1 in
-    rw (refused.1, refused.2) (no_room_to_make (make_among (map string_bytes c.args.others.now)) size out files before after is)
+    rw (refused.1, refused.2) (no_room_to_make (make_among (map string_bytes c.args.others.now)) size out files count is)
 
 pub returns : goal.returns
-returns c = λ files before after.
+returns c = λ files count.
     let two : length c.args.others.now ≡ 2 = omega (arith, c.in-len2.len_at_least, c.in-len2.len_below) in
     let size = c.in-Some.size in
     let out = c.as_str-2.result.now in
     let is : make_among (map string_bytes c.args.others.now) ≡ make_form size out =
     two_made c.args.others.now c.size-item.result c.out-item.result two c.size-item.is c.out-item.is
     ∙ (λ i. make_of (sym c.as_str-2.ensures.value i) (sym (c.in-Some.ensures.number ∙ ap (number_up_to 100) c.as_str.ensures.value) i)) in
-    asked_make (make_among (map string_bytes c.args.others.now)) size out files before after c.in_ok-made_work.field-0 is c.in_ok-made_work.ensures
+    asked_make (make_among (map string_bytes c.args.others.now)) size out files count c.in_ok-made_work.field-0 is c.in_ok-made_work.ensures

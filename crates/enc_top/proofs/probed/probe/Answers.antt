@@ -1,4 +1,4 @@
-use Rattle.std.proofs.Common.{◌≡◌, length, map, rules, SFits, w32, sym, ap, ◌∙◌, string_bytes, subst, arith}
+use Rattle.std.proofs.Common.{◌≡◌, length, map, refl, rules, SFits, w32, sym, ap, ◌∙◌, string_bytes, subst, arith}
 use Rattle.geometry_spec.specs.Points.{Point}
 use Rattle.enc_top.specs.Outcome.{IsAskedBy}
 use Rattle.enc_top.specs.Words.{coordinate_of, probe_among, probe_form, probe_of}
@@ -10,23 +10,25 @@ use Rattle.enc_top.proofs.probed.probe.Goals.{in_default-via-then-others-lt3, in
 pub returns-in_default-clause-asked : goal.returns-in_default-clause-asked
 returns-in_default-clause-asked g c =
     elim c.in_default.branch [
-      | in_default-via-then-others-lt3 w ↦ fewer_probed c.args.others.now (search rules)
-      | in_default-via-else-others-lt3+else-others-lt4 w ↦ more_probed c.args.others.now (search rules)
+      | in_default-via-then-others-lt3 w ↦ (fewer_probed c.args.others.now (search rules), refl)
+      | in_default-via-else-others-lt3+else-others-lt4 w ↦ (more_probed c.args.others.now (search rules), refl)
     ]
 
 pub returns-in_default-coordinate-clause-asked : goal.returns-in_default-coordinate-clause-asked
 returns-in_default-coordinate-clause-asked g c =
     let three : length c.args.others.now ≡ 3 = omega (arith, c.in-len3.len_at_least, c.in-len3.len_below) in
-    three_probed c.args.others.now c.cell-item.result c.y-item.result c.x-item.result three c.cell-item.is c.y-item.is c.x-item.is
+    let is = three_probed c.args.others.now c.cell-item.result c.y-item.result c.x-item.result three c.cell-item.is c.y-item.is c.x-item.is
     ∙ ap (λ y. probe_of (string_bytes c.cell-item.result) y (coordinate_of (string_bytes c.x-item.result)))
-    (sym (c.in_default-coordinate.ensures ∙ ap coordinate_of c.as_str.ensures.value))
+    (sym (c.in_default-coordinate.ensures ∙ ap coordinate_of c.as_str.ensures.value)) in
+    (is, refl)
 
 pub returns-in_default-coordinate-2-clause-asked : goal.returns-in_default-coordinate-2-clause-asked
 returns-in_default-coordinate-2-clause-asked g c =
     let three : length c.args.others.now ≡ 3 = omega (arith, c.in-len3.len_at_least, c.in-len3.len_below) in
-    three_probed c.args.others.now c.cell-item.result c.y-item.result c.x-item.result three c.cell-item.is c.y-item.is c.x-item.is
+    let is = three_probed c.args.others.now c.cell-item.result c.y-item.result c.x-item.result three c.cell-item.is c.y-item.is c.x-item.is
     ∙ (λ i. probe_of (string_bytes c.cell-item.result) (sym (c.in-Some.ensures ∙ ap coordinate_of c.as_str.ensures.value) i)
-    (sym (c.in_default-coordinate-2.ensures ∙ ap coordinate_of c.as_str-2.ensures.value) i))
+    (sym (c.in_default-coordinate-2.ensures ∙ ap coordinate_of c.as_str-2.ensures.value) i)) in
+    (is, refl)
 
 pub returns-clause-asked : goal.returns-clause-asked
 returns-clause-asked g c =

@@ -1,4 +1,4 @@
-use Rattle.std.proofs.Common.{◌≡◌, ◌-◌, ◌<◌, ◌≤◌, ◌∙◌, true, false, Ok, Err, Global, ⊎_elim, arith, drop, length, map, string_bytes, subst, sym, take}
+use Rattle.std.proofs.Common.{◌≡◌, ◌-◌, ◌<◌, ◌≤◌, ◌∙◌, true, false, Ok, Err, Global, ⊎_elim, arith, drop, length, map, refl, string_bytes, subst, sym, take}
 use Rattle.std.specs.Prelude.{IfSome, Vec}
 use Rattle.std.proofs.lemmas.Bool.Decides.{nat_tests}
 use Rattle.std.proofs.lemmas.List.{length-map}
@@ -13,16 +13,17 @@ use Rattle.enc_top.proofs.RoomAnswers.{cell_ends, run_asked, scripts_end, stuck_
 use Rattle.enc_top.proofs.room.asked_room.Goals as goal
 
 pub returns-in_default-clause-asked : goal.returns-in_default-clause-asked
-returns-in_default-clause-asked g c = few_room_words c.args.words.now c.requires c.in_default.len_below
+returns-in_default-clause-asked g c = (few_room_words c.args.words.now c.requires c.in_default.len_below, refl)
 
 pub returns-then-is_empty-clause-asked : goal.returns-then-is_empty-clause-asked
 returns-then-is_empty-clause-asked g c =
     let words = c.args.words.now in
     let names = take (length words - 3) (drop 3 words) in
     let test = c.is_empty.ensures in
-    wrong_room_count words names c.requires c.in-len3-up.len_at_least (behind 3 words)
+    let none = wrong_room_count words names c.requires c.in-len3-up.len_at_least (behind 3 words)
     (λ low high. ⊎_elim (λ (empty : c.is_empty.result ≡ true). grind (arith, nat_tests))
-    (λ (many : (c.is_empty.result ≡ false) × (16 < length names)). let over = many.1 in omega (arith, high, over)) c.then-is_empty.either)
+    (λ (many : (c.is_empty.result ≡ false) × (16 < length names)). let over = many.1 in omega (arith, high, over)) c.then-is_empty.either) in
+    (none, refl)
 
 pub returns-in-Err-clause-asked : goal.returns-in-Err-clause-asked
 returns-in-Err-clause-asked g c =

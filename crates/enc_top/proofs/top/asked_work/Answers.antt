@@ -1,4 +1,4 @@
-use Rattle.std.proofs.Common.{◌-◌, length, take, drop, sym, ap, ◌∙◌, subst}
+use Rattle.std.proofs.Common.{◌-◌, length, take, drop, refl, sym, ap, ◌∙◌, subst}
 use Rattle.std.specs.Prelude.{codes}
 use Rattle.enc_top.specs.Outcome.{IsAskedBy}
 use Rattle.enc_top.specs.Words.{is_word}
@@ -6,7 +6,7 @@ use Rattle.enc_top.proofs.FormWords.{applied_words, behind, check_words, drilled
 use Rattle.enc_top.proofs.top.asked_work.Goals as goal
 
 pub returns-in_default-clause-asked : goal.returns-in_default-clause-asked
-returns-in_default-clause-asked g c = no_words c.args.words.now c.in_default.len_below
+returns-in_default-clause-asked g c = (no_words c.args.words.now c.in_default.len_below, refl)
 
 pub returns-then-eq-clause-asked : goal.returns-then-eq-clause-asked
 returns-then-eq-clause-asked g c =
@@ -34,7 +34,7 @@ returns-then-eq-3-clause-asked g c =
     let reads = g.H.Shelf.read_faults c.args.shelf.now in
     subst (λ f. IsAskedBy ⊥ f files reads reads c.make.result)
     (sym (made_words c.args.words.now c.first-item.result (take (length c.args.words.now - 1) (drop 1 c.args.words.now))
-    c.in-len1-up.len_at_least c.first-item.is (behind 1 c.args.words.now) c.requires check replay make)) (c.make.ensures files reads reads)
+    c.in-len1-up.len_at_least c.first-item.is (behind 1 c.args.words.now) c.requires check replay make)) (c.make.ensures files reads)
 
 pub returns-then-eq-4-clause-asked : goal.returns-then-eq-4-clause-asked
 returns-then-eq-4-clause-asked g c =
@@ -46,7 +46,7 @@ returns-then-eq-4-clause-asked g c =
     let reads = g.H.Shelf.read_faults c.args.shelf.now in
     subst (λ f. IsAskedBy ⊥ f files reads reads c.drill.result)
     (sym (drilled_words c.args.words.now c.first-item.result (take (length c.args.words.now - 1) (drop 1 c.args.words.now))
-    c.in-len1-up.len_at_least c.first-item.is (behind 1 c.args.words.now) c.requires check replay make drill)) (c.drill.ensures files reads reads)
+    c.in-len1-up.len_at_least c.first-item.is (behind 1 c.args.words.now) c.requires check replay make drill)) (c.drill.ensures files reads)
 
 pub returns-then-eq-5-clause-asked : goal.returns-then-eq-5-clause-asked
 returns-then-eq-5-clause-asked g c =
@@ -112,5 +112,6 @@ returns-clause-asked g c =
     let join = ap (is_word (codes "join")) (sym c.as_str-first.ensures.value) ∙ sym c.if-eq-6.ensures in
     let probe = ap (is_word (codes "probe")) (sym c.as_str-first.ensures.value) ∙ sym c.if-eq-7.ensures in
     let apply = ap (is_word (codes "apply")) (sym c.as_str-first.ensures.value) ∙ sym c.if-eq-8.ensures in
-    other_words c.args.words.now c.first-item.result (take (length c.args.words.now - 1) (drop 1 c.args.words.now)) c.in-len1-up.len_at_least
-    c.first-item.is (behind 1 c.args.words.now) c.requires check replay make drill split join probe apply
+    let none = other_words c.args.words.now c.first-item.result (take (length c.args.words.now - 1) (drop 1 c.args.words.now))
+    c.in-len1-up.len_at_least c.first-item.is (behind 1 c.args.words.now) c.requires check replay make drill split join probe apply in
+    (none, refl)
