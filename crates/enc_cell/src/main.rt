@@ -11,7 +11,7 @@ use output::StdSink;
 use std::alloc::Global;
 use std::env;
 use std::fs::File;
-use std::io::Write;
+use std::io::{ErrorKind, Write};
 use std::process::ExitCode;
 use std::rt::{Env, Files};
 use std::sync::Wait;
@@ -20,8 +20,10 @@ use std::thread::Threads;
 /// The words after the program's name. A word that isn't UTF-8 is in no form.
 fn read_words(rt: &(impl Env + AllocGlobal)) -> Result<Vec<String>, Status> {
     let mut words = Vec::new(rt.alloc());
-    let Ok(args) = env::args(rt) else {
-        return Err(Status::Usage);
+    let args = match env::args(rt) {
+        Ok(args) => args,
+        Err(error) if error.kind() == ErrorKind::OutOfMemory => return Err(Status::NoMemory),
+        Err(_) => return Err(Status::Usage),
     };
     for word in args.skip(1) {
         if words.push(word).is_err() {
