@@ -13,6 +13,17 @@ minimal, folder = sys.argv[1:]
 head = head_of(minimal)
 
 
+def bare_node(number):
+    """A node without a position."""
+    return fields((b"VRID", struct.pack("<BIHB", 120, number, 1, 1)))
+
+
+def dangling_line(number):
+    """A coastline that names as many edges as a record can, none of which is there."""
+    pointers = b"".join(struct.pack("<BIBBB", 130, k, 1, 255, 255) for k in range(1, 12_401))
+    return fields((b"FRID", struct.pack("<BIBBHHB", 100, number, 2, 2, 30, 1, 1)), (b"FOID", struct.pack("<HIH", 550, number, 1)), (b"FSPT", pointers))
+
+
 def area(edges):
     """A depth area whose outer boundary goes forward along edges."""
     pointers = b"".join(struct.pack("<BIBBB", 130, number, 1, 1, 255) for number in edges)
@@ -135,6 +146,11 @@ for count in (10_000, 20_000, 40_000, 80_000):
     write_cell(f"PLACED_{count}", (node(k, far_apart(k)) for k in range(1, count + 1)))
 for count in (724, 240_000):
     write_cell(f"HEAP_{count}", (node(k, (0, 0)) for k in range(1, count + 1)))
+# 240,000 nodes, and 262,144 of which 44,144 have no position, in a file near its limit
+write_cell("SPREAD", (node(k, far_apart(k)) for k in range(1, 240_001)))
+write_cell("FULL", [*(node(k, far_apart(k)) for k in range(1, 218_001)), *(bare_node(k) for k in range(218_001, 262_145))])
+# 260,400 findings, 12,400 on each record
+write_cell("DANGLING", (dangling_line(k) for k in range(1, 22)))
 # 4,096 more nodes at the place of a heap, in one commit
 write_text("ADDED", "".join(f"add vc {k} 1 p=0,0\n" for k in range(1_000, 5_096)) + "commit\n")
 # one node of the ring moved in each of 2,000 commits, and the cell viewed before each

@@ -18,6 +18,13 @@ build_program() {
     [ -z "$other" ] || { cp "$other" "$work/other"; programs+=(other); }
 }
 
+# builds `enc_draw`, and writes the files of its runs
+build_draw() {
+    "$top/enc_draw" "$minimal" >"$work/log"
+    cp "$top/crates/enc_draw/out/enc_draw" "$work/draw"
+    python3 "$benches/cells.py" "$minimal" "$work"
+}
+
 build_measure() {
     (cd "$top/crates/measure" && rt run measure -- baseline 1) >"$work/log" 2>&1 || { cat "$work/log" >&2; exit 1; }
     cp "$top/crates/measure/out/measure" "$work/measure"

@@ -18,12 +18,13 @@ trap 'rm -rf "$work"' EXIT
 build_plain
 case " ${rows[*]} " in
     *" program "* | *" commits:"*) build_program ;;
+    *" draw "*) build_draw ;;
     *) build_measure ;;
 esac
 for row in "${rows[@]}"; do
     read -r -a words <<<"$row"
     case ${words[1]} in
-        program | plain) alone_row "${words[@]:1}" ;;
+        program | draw | plain) alone_row "${words[@]:1}" ;;
         commits:*) commit_rows "${words[1]#commits:}" "${words[@]:2}" ;;
         memory) memory_row "${words[@]:2}" ;;
         turns) turns_row "${words[@]:2}" ;;
