@@ -19,12 +19,12 @@ use Rattle.draw_top.specs.declared.ending.Ending.{Ending}
 use Rattle.draw_top.specs.declared.ending.Ending.TheVariants.{Done, Usage, Absent, BadCell, ReadFault, WriteFault, TooLarge, NoMemory, TooManyFindings}
 
 -- the endings that bytes may ask for
-IsOfBytes : Ending → Type 0
+abbrev IsOfBytes : Ending → Type 0
 IsOfBytes (BadCell fault) = Unit {0}
 IsOfBytes TooManyFindings = Unit {0}
 IsOfBytes other = ⊥
 
-IsDrawn : Result (List ℕ) Ending → Type 0
+abbrev IsDrawn : Result (List ℕ) Ending → Type 0
 IsDrawn (Ok text) = Unit {0}
 IsDrawn (Err ending) = IsOfBytes ending
 

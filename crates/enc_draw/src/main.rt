@@ -5,7 +5,7 @@ use draw_top::{Ending, draw, push_ending};
 use std::alloc::Global;
 use std::env;
 use std::fs::File;
-use std::io::Write;
+use std::io::{ErrorKind, Write};
 use std::process::ExitCode;
 use std::rt::{Env, Files};
 use whole_files::{DiskShelf, StdSink};
@@ -13,8 +13,10 @@ use whole_files::{DiskShelf, StdSink};
 /// The words after the program's name. A word that isn't UTF-8 names no file.
 fn read_words(rt: &(impl Env + AllocGlobal)) -> Result<Vec<String>, Ending> {
     let mut words = Vec::new(rt.alloc());
-    let Ok(args) = env::args(rt) else {
-        return Err(Ending::Usage);
+    let args = match env::args(rt) {
+        Ok(args) => args,
+        Err(error) if error.kind() == ErrorKind::OutOfMemory => return Err(Ending::NoMemory),
+        Err(_) => return Err(Ending::Usage),
     };
     for word in args.skip(1) {
         if words.push(word).is_err() {

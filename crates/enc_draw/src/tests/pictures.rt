@@ -63,48 +63,6 @@ pub const SQUARE: [&str; 7] = [
 ",
 ];
 
-/// The extent is 2^32 - 1 both ways and fills the frame from 600 to 11,390 and from 900 to 11,690. The diagonals meet half way, at
-/// (600 + 11,390) / 2 = 5,995 and (900 + 11,690) / 2 = 6,295. That is in row 19 of the fields, of 270 each, and column 13, of 400 each; the row is odd and
-/// runs west, so the numbers stand in the middle of columns 12, 11 and 10: 600 + 400 * 12 + 200 = 5,600, then 5,200 and 4,800, and
-/// 900 + 270 * 19 + 135 = 6,165 down.
-pub const DIAGONALS: [&str; 10] = [
-    "<svg xmlns='http://www.w3.org/2000/svg' width='1200' height='1329' viewBox='0 0 12000 13290'>
-<title>MAKE.000 vi 0 vc 4 ve 2 fe 0 findings 3</title>
-<desc>A chart cell and its findings, north up, in integer coordinate units: north 2147483647 west -2147483648 south -2147483648 east 2147483647",
-    MARKED,
-    LISTED,
-    STYLE,
-    "<text class='heading' transform='translate( 600 330)'>MAKE.000 vi 0 vc 4 ve 2 fe 0 findings 3</text>
-",
-    KEY,
-    "<text class='corner' transform='translate( 600 850)'> north 2147483647 west -2147483648</text>
-<text class='corner' transform='translate( 600 11910)'> south -2147483648 east 2147483647</text>
-<text class='corner' transform='translate( 600 12290)'>Findings. One that has no place in the picture stands in this list alone.</text>
-<path class='edge' d='M 600 11690 11390 900h0'><title>rec ve 1</title></path>
-<path class='edge' d='M 11390 11690 600 900h0'><title>rec ve 2</title></path>
-<path class='node' d='M 600 11690h0'><title>rec vc 1</title></path>
-<path class='node' d='M 11390 900h0'><title>rec vc 2</title></path>
-<path class='node' d='M 11390 11690h0'><title>rec vc 3</title></path>
-<path class='node' d='M 600 900h0'><title>rec vc 4</title></path>
-<g><title>side ve 1 Orphan
-</title><path class='mark' d='M 600 11690 11390 900h0'/>",
-    "<path class='lead' d='M 5995 6295 5600 6165h0'/><text class='label' transform='translate( 5600 6165)'>1</text></g>
-<g><title>side ve 2 Orphan
-</title><path class='mark' d='M 11390 11690 600 900h0'/>",
-    "<path class='lead' d='M 5995 6295 5200 6165h0'/><text class='label' transform='translate( 5200 6165)'>2</text></g>
-<g><title>pair ve 1 ve 2 Cross 1 1
-</title><path class='mark' d='M 5995 6295h0'/>",
-    "<path class='lead' d='M 5995 6295 4800 6165h0'/><text class='label' transform='translate( 4800 6165)'>3</text></g>
-<text class='row' transform='translate( 600 12490)'>1 side ve 1 Orphan
-</text>
-<text class='row' transform='translate( 600 12690)'>2 side ve 2 Orphan
-</text>
-<text class='row' transform='translate( 600 12890)'>3 pair ve 1 ve 2 Cross 1 1
-</text>
-</svg>
-",
-];
-
 /// Without a position the cell is drawn as if around the origin.
 pub const EMPTY: [&str; 7] = [
     "<svg xmlns='http://www.w3.org/2000/svg' width='1200' height='1269' viewBox='0 0 12000 12690'>
@@ -122,8 +80,3 @@ pub const EMPTY: [&str; 7] = [
 </svg>
 ",
 ];
-
-/// The outer loop goes round the frame. The hole goes from a quarter of it, 10,790 / 4 = 2,697, to three quarters, 8,092, from the left and
-/// from the top: 600 + 2,697 = 3,297 and 600 + 8,092 = 8,692, 900 + 2,697 = 3,597 and 900 + 8,092 = 8,992.
-pub const HOLE: &str =
-    "<path class='coverage' d='M 600 11690 600 900 11390 900 11390 11690 600 11690h0M 3297 8992 8692 8992 8692 3597 3297 3597 3297 8992h0'>";
