@@ -6,7 +6,7 @@ use std::test::Fail;
 
 mod pictures;
 
-use pictures::{EMPTY, SQUARE};
+use pictures::{DIAGONAL_RECORDS, DIAGONALS, EMPTY, SQUARE};
 
 /// How many bytes of a generated file stand before its first node: a file of these alone is one of no record.
 const HEAD_LENGTH: usize = 1785;
@@ -55,6 +55,20 @@ fn an_empty_cell_is_drawn(rt: HostRuntime) -> Result<(), Fail> {
     let (ending, text) = drawn(&rt, head, &["CELL"])?;
     assert_eq!(rt; ending, Ending::Done);
     assert_eq!(rt; text, joined(rt.alloc(), &EMPTY)?);
+    Ok(())
+}
+
+/// The edges go from corner to corner of the plane and cross in its middle.
+#[test]
+fn the_longest_diagonals_are_drawn(rt: HostRuntime) -> Result<(), Fail> {
+    let mut file = square(rt.alloc())?;
+    file.truncate(HEAD_LENGTH);
+    for record in DIAGONAL_RECORDS {
+        file.extend_from_slice(record)?;
+    }
+    let (ending, text) = drawn(&rt, &file, &["CELL"])?;
+    assert_eq!(rt; ending, Ending::Done);
+    assert_eq!(rt; text, joined(rt.alloc(), &DIAGONALS)?);
     Ok(())
 }
 

@@ -63,6 +63,48 @@ pub const SQUARE: [&str; 7] = [
 ",
 ];
 
+/// The extent is 2^32 - 1 both ways and fills the frame from 600 to 11,390 and from 900 to 11,690. The diagonals meet half way, at
+/// (600 + 11,390) / 2 = 5,995 and (900 + 11,690) / 2 = 6,295. That is in row 19 of the fields, of 270 each, and column 13, of 400 each; the row is odd and
+/// runs west, so the numbers stand in the middle of columns 12, 11 and 10: 600 + 400 * 12 + 200 = 5,600, then 5,200 and 4,800, and
+/// 900 + 270 * 19 + 135 = 6,165 down.
+pub const DIAGONALS: [&str; 10] = [
+    "<svg xmlns='http://www.w3.org/2000/svg' width='1200' height='1329' viewBox='0 0 12000 13290'>
+<title>MAKE.000 vi 0 vc 4 ve 2 fe 0 findings 3</title>
+<desc>A chart cell and its findings, north up, in integer coordinate units: north 2147483647 west -2147483648 south -2147483648 east 2147483647",
+    MARKED,
+    LISTED,
+    STYLE,
+    "<text class='heading' transform='translate( 600 330)'>MAKE.000 vi 0 vc 4 ve 2 fe 0 findings 3</text>
+",
+    KEY,
+    "<text class='corner' transform='translate( 600 850)'> north 2147483647 west -2147483648</text>
+<text class='corner' transform='translate( 600 11910)'> south -2147483648 east 2147483647</text>
+<text class='corner' transform='translate( 600 12290)'>Findings. One that has no place in the picture stands in this list alone.</text>
+<path class='edge' d='M 600 11690 11390 900h0'><title>rec ve 1</title></path>
+<path class='edge' d='M 11390 11690 600 900h0'><title>rec ve 2</title></path>
+<path class='node' d='M 600 11690h0'><title>rec vc 1</title></path>
+<path class='node' d='M 11390 900h0'><title>rec vc 2</title></path>
+<path class='node' d='M 11390 11690h0'><title>rec vc 3</title></path>
+<path class='node' d='M 600 900h0'><title>rec vc 4</title></path>
+<g><title>side ve 1 Orphan
+</title><path class='mark' d='M 600 11690 11390 900h0'/>",
+    "<path class='lead' d='M 5995 6295 5600 6165h0'/><text class='label' transform='translate( 5600 6165)'>1</text></g>
+<g><title>side ve 2 Orphan
+</title><path class='mark' d='M 11390 11690 600 900h0'/>",
+    "<path class='lead' d='M 5995 6295 5200 6165h0'/><text class='label' transform='translate( 5200 6165)'>2</text></g>
+<g><title>pair ve 1 ve 2 Cross 1 1
+</title><path class='mark' d='M 5995 6295h0'/>",
+    "<path class='lead' d='M 5995 6295 4800 6165h0'/><text class='label' transform='translate( 4800 6165)'>3</text></g>
+<text class='row' transform='translate( 600 12490)'>1 side ve 1 Orphan
+</text>
+<text class='row' transform='translate( 600 12690)'>2 side ve 2 Orphan
+</text>
+<text class='row' transform='translate( 600 12890)'>3 pair ve 1 ve 2 Cross 1 1
+</text>
+</svg>
+",
+];
+
 /// Without a position the cell is drawn as if around the origin.
 pub const EMPTY: [&str; 7] = [
     "<svg xmlns='http://www.w3.org/2000/svg' width='1200' height='1269' viewBox='0 0 12000 12690'>
@@ -79,4 +121,14 @@ pub const EMPTY: [&str; 7] = [
 <text class='corner' transform='translate( 600 12290)'>Findings. One that has no place in the picture stands in this list alone.</text>
 </svg>
 ",
+];
+
+/// Records of four nodes in the corners of the plane and of two edges between them, as a file has them behind its head.
+pub const DIAGONAL_RECORDS: [&[u8]; 6] = [
+    b"00067 D     00046   12040001300VRID903SG2D912\x1e\x03\x00\x1ex\x01\x00\x00\x00\x01\x00\x01\x1e\x00\x00\x00\x80\x00\x00\x00\x80\x1e",
+    b"00067 D     00046   12040001300VRID903SG2D912\x1e\x04\x00\x1ex\x02\x00\x00\x00\x01\x00\x01\x1e\xff\xff\xff\x7f\xff\xff\xff\x7f\x1e",
+    b"00067 D     00046   12040001300VRID903SG2D912\x1e\x05\x00\x1ex\x03\x00\x00\x00\x01\x00\x01\x1e\x00\x00\x00\x80\xff\xff\xff\x7f\x1e",
+    b"00067 D     00046   12040001300VRID903SG2D912\x1e\x06\x00\x1ex\x04\x00\x00\x00\x01\x00\x01\x1e\xff\xff\xff\x7f\x00\x00\x00\x80\x1e",
+    b"00080 D     00049   220400010300VRID0903VRPT1912\x1e\x07\x00\x1e\x82\x01\x00\x00\x00\x01\x00\x01\x1ex\x01\x00\x00\x00\xff\xff\x01\xffx\x02\x00\x00\x00\xff\xff\x02\xff\x1e",
+    b"00080 D     00049   220400010300VRID0903VRPT1912\x1e\x08\x00\x1e\x82\x02\x00\x00\x00\x01\x00\x01\x1ex\x03\x00\x00\x00\xff\xff\x01\xffx\x04\x00\x00\x00\xff\xff\x02\xff\x1e",
 ];
