@@ -173,7 +173,8 @@ impl<'a, D: Disk> Journal<'a, D> {
         ensures fault { IfErr result (λ why. why ≡ KeepRefusal.DiskFault) }
         ensures rose { OnErr result (Rose (D.faults self.old.disk.now) (D.faults self.new.disk.now)) }
         ensures no_fall { D.faults self.old.disk.now ≤ D.faults self.new.disk.now }
-        ensures content { OnOk result (IfSome (D.content self.old.disk.now) (λ file. D.content self.new.disk.now ≡ Some (with_entry file self.old.end part.now))) }
+        ensures content { OnOk result (IfSome (D.content self.old.disk.now)
+            (λ file. D.content self.new.disk.now ≡ Some (with_entry file self.old.end part.now))) }
         ensures told { IsSome (D.content self.new.disk.now) → IsSome (D.content self.old.disk.now) }
         ensures stays_told { IsSome (D.content self.old.disk.now) → IsSome (D.content self.new.disk.now) }
         ensures kept { OnOk result (IfSome (D.content self.old.disk.now) (λ file. Only (with_entry file self.old.end part.now) (D.images self.new.disk.now))) }

@@ -9,7 +9,8 @@ use script_text::a_text_has_one_reading;
 
 /// The bytes of a file are the journal of one list of commits or have one first damaged entry, and never both.
 pub fn a_journal_has_one_reading()
-    ensures { (c : Cell) (file : List ℕ) (reading other : Result (List AcceptedCommit) ℕ) → IsReading c file reading → IsReading c file other → reading ≡ other }
+    ensures { (c : Cell) (file : List ℕ) (reading other : Result (List AcceptedCommit) ℕ)
+        → IsReading c file reading → IsReading c file other → reading ≡ other }
 {
     a_text_has_one_reading();
 }

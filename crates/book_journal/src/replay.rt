@@ -115,7 +115,8 @@ fn count_rest<L: Ledger>(
 ) -> Result<u64, OpenRefusal>
     requires to { IsBookTo book.now.opening bytes.now book.now rest.now }
     requires more { 1 < length bytes.now }
-    ensures { MatchResult result (IsCounted book.now.opening bytes.now (length (history_of book.now).commits) rest.now) (IsListRefusal book.now.opening bytes.now) }
+    ensures { MatchResult result (IsCounted book.now.opening bytes.now (length (history_of book.now).commits) rest.now)
+        (IsListRefusal book.now.opening bytes.now) }
 {
     let mut bench = book.bench().copy(alloc)?;
     let mut left = rest;
