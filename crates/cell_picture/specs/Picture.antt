@@ -62,7 +62,7 @@ line_style =
 
 abbrev pub mark_style : List ℕ
 mark_style =
-    codes ".mark,.spot{stroke:#d55e00;stroke-width:100;stroke-opacity:.45}.spot{stroke-width:50}\n"
+    codes ".mark,.spot{stroke:#d55e00;stroke-width:100;stroke-opacity:.45}.spot{stroke-width:80;stroke-opacity:.85}\n"
     ++ (codes ".lead{stroke:#8a3b00;stroke-width:12}text{font-family:sans-serif;font-size:150px}\n"
     ++ (codes ".label{font-weight:bold;font-size:190px;text-anchor:middle;dominant-baseline:central;\n"
     ++ (codes "paint-order:stroke;stroke:#fff;stroke-width:50}.heading{font-size:260px}</style>\n")))
@@ -84,7 +84,7 @@ abbrev pub area_key_text : List ℕ
 area_key_text =
     codes "<path class='group1' d='M 5800 500 6050 500 6050 680 5800 680h0'/><text transform='translate(6150 640)'>Group 1 area</text>\n"
     ++ (codes "<path class='coverage' d='M 7450 500 7700 500 7700 680 7450 680h0'/><text transform='translate(7800 640)'>coverage</text>\n"
-    ++ (codes "<path class='mark' d='M 8800 590 9050 590h0'/><text transform='translate(9150 640)'>finding, by its number in the list</text>\n"))
+    ++ (codes "<path class='mark' d='M 8800 590 9050 590h0'/><text transform='translate(9150 640)'>finding, listed by its number</text>\n"))
 
 abbrev pub heading_text : Cell → ℕ → List ℕ
 heading_text c total = text_at (codes "heading") PAGE_LEFT 330 ++ (counted_text c total ++ codes "</text>\n")

@@ -148,7 +148,7 @@ fn push_mark_style(out: &mut Vec<u8>) -> Result<(), AllocError>
 {
     push_text(
         out,
-        ".mark,.spot{stroke:#d55e00;stroke-width:100;stroke-opacity:.45}.spot{stroke-width:50}\n",
+        ".mark,.spot{stroke:#d55e00;stroke-width:100;stroke-opacity:.45}.spot{stroke-width:80;stroke-opacity:.85}\n",
     )?;
     push_text(
         out,
@@ -210,7 +210,7 @@ fn push_area_key(out: &mut Vec<u8>) -> Result<(), AllocError>
     )?;
     push_text(
         out,
-        "<path class='mark' d='M 8800 590 9050 590h0'/><text transform='translate(9150 640)'>finding, by its number in the list</text>\n",
+        "<path class='mark' d='M 8800 590 9050 590h0'/><text transform='translate(9150 640)'>finding, listed by its number</text>\n",
     )
 }
 

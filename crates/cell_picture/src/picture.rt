@@ -21,7 +21,7 @@ use check_words::{is_group1_area, number};
 use geometry_spec::Box4;
 use picture_places::{
     Held, PagePoint, Strokes, anchor_of, area_strokes_of, extent_of, field_of, free_field,
-    is_coverage_area, label_point, mark_anchor, place_of, push_vector,
+    is_coverage_area, label_point, mark_anchor, place_of, vector_strokes_of,
 };
 use s57_types::{Cell, Feature, Kind, Rec, Text, Vector};
 use std::alloc::{AllocError, Global};
@@ -59,12 +59,10 @@ fn figure_of<L: Ledger>(
 ) -> Result<Figure, AllocError>
     ensures { IfOk result (λ figure. figure ≡ vector_figure look.now around vector.now) }
 {
-    let mut strokes = Strokes::make(alloc);
-    push_vector(alloc, &mut strokes, look, around, vector, steps)?;
     Ok(Figure {
         class: class_of(vector),
         name: vector.name,
-        strokes,
+        strokes: vector_strokes_of(alloc, look, around, vector, steps)?,
     })
 }
 

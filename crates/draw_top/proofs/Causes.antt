@@ -10,7 +10,7 @@ use Rattle.file_spec.specs.DecodedCell.{decoded_cell}
 use Rattle.rule_spec.specs.Findings.{all_findings, finding_total}
 use Rattle.s57_types.specs.declared.cell.Cell.{Cell}
 use Rattle.s57_types.specs.declared.fault.CellFault.{CellFault}
-use Rattle.whole_files.specs.Input.{IsInputCause}
+use Rattle.whole_files.specs.Input.{IsInputCause, IsUntoldCause}
 use Rattle.whole_files.specs.Output.{Adds, AddsFront}
 use Rattle.whole_files.specs.declared.input.InputRefusal.{InputRefusal}
 use Rattle.whole_files.specs.declared.input.InputRefusal.TheVariants as input
@@ -77,11 +77,11 @@ answer_of_bytes name files before after content (Err ending) fits told ok err = 
 
 -- a file that wasn't read
 pub answer_of_refusal : (name : List ℕ) (files : Option Files) (before after : ℕ) (refusal : InputRefusal)
-    → IfSome files (λ fs. IsInputCause 16777216 (fs name) before after refusal) → (refusal ≡ input.ReadFault → Rose before after)
+    → IfSome files (λ fs. IsInputCause 16777216 (fs name) before after refusal) → IsUntoldCause before after refusal
     → IsAnswer name files before after (Err (ending_of refusal))
 answer_of_refusal name None before after input.Absent told untold = tt
 answer_of_refusal name (Some fs) before after input.Absent told untold = ap drawn_file told
-answer_of_refusal name files before after input.ReadFault told untold = untold refl
+answer_of_refusal name files before after input.ReadFault told untold = untold
 answer_of_refusal name None before after input.TooLarge told untold = tt
 answer_of_refusal name (Some fs) before after input.TooLarge told untold = over_limit (fs name) told
 answer_of_refusal name files before after input.NoMemory told untold = tt

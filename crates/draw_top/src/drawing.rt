@@ -98,6 +98,7 @@ fn refused(refusal: InputRefusal) -> Ending
 fn draw_file<H: Shelf>(alloc: Global, shelf: &mut H, name: &str) -> Result<Vec<u8>, Ending>
     ensures answer { IsAnswer name.now (H.files shelf.old) (H.read_faults shelf.old) (H.read_faults shelf.new) result }
     ensures files { H.files shelf.new ≡ H.files shelf.old }
+    ensures read_faults { H.read_faults shelf.old ≤ H.read_faults shelf.new }
     ensures write_faults { H.write_faults shelf.new ≡ H.write_faults shelf.old }
 {
     match read_file(alloc, shelf, name, CELL_LIMIT) {
@@ -112,6 +113,7 @@ fn put_picture<O: Sink>(out: &mut O, text: &[u8]) -> Ending
     ensures fault { result ≡ Ending.WriteFault
         → Told (AddsFront text.now) (O.written out.old) (O.written out.new) × Rose (O.faults out.old) (O.faults out.new) }
     ensures either { (result ≡ Ending.Done) ⊎ (result ≡ Ending.WriteFault) }
+    ensures faults { O.faults out.old ≤ O.faults out.new }
 {
     match put_all(out, text) {
         Ok(()) => Ending::Done,
@@ -133,7 +135,9 @@ pub fn draw<H: Shelf, O: Sink>(
         → IsCause name (H.files shelf.old) (H.read_faults shelf.old) (H.read_faults shelf.new)
         (O.written out.old) (O.written out.new) (O.faults out.old) (O.faults out.new) result }
     ensures files { H.files shelf.new ≡ H.files shelf.old }
+    ensures read_faults { H.read_faults shelf.old ≤ H.read_faults shelf.new }
     ensures write_faults { H.write_faults shelf.new ≡ H.write_faults shelf.old }
+    ensures put_faults { O.faults out.old ≤ O.faults out.new }
 {
     let [name] = words else {
         return Ending::Usage;

@@ -1,12 +1,12 @@
 //! How a call ends.
 
-ghost use Rattle.std.specs.Prelude.{◌≡◌, ◌++◌, ◌∷◌, [], OnOk};
+ghost use Rattle.std.specs.Prelude.{◌≡◌, ◌++◌, ◌∷◌, [], OnErr, OnOk};
 ghost use Rattle.text_spec.specs.Lines.{line as line_of};
 ghost use Rattle.draw_top.specs.Endings.{bad_cell_line, ending_line, ending_number};
 
 use s57_types::CellFault;
 use std::alloc::AllocError;
-use text_lines::{push_numbered, push_text, push_word};
+use text_lines::{push_bytes, push_numbered, push_text, push_word};
 
 /// How a call of the program ended. The numbers and the words are those of `check`.
 #[derive(Clone, Copy, Debug, PartialEq, Eq)]
@@ -80,10 +80,8 @@ fn push_bad_cell(out: &mut Vec<u8>, fault: CellFault) -> Result<(), AllocError>
     push_text(out, "\n")
 }
 
-/// Appends the line of an ending, or nothing where all is done. `name` is that of the file.
-///
-/// An `Err` means out of memory, and leaves perhaps a part of the line.
-pub fn push_ending(out: &mut Vec<u8>, ending: Ending, name: &str) -> Result<(), AllocError>
+/// Appends the same as `push_ending`, and after an `Err` perhaps a part of the line.
+fn push_line(out: &mut Vec<u8>, ending: Ending, name: &str) -> Result<(), AllocError>
     ensures { OnOk result (out.new.items ≡ out.old.items ++ ending_line name.now ending) }
 {
     match ending {
@@ -97,4 +95,16 @@ pub fn push_ending(out: &mut Vec<u8>, ending: Ending, name: &str) -> Result<(), 
         Ending::NoMemory => push_text(out, "enc_draw: no memory\n"),
         Ending::TooManyFindings => push_text(out, "enc_draw: too many findings\n"),
     }
+}
+
+/// Appends the line of an ending, or nothing where all is done. `name` is that of the file.
+///
+/// An `Err` means out of memory, and leaves the text as it was.
+pub fn push_ending(out: &mut Vec<u8>, ending: Ending, name: &str) -> Result<(), AllocError>
+    ensures ok { OnOk result (out.new.items ≡ out.old.items ++ ending_line name.now ending) }
+    ensures err { OnErr result (out.new.items ≡ out.old.items) }
+{
+    let mut line = Vec::new(*out.allocator());
+    push_line(&mut line, ending, name)?;
+    push_bytes(out, &line)
 }

@@ -33,7 +33,7 @@ fn draw_words<R: Files<File = File> + Print + AllocGlobal>(rt: &R, words: &[Stri
     draw(rt.alloc(), words, &mut shelf, &mut out)
 }
 
-/// The line of an ending, or a part of it where memory ran out.
+/// The line of an ending, or nothing where memory ran out.
 fn ending_line(alloc: Global, ending: Ending, words: &[String]) -> Vec<u8> {
     let mut line = Vec::new(alloc);
     if let [name] = words {

@@ -18,4 +18,4 @@ pub use label::{anchor_of, field_of, free_field, label_point};
 pub use law::north_is_up;
 pub use page::{PAGE_LEFT, PAGE_WIDTH, PagePoint};
 pub use place::place_of;
-pub use stroke::{Stroke, Strokes, push_vector};
+pub use stroke::{Stroke, Strokes, vector_strokes_of};

@@ -89,8 +89,8 @@ fn push_node(
     push_dots(alloc, strokes, around, &points)
 }
 
-/// Appends the strokes of a vector record: one of an edge, and of a node a dot at each of its positions.
-pub fn push_vector<L: Ledger>(
+/// Appends the strokes of a vector record.
+pub(crate) fn push_vector<L: Ledger>(
     alloc: Global,
     strokes: &mut Strokes,
     look: &ListLook,
@@ -104,6 +104,21 @@ pub fn push_vector<L: Ledger>(
         return push_edge(alloc, strokes, look, around, vector, steps);
     }
     push_node(alloc, strokes, around, vector)
+}
+
+/// The strokes of a vector record: one of an edge, and of a node a dot at each of its positions.
+pub fn vector_strokes_of<L: Ledger>(
+    alloc: Global,
+    look: &ListLook,
+    around: Box4,
+    vector: &Vector,
+    steps: &mut Steps<L>,
+) -> Result<Strokes, AllocError>
+    ensures { IfOk result (λ strokes. strokes ≡ vector_strokes look.now around vector.now) }
+{
+    let mut strokes = Strokes::make(alloc);
+    push_vector(alloc, &mut strokes, look, around, vector, steps)?;
+    Ok(strokes)
 }
 
 /// Appends the strokes of the vector record that a spatial pointer names.

@@ -14,3 +14,10 @@ IsInputCause limit file before after Absent = file ≡ None
 IsInputCause limit file before after ReadFault = Rose before after
 IsInputCause limit file before after TooLarge = IsSomeAnd file (λ content. limit < length content)
 IsInputCause limit file before after NoMemory = Unit {0}
+
+-- the same of an untold file
+abbrev pub IsUntoldCause : ℕ → ℕ → InputRefusal → Type 0
+IsUntoldCause before after ReadFault = Rose before after
+IsUntoldCause before after Absent = Unit {0}
+IsUntoldCause before after TooLarge = Unit {0}
+IsUntoldCause before after NoMemory = Unit {0}

@@ -1,8 +1,7 @@
 //! Reading a file whole.
 
 ghost use Rattle.std.specs.Prelude.{◌≡◌, ◌≤◌, ◌<◌, ◌^◌, Some, length, IfOk, IfErr, IfSome};
-ghost use Rattle.enc_outside.specs.Count.{Rose};
-ghost use Rattle.whole_files.specs.Input.{IsInputCause};
+ghost use Rattle.whole_files.specs.Input.{IsInputCause, IsUntoldCause};
 
 use enc_outside::{Got, Shelf};
 use std::alloc::{AllocError, Global};
@@ -33,7 +32,7 @@ pub fn read_file<H: Shelf>(
     ensures within { IfOk result (λ bytes. length bytes.items ≤ limit) }
     ensures told { IfErr result (λ e. IfSome (H.files shelf.old) (λ files.
         IsInputCause limit (files name.now) (H.read_faults shelf.old) (H.read_faults shelf.new) e)) }
-    ensures untold { IfErr result (λ e. e ≡ InputRefusal.ReadFault → Rose (H.read_faults shelf.old) (H.read_faults shelf.new)) }
+    ensures untold { IfErr result (IsUntoldCause (H.read_faults shelf.old) (H.read_faults shelf.new)) }
     ensures files { H.files shelf.new ≡ H.files shelf.old }
     ensures read_faults { H.read_faults shelf.old ≤ H.read_faults shelf.new }
     ensures write_faults { H.write_faults shelf.new ≡ H.write_faults shelf.old }
