@@ -44,7 +44,8 @@ use Rattle.cell_picture.specs.declared.shape.Mark.{Mark}
 use Rattle.cell_picture.specs.declared.shape.Row.{Row}
 use Rattle.cell_picture.specs.declared.shape.TheConstants.{MARK_LIMIT}
 use Rattle.picture_places.specs.Labels.{anchor_of}
-use Rattle.cell_picture.specs.Laws.{EachIsDrawnOnce, is_drawn, is_numbered_somewhere, is_somewhere, line_marked, name_drawn, number_marked, numbered_line, numbered_marks, row_listed}
+use Rattle.cell_picture.specs.Laws.{EachIsDrawnOnce, is_drawn, is_numbered_somewhere, is_somewhere, line_marked, name_drawn, number_marked, numbered_line}
+use Rattle.cell_picture.specs.Laws.{numbered_marks, row_listed}
 use Rattle.cell_picture.specs.Shapes.{
   Shape,
   area_figure,

@@ -2,7 +2,9 @@
 
 ghost use Rattle.std.specs.Prelude.{◌≡◌, ◌++◌, ◌∷◌, [], OnOk, codes, decimal};
 ghost use Rattle.text_spec.specs.Lines.{spaced_words};
-ghost use Rattle.cell_picture.specs.Picture.{area_key_text, corner_text, counted_text, description_head, description_tail, description_text, frame_text, hatch_text, head_text, heading_text, key_text, line_style, mark_style, names_text, north_west_text, opening_text, page_height as spec_page_height, side_words, south_east_text};
+ghost use Rattle.cell_picture.specs.Picture.{area_key_text, corner_text, counted_text, description_head, description_tail, description_text, frame_text};
+ghost use Rattle.cell_picture.specs.Picture.{hatch_text, head_text, heading_text, key_text, line_style, mark_style, names_text, north_west_text};
+ghost use Rattle.cell_picture.specs.Picture.{opening_text, page_height as spec_page_height, side_words, south_east_text};
 ghost use Rattle.cell_picture.specs.ShapeText.{text_at};
 
 use crate::escape::push_escaped;

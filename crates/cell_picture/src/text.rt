@@ -2,7 +2,8 @@
 
 ghost use Rattle.std.specs.Prelude.{◌≡◌, ◌++◌, ◌∷◌, [], OnOk, codes, decimal, flat_map};
 ghost use Rattle.text_spec.specs.Lines.{spaced, spaced_words};
-ghost use Rattle.cell_picture.specs.ShapeText.{class_word, figure_text, mark_number_text, mark_place_text, mark_text, pair_text, path_text, point_words, record_title, row_text, spot_text, stroke_text, text_at, title_text};
+ghost use Rattle.cell_picture.specs.ShapeText.{class_word, figure_text, mark_number_text, mark_place_text, mark_text, pair_text, path_text, point_words};
+ghost use Rattle.cell_picture.specs.ShapeText.{record_title, row_text, spot_text, stroke_text, text_at, title_text};
 
 use crate::escape::push_escaped;
 use crate::shape::{Class, Figure, Mark, Row};

@@ -1,5 +1,6 @@
 -- What the answers of steps tell of the call that they are part of.
-use Rattle.std.proofs.Common.{◌≡◌, ◌⊎◌, inl, inr, ℕ, ◌<◌, ◌≤◌, Bool, true, false, cond, List, length, nat_lt, Vec, Option, None, Some, Result, Ok, Err, Global, refl, sym, ap, subst, ◌∙◌}
+use Rattle.std.proofs.Common.{◌≡◌, ◌⊎◌, inl, inr, ℕ, ◌<◌, ◌≤◌, Bool, true, false, cond, List, length, nat_lt, Vec, Option, None, Some, Result, Ok, Err}
+use Rattle.std.proofs.Common.{Global, refl, sym, ap, subst, ◌∙◌}
 use Rattle.std.specs.Prelude.{IfErr, IfOk, IfSome, IsSomeAnd}
 use Rattle.std.proofs.lemmas.Bool.{le-ltb, lt-ltb}
 use Rattle.cell_findings.specs.Rows.{findings_of_rows}

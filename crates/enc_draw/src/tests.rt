@@ -103,7 +103,10 @@ fn markup_in_a_name_is_escaped(rt: HostRuntime) -> Result<(), Fail> {
     let plain = head(rt.alloc())?;
     let name = plain.get(NAME_START..NAME_START + 8);
     assert_eq!(rt; name, Some(b"MAKE.000".as_slice()));
-    let mut file = plain.get(..NAME_START).ok_or("no head")?.to_vec(rt.alloc())?;
+    let mut file = plain
+        .get(..NAME_START)
+        .ok_or("no head")?
+        .to_vec(rt.alloc())?;
     file.extend_from_slice(b"<&'\">.00")?;
     file.extend_from_slice(plain.get(NAME_START + 8..).ok_or("no head")?)?;
     let (ending, text) = drawn(&rt, &file, &["CELL"])?;
@@ -129,9 +132,19 @@ fn a_hole_is_left_open(rt: HostRuntime) -> Result<(), Fail> {
     let file = file_of(rt.alloc(), &HOLE_RECORDS)?;
     let (ending, text) = drawn(&rt, &file, &["CELL"])?;
     assert_eq!(rt; ending, Ending::Done);
-    assert_eq!(rt; count_lines(&text, "<path class='coverage'", "<title>rec fe 1</title></path>")?, 1);
+    assert_eq!(rt;
+        count_lines(
+            &text,
+            "<path class='coverage'",
+            "<title>rec fe 1</title></path>"
+        )?,
+        1
+    );
     assert_eq!(rt; count_lines(&text, HOLE, "</path>")?, 1);
-    assert_eq!(rt; count_lines(&text, ".group1,.coverage{fill-rule:evenodd}", "")?, 1);
+    assert_eq!(rt;
+        count_lines(&text, ".group1,.coverage{fill-rule:evenodd}", "")?,
+        1
+    );
     Ok(())
 }
 
@@ -152,8 +165,14 @@ fn each_record_is_drawn_once(rt: HostRuntime) -> Result<(), Fail> {
             assert_eq!(rt; found, 1);
         }
     }
-    assert_eq!(rt; count_lines(&text, "<path class='group1' d='M ", "</path>")?, 9);
-    assert_eq!(rt; count_lines(&text, "<path class='coverage' d='M ", "</path>")?, 1);
+    assert_eq!(rt;
+        count_lines(&text, "<path class='group1' d='M ", "</path>")?,
+        9
+    );
+    assert_eq!(rt;
+        count_lines(&text, "<path class='coverage' d='M ", "</path>")?,
+        1
+    );
     Ok(())
 }
 
@@ -164,9 +183,18 @@ fn over_500_findings_are_dots(rt: HostRuntime) -> Result<(), Fail> {
         let file = heap(rt.alloc(), nodes)?;
         let (ending, text) = drawn(&rt, &file, &["CELL"])?;
         assert_eq!(rt; ending, Ending::Done);
-        assert_eq!(rt; count_lines(&text, "<g><title>pair vc ", " SamePlace")?, marks);
-        assert_eq!(rt; count_lines(&text, "<path class='spot'", " SamePlace")?, spots);
-        assert_eq!(rt; count_lines(&text, "<text class='row'", " SamePlace")?, rows);
+        assert_eq!(rt;
+            count_lines(&text, "<g><title>pair vc ", " SamePlace")?,
+            marks
+        );
+        assert_eq!(rt;
+            count_lines(&text, "<path class='spot'", " SamePlace")?,
+            spots
+        );
+        assert_eq!(rt;
+            count_lines(&text, "<text class='row'", " SamePlace")?,
+            rows
+        );
     }
     Ok(())
 }
@@ -199,7 +227,10 @@ fn a_bad_cell_is_told_by_its_first_fault(rt: HostRuntime) -> Result<(), Fail> {
     assert_eq!(rt; ending.number(), 4);
     let mut line = Vec::new(rt.alloc());
     push_ending(&mut line, ending, "CELL")?;
-    assert_eq!(rt; line.as_slice(), b"enc_draw: bad cell record 4 offset 1785 code 1\n".as_slice());
+    assert_eq!(rt;
+        line.as_slice(),
+        b"enc_draw: bad cell record 4 offset 1785 code 1\n".as_slice()
+    );
     Ok(())
 }
 
@@ -208,10 +239,7 @@ fn a_bad_cell_is_told_by_its_first_fault(rt: HostRuntime) -> Result<(), Fail> {
 fn failing_devices_are_told(rt: HostRuntime) -> Result<(), Fail> {
     let alloc = rt.alloc();
     let file = write_cell(alloc, &make_cell(alloc, 3)?)?;
-    for (read, put, ending) in [
-        (2, 0, Ending::ReadFault),
-        (0, 1, Ending::WriteFault),
-    ] {
+    for (read, put, ending) in [(2, 0, Ending::ReadFault), (0, 1, Ending::WriteFault)] {
         let mut shelf = MemShelf::make(alloc);
         shelf.place("CELL", &file)?;
         shelf.fail_at(read);

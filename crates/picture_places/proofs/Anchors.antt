@@ -1,5 +1,6 @@
 -- Where marks are held, told without their strokes.
-use Rattle.std.proofs.Common.{◌≡◌, ℕ, zero, suc, ◌+◌, ◌-◌, ◌/◌, ◌<◌, ℤ, List, [], ◌∷◌, ◌++◌, Option, None, Some, get_or, length, drop, is_some, true, false, cond, ◌==◌, map, refl, ap, sym, ◌∙◌, arith}
+use Rattle.std.proofs.Common.{◌≡◌, ℕ, zero, suc, ◌+◌, ◌-◌, ◌/◌, ◌<◌, ℤ, List, [], ◌∷◌, ◌++◌, Option, None, Some, get_or, length, drop, is_some, true}
+use Rattle.std.proofs.Common.{false, cond, ◌==◌, map, refl, ap, sym, ◌∙◌, arith}
 use Rattle.std.specs.List.{flat_map}
 use Rattle.std.proofs.lemmas.List.{drop_more, length-map}
 use Rattle.std.proofs.lemmas.Bool.{false≢true, ne_eqb}

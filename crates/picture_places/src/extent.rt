@@ -2,7 +2,8 @@
 
 ghost use Rattle.std.specs.Prelude.{◌≡◌, ◌++◌, IfOk, OnOk, flat_map, map};
 ghost use Rattle.cell_spec.specs.Lookup.{all_records};
-ghost use Rattle.picture_places.specs.Page.{around_with as spec_around_with, box_around as spec_box_around, extent_of as spec_extent_of, positions_of as spec_positions_of, record_positions, without_depth};
+ghost use Rattle.picture_places.specs.Page.{around_with as spec_around_with, box_around as spec_box_around, extent_of as spec_extent_of};
+ghost use Rattle.picture_places.specs.Page.{positions_of as spec_positions_of, record_positions, without_depth};
 
 use geo_exact::box_of;
 use geometry_spec::{Box4, Point};

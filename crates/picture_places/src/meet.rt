@@ -2,7 +2,8 @@
 
 ghost use Rattle.std.specs.Prelude.{◌≡◌, ◌<◌, ◌≤◌, ◌+◌, ◌+ℤ◌, ◌^◌, ◌∷◌, [], ◌++◌, OnOk, unsigned_abs};
 ghost use Rattle.geometry_spec.specs.Areas.{signed_double_area, twice_area_step as spec_area_step};
-ghost use Rattle.picture_places.specs.Places.{common_dots, common_point as spec_common_point, double_area as spec_double_area, point_between as spec_point_between, shared_end as spec_shared_end, weighed as spec_weighed};
+ghost use Rattle.picture_places.specs.Places.{common_dots, common_point as spec_common_point, double_area as spec_double_area};
+ghost use Rattle.picture_places.specs.Places.{point_between as spec_point_between, shared_end as spec_shared_end, weighed as spec_weighed};
 
 use crate::page::{PagePoint, page_point};
 use crate::stroke::{Stroke, Strokes};

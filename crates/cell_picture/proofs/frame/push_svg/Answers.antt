@@ -20,7 +20,8 @@ returns c =
     on_ok_weaker c.push_text-4.result
     (λ last. after out first (height ++ (second ++ (size ++ closing))) c.in_ok-push_text.ensures.ok
     (after c.push_text.new.out.items height (second ++ (size ++ closing))
-    (c.in_ok-push_text-2.ensures.ok ∙ (λ i. c.push_text.new.out.items ++ c.format.ensures.text i) ∙ (λ i. c.push_text.new.out.items ++ decimal (c.page_height-height.ensures i / 10)))
+    (c.in_ok-push_text-2.ensures.ok ∙ (λ i. c.push_text.new.out.items ++ c.format.ensures.text i)
+    ∙ (λ i. c.push_text.new.out.items ++ decimal (c.page_height-height.ensures i / 10)))
     (after c.push_text-2.new.out.items second (size ++ closing) c.in_ok-push_text-3.ensures.ok
     (after c.push_text-3.new.out.items size closing
     (c.in_ok-push_pair.ensures ∙ (λ i. c.push_text-3.new.out.items ++ pair_text PAGE_WIDTH (c.page_height-height.ensures i))) last))))
