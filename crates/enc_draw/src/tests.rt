@@ -2,12 +2,12 @@ use super::*;
 use cell_make::make_cell;
 use cell_write::write_cell;
 use enc_outside::{MemShelf, MemSink};
+use s57_types::CellFault;
 use std::test::Fail;
 
 mod pictures;
 
 use pictures::{DIAGONAL_RECORDS, DIAGONALS, HOLE, HOLE_RECORDS, SQUARE, empty_picture};
-use s57_types::CellFault;
 
 /// How many bytes of a generated file stand before its first node: a file of these alone is one of no record.
 const HEAD_LENGTH: usize = 1785;
@@ -15,17 +15,21 @@ const HEAD_LENGTH: usize = 1785;
 /// How many of them stand before the name of the data set, which is `MAKE.000`.
 const NAME_START: usize = 1637;
 
+fn words_of(alloc: Global, words: &[&str]) -> Result<Vec<String>, Fail> {
+    let mut list = Vec::new(alloc);
+    for word in words {
+        list.push(String::from_str(alloc, word)?)?;
+    }
+    Ok(list)
+}
+
 /// What a call with these words ends with and puts, where the file `CELL` has the bytes.
 fn drawn(rt: &HostRuntime, bytes: &[u8], words: &[&str]) -> Result<(Ending, Vec<u8>), Fail> {
     let alloc = rt.alloc();
     let mut shelf = MemShelf::make(alloc);
     shelf.place("CELL", bytes)?;
     let mut out = MemSink::make(alloc);
-    let mut list = Vec::new(alloc);
-    for word in words {
-        list.push(String::from_str(alloc, word)?)?;
-    }
-    let ending = draw(alloc, &list, &mut shelf, &mut out);
+    let ending = draw(alloc, &words_of(alloc, words)?, &mut shelf, &mut out);
     Ok((ending, out.bytes().to_vec(alloc)?))
 }
 
@@ -245,7 +249,7 @@ fn failing_devices_are_told(rt: HostRuntime) -> Result<(), Fail> {
         shelf.fail_at(read);
         let mut out = MemSink::make(alloc);
         out.fail_at(put);
-        let words = [String::from_str(alloc, "CELL")?];
+        let words = words_of(alloc, &["CELL"])?;
         assert_eq!(rt; draw(alloc, &words, &mut shelf, &mut out), ending);
         assert_eq!(rt; out.bytes().len(), 0);
     }
