@@ -5,7 +5,9 @@ mod contact;
 mod finding;
 mod line;
 mod part;
+mod threads;
 mod verdict;
 
-pub use part::ChainPart;
-pub use verdict::{pair_findings, verdict_pair};
+pub use part::{ChainPart, part_named};
+pub use threads::parts_cross_threads;
+pub use verdict::{pair_findings, pair_row, verdict_pair};

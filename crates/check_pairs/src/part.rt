@@ -1,6 +1,6 @@
 //! Connected nodes and edges: the parts of which chains are made (S-57 Part 2, 2.2.1.2).
 
-ghost use Rattle.std.specs.Prelude.{◌≡◌, ◌≤◌, ◌+◌, IsTrue, IfOk, Some, map, option_to_list};
+ghost use Rattle.std.specs.Prelude.{◌≡◌, ◌≤◌, ◌+◌, All, IsTrue, IfOk, IfSome, Some, map, option_to_list};
 ghost use Rattle.std.specs.List.{enumerate_from};
 ghost use Rattle.geometry_spec.specs.Points.{Point as SpecPoint};
 ghost use Rattle.line_boxes.specs.LineBoxes.{line_box};
@@ -54,17 +54,22 @@ fn record_of<'a, B: Look, L: Ledger>(look: &'a B, name: RecName, steps: &mut Ste
     }
 }
 
-/// The line of the edge of a name with its segments, if it has one.
+/// The line of the edge of a name with its segments, if it has one. `part` is the record of the name; where it is a node, nothing is looked up.
 fn line_of<B: Look, L: Ledger>(
     alloc: Global,
     look: &B,
     name: RecName,
+    part: &Vector,
     steps: &mut Steps<L>,
 ) -> Result<Option<SegmentedLine>, AllocError>
+    requires { lookup_record (B.cell look.now) name ≡ Some (SpecV part.now) }
     ensures line { IfOk result (λ line. line ≡ edge_line_of (B.cell look.now) name) }
     ensures steps { steps.new ≤ steps.old + 3 }
     ensures counted { steps.old ≤ steps.new }
 {
+    if !is_edge(part) {
+        return Ok(None);
+    }
     match edge_line(alloc, look, name, steps)? {
         Some(line) => Ok(Some(SegmentedLine::of_line(alloc, line)?)),
         None => Ok(None),
@@ -98,7 +103,7 @@ impl<'a> ChainPart<'a> {
         ensures counted { steps.old ≤ steps.new }
     {
         let record = record_of(look, name, steps);
-        let line = line_of(alloc, look, name, steps)?;
+        let line = line_of(alloc, look, name, record, steps)?;
         Ok(ChainPart { name, record, line })
     }
 
@@ -151,19 +156,41 @@ pub(crate) fn names_node(edge: &Vector, name: RecName) -> bool
     false
 }
 
+/// The most keys of a connected node or an edge in a read set: its name, and those of the records that its ends name.
+fn key_count(part: &Vector) -> usize {
+    part.ends.len().saturating_add(1)
+}
+
 /// The read set of two connected nodes or edges.
-pub(crate) fn pair_keys(
-    alloc: Global,
-    a: RecName,
-    first: &Vector,
-    b: RecName,
-    second: &Vector,
-) -> Result<Keys, AllocError>
-    ensures { (c : SpecCell) → lookup_record c a ≡ Some (SpecV first.now) → lookup_record c b ≡ Some (SpecV second.now)
-        → IfOk result (λ keys. keys ≡ read_set c (SpecPair a b)) }
+pub(crate) fn pair_keys(alloc: Global, a: &ChainPart, b: &ChainPart) -> Result<Keys, AllocError>
+    ensures { (c : SpecCell) → IsPart c a.now → IsPart c b.now → IfOk result (λ keys. keys ≡ read_set c (SpecPair a.now.name b.now.name)) }
 {
-    let mut keys = Vec::new(alloc);
-    push_vector_keys(&mut keys, a, first)?;
-    push_vector_keys(&mut keys, b, second)?;
+    let room = key_count(a.record).saturating_add(key_count(b.record));
+    let mut keys = Vec::with_capacity(alloc, room)?;
+    push_vector_keys(&mut keys, a.name, a.record)?;
+    push_vector_keys(&mut keys, b.name, b.record)?;
     Ok(ascending_keys(keys))
+}
+
+/// The part of a name at a place.
+fn named_at<'a, 'b>(
+    parts: &'b [ChainPart<'a>],
+    place: usize,
+    name: RecName,
+) -> Option<&'b ChainPart<'a>>
+    ensures named { IfSome result (λ part. part.now.name ≡ name) }
+    ensures held { (c : SpecCell) → All (IsPart c) parts.now → IfSome result (λ part. IsPart c part.now) }
+{
+    match parts.get(place) {
+        Some(part) if part.name == name => Some(part),
+        _ => None,
+    }
+}
+
+/// The part of a name among parts in the order of their names. Among parts in another order it may miss one.
+pub fn part_named<'a, 'b>(parts: &'b [ChainPart<'a>], name: RecName) -> Option<&'b ChainPart<'a>>
+    ensures named { IfSome result (λ part. part.now.name ≡ name) }
+    ensures held { (c : SpecCell) → All (IsPart c) parts.now → IfSome result (λ part. IsPart c part.now) }
+{
+    named_at(parts, parts.partition_point(|part| part.name < name), name)
 }

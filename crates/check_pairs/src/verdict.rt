@@ -3,6 +3,8 @@
 ghost use Rattle.std.specs.Prelude.{◌≡◌, ◌≤◌, ◌+◌, ◌*◌, IsTrue, IfOk, length, true};
 ghost use Rattle.s57_types.specs.declared.cell.Cell.{Cell as SpecCell};
 ghost use Rattle.cell_spec.specs.declared.key.Subject.TheVariants.{Pair as SpecPair};
+ghost use Rattle.finding_laws.specs.Pairs.{are_apart as spec_are_apart};
+ghost use Rattle.rule_spec.specs.Affected.{exact_row};
 ghost use Rattle.rule_spec.specs.Findings.{is_subject, findings_of_subject};
 ghost use Rattle.rule_spec.specs.Reads.{read_set};
 ghost use Rattle.check_pairs.specs.Parts.{IsPart};
@@ -11,6 +13,9 @@ use crate::finding::{edge_pair, node_and_edge, node_pair};
 use crate::part::{ChainPart, is_edge, pair_keys};
 use cell_spec::{Finding, Row, Subject};
 use chain_topo::{Look, Steps};
+use finding_laws::apart_pairs_are_clean;
+use geometry_spec::Box4;
+use line_boxes::are_disjoint;
 use s57_types::{Items, RecName};
 use std::alloc::{AllocError, Global};
 use std::sync::ledger::Ledger;
@@ -32,6 +37,44 @@ pub fn pair_findings(
         (false, false) => node_pair(alloc, a.record, b.record),
         (true, false) => Ok(Vec::new(alloc)),
     }
+}
+
+/// Whether two boxes have no point in common. What has no box has none.
+fn are_apart(a: Option<Box4>, b: Option<Box4>) -> bool
+    ensures { result ≡ spec_are_apart a b }
+{
+    match (a, b) {
+        (Some(a), Some(b)) => are_disjoint(a, b),
+        _ => true,
+    }
+}
+
+/// The same findings. Two whose boxes have no point in common have none, and aren't looked at.
+fn near_findings(alloc: Global, a: &ChainPart, b: &ChainPart) -> Result<Vec<Finding>, AllocError>
+    ensures { (c : SpecCell) → IsPart c a.now → IsPart c b.now → is_subject c (SpecPair a.now.name b.now.name) ≡ true
+        → IfOk result (λ findings. findings.items ≡ findings_of_subject c (SpecPair a.now.name b.now.name)) }
+{
+    apart_pairs_are_clean();
+    if are_apart(a.extent(), b.extent()) {
+        return Ok(Vec::new(alloc));
+    }
+    pair_findings(alloc, a, b)
+}
+
+/// The row of two connected nodes or edges of a cell, the lesser name first, as `verdict_pair` tells it: nothing is looked up.
+///
+/// An `Err` means out of memory.
+pub fn pair_row(alloc: Global, a: &ChainPart, b: &ChainPart) -> Result<Row, AllocError>
+    ensures { (c : SpecCell) → IsPart c a.now → IsPart c b.now → is_subject c (SpecPair a.now.name b.now.name) ≡ true
+        → IfOk result (λ row. row ≡ exact_row c (SpecPair a.now.name b.now.name)) }
+{
+    let reads = pair_keys(alloc, a, b)?;
+    let findings = near_findings(alloc, a, b)?;
+    Ok(Row {
+        subject: Subject::Pair(a.name, b.name),
+        findings: Items::of_vec(findings),
+        reads,
+    })
 }
 
 /// The row of two connected nodes or edges of a cell, the lesser name first: its findings and its read set, which is
@@ -59,11 +102,5 @@ pub fn verdict_pair<B: Look, L: Ledger>(
 {
     let first = ChainPart::find(alloc, look, a, steps)?;
     let second = ChainPart::find(alloc, look, b, steps)?;
-    let reads = pair_keys(alloc, a, first.record, b, second.record)?;
-    let findings = pair_findings(alloc, &first, &second)?;
-    Ok(Row {
-        subject: Subject::Pair(a, b),
-        findings: Items::of_vec(findings),
-        reads,
-    })
+    pair_row(alloc, &first, &second)
 }

@@ -1,6 +1,8 @@
 //! The row of any subject of a chart cell: its findings and its read set.
 #![tactic(auto)]
 
+mod names;
 mod row;
 
-pub use row::row_of;
+pub use names::part_names;
+pub use row::{row_by_parts, row_of};

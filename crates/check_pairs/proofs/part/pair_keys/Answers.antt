@@ -7,8 +7,8 @@ use Rattle.check_pairs.proofs.part.pair_keys.Goals as goal
 pub returns : goal.returns
 unfolding read_set
 returns c = λ cell first second.
-    let before = c.new-keys.ensures.items in
-    let one = c.in_ok-push_vector_keys.ensures cell first in
-    let two = c.in_ok-push_vector_keys-2.ensures cell second in
-    c.ascending_keys.ensures ∙ ap (ascending key_order) (two ∙ ap (λ keys. keys ++ record_keys cell c.args.b)
-    (one ∙ ap (λ keys. keys ++ record_keys cell c.args.a) before))
+    let before = c.in_ok-keys.ensures.items in
+    let one = c.in_ok-push_vector_keys.ensures cell first.record_held in
+    let two = c.in_ok-push_vector_keys-2.ensures cell second.record_held in
+    c.ascending_keys.ensures ∙ ap (ascending key_order) (two ∙ ap (λ keys. keys ++ record_keys cell c.args.b.now.name)
+    (one ∙ ap (λ keys. keys ++ record_keys cell c.args.a.now.name) before))
