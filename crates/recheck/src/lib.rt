@@ -2,6 +2,7 @@
 #![tactic(auto)]
 
 mod judging;
+mod parts;
 mod preparing;
 
 pub use preparing::prepare;

@@ -7,6 +7,7 @@ ghost use Rattle.rule_spec.specs.Affected.{RowsAreExact};
 ghost use Rattle.recheck.specs.Preparing.{edited_rows, prepared_rows};
 
 use crate::judging::judge_all;
+use crate::parts::parts_of;
 use cell_bench::{Bench, BenchPlan, PlanRefusal, Prepared, Reach};
 use cell_overlay::Overlay;
 use cell_spec::Rows;
@@ -34,7 +35,9 @@ fn rows_after<R: Threads + Sync, L: Ledger>(
 {
     bench.known();
     let over = Overlay::make(alloc, bench.store(), edits, steps)?;
-    judge_all(rt, alloc, &over, reach.judged.as_slice())
+    let subjects = reach.judged.as_slice();
+    let parts = parts_of(rt, alloc, &over, subjects)?;
+    judge_all(rt, alloc, &over, &parts, subjects)
 }
 
 /// The bench that edits leave, built of these rows. One with too many findings isn't built: those are told in the turn.

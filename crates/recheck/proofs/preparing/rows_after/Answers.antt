@@ -6,9 +6,18 @@ use Rattle.rule_spec.specs.Findings.{is_subject}
 use Rattle.recheck.proofs.Prepared.{all_there}
 use Rattle.recheck.proofs.preparing.rows_after.Goals as goal
 
-pub judge_all-requires-after_bounds : goal.judge_all-requires-after_bounds
-judge_all-requires-after_bounds g c κs within =
+pub parts_of-requires-after_bounds : goal.parts_of-requires-after_bounds
+parts_of-requires-after_bounds g c κs within =
     let edits = c.args.edits.now.edits in
     let over = c.in_ok-over.ensures.over ∙ ap (apply_edits edits) c.store.ensures in
-    subst (λ (d : Cell). All (λ s. IsTrue (is_subject d s)) c.as_slice.result.now) (sym over)
-    (all_there edits c.args.bench.now c.args.reach.now.judged c.as_slice.result.now c.requires.reach.judged c.as_slice.ensures)
+    let subjects = c.as_slice-subjects.result.now in
+    subst (λ (d : Cell). All (λ s. IsTrue (is_subject d s)) subjects) (sym over)
+    (all_there edits c.args.bench.now c.args.reach.now.judged subjects c.requires.reach.judged c.as_slice-subjects.ensures)
+
+pub judge_all-requires-clause-subjects : goal.judge_all-requires-clause-subjects
+judge_all-requires-clause-subjects g c κs within =
+    let edits = c.args.edits.now.edits in
+    let over = c.in_ok-over.ensures.over ∙ ap (apply_edits edits) c.store.ensures in
+    let subjects = c.as_slice-subjects.result.now in
+    subst (λ (d : Cell). All (λ s. IsTrue (is_subject d s)) subjects) (sym over)
+    (all_there edits c.args.bench.now c.args.reach.now.judged subjects c.requires.reach.judged c.as_slice-subjects.ensures)

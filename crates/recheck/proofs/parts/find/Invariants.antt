@@ -1,0 +1,5 @@
+use Rattle.recheck.proofs.parts.find.Given as goal
+
+-- the counter is the one that the blank becomes
+abbrev pub ghosts-counted : goal.ghosts-counted
+ghosts-counted g a = record { name = a.blank.name; parts = a.blank.parts }
