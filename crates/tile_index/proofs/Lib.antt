@@ -1,6 +1,7 @@
 pub mod Chosen
 pub mod Counts
 pub mod Folded
+pub mod InPlace
 pub mod Meeting
 pub mod Names
 pub mod Near

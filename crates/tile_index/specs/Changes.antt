@@ -1,10 +1,11 @@
 -- What changes leave of the coverings that are kept. This project's own rules.
-use Rattle.std.specs.Prelude.{◌≡◌, List, [], Option, None, Some, fold, length, map, nat_lt, option_and_then, option_to_list, if◌then◌else◌}
+use Rattle.std.specs.Prelude.{◌≡◌, List, [], Option, None, Some, fold, length, map, nat_lt, option_and_then, option_map, option_to_list, if◌then◌else◌}
 use Rattle.std.specs.Option.{option_map_or}
 use Rattle.s57_types.specs.declared.name.Kind.TheVariants.{Vc}
 use Rattle.s57_types.specs.declared.name.RecName.{RecName}
 use Rattle.cell_spec.specs.Names.{is_of_kind, name_order, same_name}
 use Rattle.geometry_spec.specs.Points.{Point}
+use Rattle.geometry_spec.specs.declared.tile.TileRange.{TileRange}
 use Rattle.rule_spec.specs.EdgePoints.{Segment, segments_of}
 use Rattle.rule_spec.specs.Records.{is_edge_name, the_only}
 use Rattle.row_table.specs.Rows.{IsAscending, value_of, with_row, without_key}
@@ -32,6 +33,14 @@ after_change rows change =
 -- the rows after changes, one after the other
 abbrev pub after_changes : List (RecName × Covering) → List TileChange → List (RecName × Covering)
 after_changes rows changes = fold after_change rows changes
+
+-- the names and their ranges
+abbrev pub ranges_in : List (RecName × Covering) → List (RecName × List TileRange)
+ranges_in rows = map (λ (row : RecName × Covering). (row.0, row.1.ranges)) rows
+
+-- the ranges that a name has
+abbrev pub ranges_at : List (RecName × Covering) → RecName → Option (List TileRange)
+ranges_at rows n = option_map (λ (covering : Covering). covering.ranges) (value_of name_order rows n)
 
 -- what a name has after changes: the covering that the last change of it gives, and what it had where none is of it
 abbrev pub covering_after : Option Covering → List TileChange → RecName → Option Covering

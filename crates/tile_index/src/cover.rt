@@ -95,6 +95,13 @@ impl Cover {
         self.ranges.iter().any(|range| is_oversized(*range))
     }
 
+    /// Whether another covering has the same ranges.
+    pub(crate) fn has_ranges_of(&self, other: &Cover) -> bool
+        ensures { result ≡ true → self.now.ranges ≡ other.now.ranges }
+    {
+        self.ranges == other.ranges
+    }
+
     // The ranges.
     fn ranges(&self) -> &[TileRange]
         ensures ranges { result.now ≡ self.now.ranges }
@@ -174,7 +181,7 @@ fn sides_of(segment: Segment) -> Sides
 fn sides_under(alloc: Global, segments: &[Segment]) -> Result<Vec<Sides>, AllocError>
     ensures { IfOk result (λ sides. map range_with sides.items ≡ map tiles_under segments.now) }
 {
-    let mut sides = Vec::new(alloc);
+    let mut sides = Vec::with_capacity(alloc, segments.len())?;
     for segment in segments {
         sides.push(sides_of(*segment))?;
     }
@@ -206,7 +213,7 @@ fn range_of(sides: Sides) -> TileRange
 fn ranges_of(alloc: Global, sides: &[Sides]) -> Result<Vec<TileRange>, AllocError>
     ensures { IfOk result (λ ranges. ranges.items ≡ map range_with sides.now) }
 {
-    let mut ranges = Vec::new(alloc);
+    let mut ranges = Vec::with_capacity(alloc, sides.len())?;
     for side in sides {
         ranges.push(range_of(*side))?;
     }

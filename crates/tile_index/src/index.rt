@@ -1,13 +1,13 @@
 //! The index of tiles and plans of its changes.
 
-ghost use Rattle.std.specs.Prelude.{◌≡◌, [], IfOk, IsOk, OnOk, is_some, option_and_then, if◌then◌else◌};
+ghost use Rattle.std.specs.Prelude.{◌≡◌, [], IfOk, IsOk, OnOk, Some, is_some, option_and_then, true, if◌then◌else◌};
 ghost use Rattle.std.specs.Ordering.{is_eq};
 ghost use Rattle.s57_types.specs.declared.name.RecName.{RecName as SpecRecName};
 ghost use Rattle.cell_spec.specs.Names.{name_order};
 ghost use Rattle.row_table.specs.Rows.{value_of, with_row, without_key};
 ghost use Rattle.finding_laws.specs.Tables.{Covering, mates_in};
 ghost use Rattle.pair_set.specs.Pairs.{is_among};
-ghost use Rattle.tile_index.specs.Changes.{after_change, after_changes, covering_given as spec_given};
+ghost use Rattle.tile_index.specs.Changes.{after_change, after_changes, covering_given as spec_given, ranges_at, ranges_in};
 ghost use Rattle.tile_index.specs.Tilings.{Tile as SpecTile, is_near, is_under, tile_order};
 
 use crate::change::TileChange;
@@ -70,6 +70,21 @@ impl Model for TilePlan {
     ghost view = { λ p. p.index };
 }
 
+/// A plan, and whether it is known to leave each name the mates that it had.
+#[derive(Drop)]
+pub struct NotedPlan {
+    pub plan: TilePlan,
+    /// `true` where no change gave a name other ranges than it had.
+    pub keeps_mates: bool,
+}
+
+// An index after a change, and whether the change has left the ranges of its name.
+#[derive(Drop)]
+struct Changed {
+    index: TileIndex,
+    in_place: bool,
+}
+
 impl TileIndex {
     /// An index that keeps no name.
     pub fn make() -> TileIndex
@@ -94,7 +109,7 @@ impl TileIndex {
             return Ok(Names::make(alloc));
         };
         let near = self.near(alloc, own)?;
-        Ok(ascending_names(without(alloc, &near, name)?))
+        Ok(ascending_names(without(near, name)))
     }
 
     /// The names that may touch this one after a plan.
@@ -121,11 +136,29 @@ impl TileIndex {
     pub fn plan(&self, alloc: Global, changes: &[TileChange]) -> Result<TilePlan, AllocError>
         ensures { IfOk result (λ plan. plan ≡ after_changes self.now changes.now) }
     {
+        Ok(self.plan_noting_mates(alloc, changes)?.plan)
+    }
+
+    /// The same plan, and whether it is known to leave all mates as they were: where no change gives a name other ranges.
+    pub fn plan_noting_mates(
+        &self,
+        alloc: Global,
+        changes: &[TileChange],
+    ) -> Result<NotedPlan, AllocError>
+        ensures plan { IfOk result (λ noted. noted.plan ≡ after_changes self.now changes.now) }
+        ensures mates { IfOk result (λ noted. noted.keeps_mates ≡ true → (n : SpecRecName) → mates_in noted.plan n ≡ mates_in self.now n) }
+    {
         let mut index = self.copy(alloc)?;
+        let mut keeps_mates = true;
         for change in changes {
-            index = index.changed(alloc, change)?;
+            let changed = index.changed(alloc, change)?;
+            index = changed.index;
+            keeps_mates = keeps_mates && changed.in_place;
         }
-        Ok(TilePlan { index })
+        Ok(NotedPlan {
+            plan: TilePlan { index },
+            keeps_mates,
+        })
     }
 
     /// Takes the memory that installing a plan needs: none, since the plan has taken it.
@@ -157,14 +190,93 @@ impl TileIndex {
         Ok(names)
     }
 
+    // Whether a name has a covering with the ranges of another one.
+    fn has_ranges_of(&self, name: RecName, cover: &Cover) -> bool
+        ensures { result ≡ true → ranges_at self.now name ≡ Some cover.now.ranges }
+    {
+        orders_are_by_parts();
+        match self.kept.get(&name) {
+            Some(own) => own.has_ranges_of(cover),
+            None => false,
+        }
+    }
+
+    // Whether a name is kept.
+    fn has(&self, name: RecName) -> bool
+        ensures { result ≡ is_some (value_of name_order self.now name) }
+    {
+        orders_are_by_parts();
+        self.kept.get(&name).is_some()
+    }
+
     // The index after a change.
-    fn changed(self, alloc: Global, change: &TileChange) -> Result<TileIndex, AllocError>
-        ensures { IfOk result (λ index. index ≡ after_change self change.now) }
+    fn changed(self, alloc: Global, change: &TileChange) -> Result<Changed, AllocError>
+        ensures index { IfOk result (λ changed. changed.index ≡ after_change self change.now) }
+        ensures ranges { IfOk result (λ changed. changed.in_place ≡ true → ranges_in changed.index ≡ ranges_in self) }
     {
         match covering_given(alloc, change)? {
-            Some(cover) => self.with_cover(alloc, change.name, cover),
-            None => self.without(alloc, change.name),
+            Some(cover) => self.covered(alloc, change.name, cover),
+            None => self.uncovered(alloc, change.name),
         }
+    }
+
+    // The index with a name's new covering.
+    fn covered(self, alloc: Global, name: RecName, cover: Cover) -> Result<Changed, AllocError>
+        ensures index { IfOk result (λ changed. changed.index ≡ with_row name_order self name cover) }
+        ensures ranges { IfOk result (λ changed. changed.in_place ≡ true → ranges_in changed.index ≡ ranges_in self) }
+    {
+        let in_place = self.has_ranges_of(name, &cover);
+        let index = if in_place {
+            self.with_cover_in_place(alloc, name, cover)?
+        } else {
+            self.with_cover(alloc, name, cover)?
+        };
+        Ok(Changed { index, in_place })
+    }
+
+    // The index without a name, which it need not have.
+    fn uncovered(self, alloc: Global, name: RecName) -> Result<Changed, AllocError>
+        ensures index { IfOk result (λ changed. changed.index ≡ without_key name_order self name) }
+        ensures ranges { IfOk result (λ changed. changed.in_place ≡ true → ranges_in changed.index ≡ ranges_in self) }
+    {
+        if self.has(name) {
+            let index = self.without(alloc, name)?;
+            return Ok(Changed {
+                index,
+                in_place: false,
+            });
+        }
+        Ok(Changed {
+            index: self,
+            in_place: true,
+        })
+    }
+
+    // The index with a name's new covering, which has the ranges of its old one: the name stays under the same tiles.
+    fn with_cover_in_place(
+        self,
+        alloc: Global,
+        name: RecName,
+        cover: Cover,
+    ) -> Result<TileIndex, AllocError>
+        requires { ranges_at self name ≡ Some cover.ranges }
+        ensures index { IfOk result (λ index. index ≡ with_row name_order self name cover) }
+        ensures ranges { IfOk result (λ index. ranges_in index ≡ ranges_in self) }
+    {
+        orders_are_by_parts();
+        let TileIndex {
+            mut kept,
+            in_tiles,
+            oversized,
+        } = self;
+        // The rows ascend.
+        let _count = kept.len();
+        kept.put(alloc, name, Shared::make(alloc, cover)?)?;
+        Ok(TileIndex {
+            kept,
+            in_tiles,
+            oversized,
+        })
     }
 
     // The index with a name's new covering.

@@ -13,6 +13,6 @@ mod range;
 mod threads;
 
 pub use change::TileChange;
-pub use index::{TileIndex, TilePlan};
+pub use index::{NotedPlan, TileIndex, TilePlan};
 pub use law::changes_set_their_names;
 pub use threads::indexes_cross_threads;

@@ -22,6 +22,9 @@ const LEAST: RecName = RecName {
     id: 0,
 };
 
+/// A name has mostly fewer mates than this in the tiles under it, so that their list seldom grows.
+const ROOM: usize = 64;
+
 /// Appends the names of rows.
 pub(crate) fn push_names<V: Drop>(
     names: &mut Vec<RecName>,
@@ -60,27 +63,18 @@ pub(crate) fn names_under(
     ensures { IfOk result (λ names. (n : SpecRecName) → is_among name_order names.items n
         ≡ list_any (λ (t : SpecTile). has_pair tile_order name_order in_tiles.now t n) tiles.now) }
 {
-    let mut names = Vec::new(alloc);
+    let mut names = Vec::with_capacity(alloc, ROOM)?;
     for tile in tiles {
         push_under(&mut names, in_tiles, *tile)?;
     }
     Ok(names)
 }
 
-/// The names but one.
-pub(crate) fn without(
-    alloc: Global,
-    names: &[RecName],
-    name: RecName,
-) -> Result<Vec<RecName>, AllocError>
-    ensures { IfOk result (λ others. others.items ≡ filter (λ (m : SpecRecName). not (is_eq (name_order m name))) names.now) }
+/// The names but one. It takes no memory.
+pub(crate) fn without(mut names: Vec<RecName>, name: RecName) -> Vec<RecName>
+    ensures { result.items ≡ filter (λ (m : SpecRecName). not (is_eq (name_order m name))) names.items }
 {
     orders_are_by_parts();
-    let mut others = Vec::new(alloc);
-    for other in names {
-        if !other.cmp(&name).is_eq() {
-            others.push(*other)?;
-        }
-    }
-    Ok(others)
+    names.retain(|other| !other.cmp(&name).is_eq());
+    names
 }

@@ -1,7 +1,7 @@
 //! What crosses threads.
 
 use crate::change::TileChange;
-use crate::index::{TileIndex, TilePlan};
+use crate::index::{NotedPlan, TileIndex, TilePlan};
 
 // Takes any type of which values may be sent to another thread and shared among threads.
 fn crosses<T: Send + Sync>() {}
@@ -10,5 +10,6 @@ fn crosses<T: Send + Sync>() {}
 pub fn indexes_cross_threads() {
     crosses::<TileIndex>();
     crosses::<TilePlan>();
+    crosses::<NotedPlan>();
     crosses::<TileChange>()
 }

@@ -1,4 +1,4 @@
-use Rattle.std.proofs.Common.{◌≡◌, Some, filter, is_eq, not, subst, sym, ap, ◌∙◌, Ordering}
+use Rattle.std.proofs.Common.{◌≡◌, Some, subst, sym, ap, ◌∙◌, Ordering}
 use Rattle.s57_types.specs.declared.name.RecName.{RecName}
 use Rattle.cell_spec.specs.Ascending.{ascending}
 use Rattle.cell_spec.specs.Names.{name_order}
@@ -16,7 +16,7 @@ returns c =
     (λ i a b. c.orders_are_by_parts.ensures.names a b i) (c.len-count.ensures.ascending, c.in-Some.ensures) in
     let near = c.in_ok-near.near.items in
     c.ascending_names.ensures
-    ∙ ap (ascending name_order) (c.in_ok-without.ensures ∙ ap (filter (λ (m : RecName). not (is_eq (name_order m c.args.name)))) c.deref-2.ensures.value)
+    ∙ ap (ascending name_order) c.without.ensures
     ∙ mates_gathered rows both.0 c.args.name own near
     (λ q. c.in_ok-near.ensures q ∙ (λ i. is_near (sym c.self.view_is i) (c.deref.ensures i) q)) (sym both.1)
     ∙ ap (λ those. mates_in those c.args.name) c.self.view_is
