@@ -14,8 +14,7 @@ use Rattle.cell_spec.proofs.SubjectOrder.{exact_subjects, total_subjects}
 use Rattle.rule_spec.specs.Affected.{each_once, pair_of}
 use Rattle.answer_laws.proofs.Among.{Among}
 use Rattle.finding_laws.proofs.Lists.{among_held}
-use Rattle.indexmap.specs.IndexSet.{insert_key}
-use Rattle.affected_subjects.specs.Rounds.{add_all, add_each, add_pairs}
+use Rattle.affected_subjects.specs.Rounds.{add_all, add_each, add_one, add_pairs}
 
 -- ---- filters one after the other
 both_by : {X : Type 0} (x : X) (p : X → Bool) (rest : List X) (first : Bool) → cond (first && p x) (x ∷ filter p rest) (filter p rest) ≡
@@ -41,7 +40,7 @@ all_kept p each [] = refl
 all_kept p each (x ∷ xs) = ap (λ b. cond b (x ∷ filter p xs) (filter p xs)) (each x) ∙ ap (λ rest. x ∷ rest) (all_kept p each xs)
 
 -- ---- what is there
-abbrev is_there : Subject → List Subject → Bool
+abbrev pub is_there : Subject → List Subject → Bool
 is_there s there = list_any (same_subject s) there
 
 flip : (s t : Subject) → same_subject s t ≡ same_subject t s
@@ -54,8 +53,21 @@ itself s = (eq_by_cmp_equiv total_subjects).refl s
 there_too : (there : List Subject) (s t : Subject) → is_there s there ≡ true → same_subject s t ≡ true → is_there t there ≡ true
 there_too there s t at same = ap (λ u. is_there u there) (sym (exact_subjects s t ((Equal-is (subject_order s t)).0 same))) ∙ at
 
+tied_or_found : (tie found : Bool) → cond tie true found ≡ (found || (tie || false))
+tied_or_found true true = refl
+tied_or_found true false = refl
+tied_or_found false true = refl
+tied_or_found false false = refl
+
+-- with one more behind, it is there too
+pub one_more_there : (s x : Subject) (there : List Subject) → cond (same_subject x s) true (is_there s there) ≡ is_there s (there ++ x ∷ [])
+one_more_there s x there =
+    tied_or_found (same_subject x s) (is_there s there)
+    ∙ ap (λ tie. is_there s there || (tie || false)) (flip x s)
+    ∙ sym (list_any-append (same_subject s) there (x ∷ []))
+
 -- those of some that aren't there
-abbrev new_ones : List Subject → List Subject → List Subject
+abbrev pub new_ones : List Subject → List Subject → List Subject
 new_ones there others = filter (λ t. not (is_there t there)) others
 
 old_by : (found same : Bool) → (same ≡ true → found ≡ true) → not found ≡ true → not same ≡ true
@@ -106,7 +118,7 @@ added_by there s ss false is rest =
     rest (there ++ s ∷ []) ∙ append_assoc there (s ∷ []) (new_ones (there ++ s ∷ []) (each_once ss))
     ∙ ap (λ those. there ++ s ∷ those) (more_behind there s (each_once ss))
 
-added : (there ss : List Subject) → add_all there ss ≡ there ++ new_ones there (each_once ss)
+pub added : (there ss : List Subject) → add_all there ss ≡ there ++ new_ones there (each_once ss)
 added there [] = sym (append-nil there)
 added there (s ∷ ss) = added_by there s ss (is_there s there) refl (λ now. added now ss)
 
@@ -116,7 +128,7 @@ is_once ss = added [] ss ∙ all_kept (λ t. not (is_there t [])) (λ t. refl) (
 
 pub add-append : (there xs ys : List Subject) → add_all there (xs ++ ys) ≡ add_all (add_all there xs) ys
 add-append there [] ys = refl
-add-append there (x ∷ xs) ys = add-append (insert_key same_subject there x) xs ys
+add-append there (x ∷ xs) ys = add-append (add_one there x) xs ys
 
 pub each_in_turn : {X : Type 0} (gives : X → List Subject) (there : List Subject) (items : List X)
     → add_each gives there items ≡ add_all there (flat_map gives items)
@@ -126,7 +138,7 @@ each_in_turn gives there (x ∷ items) =
 
 pub pairs_in_turn : (n : RecName) (there : List Subject) (others : List RecName) → add_pairs n there others ≡ add_all there (map (pair_of n) others)
 pairs_in_turn n there [] = refl
-pairs_in_turn n there (m ∷ others) = pairs_in_turn n (insert_key same_subject there (pair_of n m)) others
+pairs_in_turn n there (m ∷ others) = pairs_in_turn n (add_one there (pair_of n m)) others
 
 -- ---- what is there stays, and what is added is there
 kept_by : (s x : Subject) (there : List Subject) (at : Bool) → is_there s there ≡ true → is_there s (cond at there (there ++ x ∷ [])) ≡ true
@@ -135,7 +147,7 @@ kept_by s x there false is = list_any-append (same_subject s) there (x ∷ []) �
 
 kept : (s : Subject) (there xs : List Subject) → is_there s there ≡ true → is_there s (add_all there xs) ≡ true
 kept s there [] is = is
-kept s there (x ∷ xs) is = kept s (insert_key same_subject there x) xs (kept_by s x there (is_there x there) is)
+kept s there (x ∷ xs) is = kept s (add_one there x) xs (kept_by s x there (is_there x there) is)
 
 put_by : (x : Subject) (there : List Subject) (at : Bool) → is_there x there ≡ at → is_there x (cond at there (there ++ x ∷ [])) ≡ true
 put_by x there true is = is
@@ -146,14 +158,26 @@ put_by x there false is =
 pub put : (s : Subject) (there xs : List Subject) → Among s xs → is_there s (add_all there xs) ≡ true
 put s there [] at = absurd at
 put s there (x ∷ xs) (inl is) =
-    kept s (insert_key same_subject there x) xs (subst (λ t. is_there t (insert_key same_subject there x) ≡ true) is (put_by x there (is_there x there) refl))
-put s there (x ∷ xs) (inr at) = put s (insert_key same_subject there x) xs at
+    kept s (add_one there x) xs (subst (λ t. is_there t (add_one there x) ≡ true) is (put_by x there (is_there x there) refl))
+put s there (x ∷ xs) (inr at) = put s (add_one there x) xs at
 
 -- what is there already adds nothing
 nothing_new : (there xs : List Subject) → ((s : Subject) → Among s xs → is_there s there ≡ true) → add_all there xs ≡ there
 nothing_new there [] known = refl
 nothing_new there (x ∷ xs) known =
     ap (λ at. add_all (cond at there (there ++ x ∷ [])) xs) (known x (inl refl)) ∙ nothing_new there xs (λ s at. known s (inr at))
+
+-- what is added twice is added once
+pub added_again : (there xs : List Subject) → add_all (add_all there xs) xs ≡ add_all there xs
+added_again there xs = nothing_new (add_all there xs) xs (λ s at. put s there xs at)
+
+-- pairs with the same others, added once
+pub twice_added : (n : RecName) (there : List Subject) (before after : List RecName) → after ≡ before
+    → add_pairs n there before ≡ add_all there (map (pair_of n) before ++ map (pair_of n) after)
+twice_added n there before after same =
+    let pairs = map (pair_of n) before in
+    pairs_in_turn n there before
+    ∙ sym (add-append there pairs (map (pair_of n) after) ∙ ap (λ names. add_all (add_all there pairs) (map (pair_of n) names)) same ∙ added_again there pairs)
 
 -- ---- lists of subjects that are looked at once
 module _ (gives : Subject → List Subject) where

@@ -4,4 +4,5 @@ pub mod Vectors
 pub mod Tiles
 pub mod Bearers
 pub mod Subjects
+pub mod Known
 pub mod Reaching

@@ -1,5 +1,6 @@
 -- The two rounds in which subjects are looked at, from the tables of a cell. This project's own rules.
-use Rattle.std.specs.Prelude.{List, [], ◌++◌, fold, map}
+use Rattle.std.specs.Prelude.{List, [], ◌∷◌, ◌++◌, fold, map, if◌then◌else◌}
+use Rattle.std.specs.List.{list_any}
 use Rattle.s57_types.specs.declared.name.RecName.{RecName}
 use Rattle.cell_spec.specs.declared.key.Key.{Key}
 use Rattle.cell_spec.specs.declared.key.Subject.{Subject}
@@ -7,11 +8,14 @@ use Rattle.cell_spec.specs.declared.key.Subject.TheVariants.{Rec, Side, Pair, Id
 use Rattle.cell_spec.specs.Names.{same_subject}
 use Rattle.rule_spec.specs.Affected.{named_by, pair_of}
 use Rattle.finding_laws.specs.Tables.{Covering, mates_in, readers_in}
-use Rattle.indexmap.specs.IndexSet.{insert_all, insert_key}
+
+-- some subjects, and behind them another one, unless it is there
+abbrev pub add_one : List Subject → Subject → List Subject
+add_one there s = if list_any (same_subject s) there then there else there ++ s ∷ []
 
 -- some subjects, and behind them those of others that aren't there yet, each once
 abbrev pub add_all : List Subject → List Subject → List Subject
-add_all there others = insert_all same_subject there others
+add_all there others = fold add_one there others
 
 -- the same for what each of some items gives, one item after the other
 abbrev pub add_each : {X : Type 0} → (X → List Subject) → List Subject → List X → List Subject
@@ -27,7 +31,7 @@ first_of reads keys = add_each (looked_at reads) [] keys
 
 -- the pairs of a record with others, behind what is there
 abbrev pub add_pairs : RecName → List Subject → List RecName → List Subject
-add_pairs n there others = fold (λ now m. insert_key same_subject now (pair_of n m)) there others
+add_pairs n there others = fold (λ now m. add_one now (pair_of n m)) there others
 
 -- the pairs of a record with its mates before, then with those after
 abbrev pub mated : List (RecName × Covering) → List (RecName × Covering) → Subject → List Subject

@@ -1,27 +1,78 @@
 //! Subjects in the order in which they are looked at first, each once.
 
-ghost use Rattle.std.specs.Prelude.{◌≡◌, ◌++◌, OnOk, flat_map};
-ghost use Rattle.std.specs.Ordering.{is_eq};
-ghost use Rattle.cell_spec.specs.Names.{same_subject};
-ghost use Rattle.indexmap.specs.IndexSet.{insert_key};
+ghost use Rattle.std.specs.Prelude.{◌≡◌, [], OnOk, length};
+ghost use Rattle.affected_subjects.specs.Rounds.{add_one};
 
 use cell_spec::{Subject, orders_are_by_parts};
-use indexmap::IndexSet;
-use std::alloc::AllocError;
-use std::hash::Hash;
+use std::alloc::{AllocError, Global};
+use std::collections::BTreeSet;
+use std::marker::Model;
 
-// Puts an item behind the others, unless it is there.
-fn put_once<T: Ord + Hash + Drop>(set: &mut IndexSet<T>, item: T) -> Result<(), AllocError>
-    ensures { OnOk result (set.new.keys ≡ insert_key (λ (a b : T). is_eq (T.cmp a b)) set.old.keys item) }
-{
-    set.insert(item)?;
-    Ok(())
+/// Subjects in the order in which they were added first. They are seen as their list, and know what is there by a tree, so that no file makes
+/// them slow by the numbers of its records.
+pub(crate) struct Considered {
+    list: Vec<Subject>,
+    there: BTreeSet<Subject>,
 }
 
-/// Puts a subject behind the others, unless it is there.
-pub(crate) fn add(set: &mut IndexSet<Subject>, subject: Subject) -> Result<(), AllocError>
-    ensures { OnOk result (set.new.keys ≡ insert_key same_subject set.old.keys subject) }
-{
-    orders_are_by_parts();
-    put_once(set, subject)
+impl Drop for Considered {
+    fn drop(self) {
+        let Considered { list: _, there: _ } = self;
+    }
+}
+
+impl Model for Considered {
+    ghost use Rattle.std.specs.Prelude.{◌≡◌, List};
+    ghost use Rattle.std.specs.BTreeSet.{contains};
+    ghost use Rattle.std.specs.List.{list_any};
+    ghost use Rattle.cell_spec.specs.declared.key.Subject.{Subject as SpecSubject};
+    ghost use Rattle.cell_spec.specs.Names.{same_subject};
+
+    ghost Value = { List SpecSubject };
+
+    ghost view = { λ considered. considered.list.items };
+
+    ghost invariant = { λ considered. (s : SpecSubject) →
+        contains ⟦<Subject as Ord>⟧.cmp considered.there s ≡ list_any (same_subject s) considered.list.items };
+}
+
+impl Considered {
+    /// No subject.
+    pub(crate) fn none(alloc: Global) -> Considered
+        ensures { result ≡ [] }
+    {
+        Considered {
+            list: Vec::new(alloc),
+            there: BTreeSet::new(alloc),
+        }
+    }
+
+    /// Puts a subject behind the others, unless it is there.
+    ///
+    /// An `Err` is out of memory.
+    pub(crate) fn add(&mut self, subject: Subject) -> Result<(), AllocError>
+        ensures { OnOk result (self.new ≡ add_one self.old subject) }
+    {
+        orders_are_by_parts();
+        // So that both take the subject, or neither.
+        self.list.reserve(1)?;
+        if self.there.insert(subject)? {
+            self.list.push_reserved(subject);
+        }
+        Ok(())
+    }
+
+    /// How many subjects there are.
+    pub(crate) fn len(&self) -> usize
+        ensures { result ≡ length self.now }
+    {
+        self.list.len()
+    }
+
+    /// The subjects.
+    pub(crate) fn as_slice(&self) -> &[Subject]
+        ensures { result.now ≡ self.now }
+    {
+        self.list.as_slice()
+    }
 }

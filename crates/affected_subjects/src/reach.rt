@@ -1,6 +1,7 @@
 //! What edits reach.
 
-ghost use Rattle.std.specs.Prelude.{◌≡◌, ◌+◌, ◌≤◌, ◌<◌, IfOk, filter, flat_map, length, not, true};
+ghost use Rattle.std.specs.Prelude.{◌≡◌, ◌+◌, ◌≤◌, ◌<◌, IfOk, drop, filter, flat_map, length, not, true};
+ghost use Rattle.std.specs.List.{list_all};
 ghost use Rattle.cell_spec.specs.Edits.{apply_edits, find_their_records, touched_keys};
 ghost use Rattle.rule_spec.specs.Affected.{affected_list, change_by};
 ghost use Rattle.rule_spec.specs.Findings.{is_subject};
@@ -14,6 +15,7 @@ use crate::changes::tile_changes;
 use crate::edited::Edited;
 use crate::first::first_round;
 use crate::law::{changes_give_the_tiles, rounds_are_considered};
+use crate::once::Considered;
 use crate::second::second_round;
 use answer_laws::formed_edits_find_their_records;
 use cell_overlay::touched;
@@ -21,7 +23,6 @@ use cell_spec::{Key, Keys, Subject, Subjects, writable_cells_are_readable};
 use chain_topo::Steps;
 use depend_map::DependMap;
 use edit_sets::EditSet;
-use indexmap::IndexSet;
 use look_counter::start_counter;
 use record_store::RecordStore;
 use s57_types::Items;
@@ -47,7 +48,9 @@ pub struct Reach {
 #[derive(Drop)]
 struct Rounds {
     tiles: TilePlan,
-    considered: IndexSet<Subject>,
+    considered: Considered,
+    // What is considered from this place on is known to be of the edited cell.
+    known_from: usize,
 }
 
 // Both rounds from touched keys.
@@ -59,17 +62,27 @@ fn both_rounds(
     keys: &[Key],
 ) -> Result<Rounds, AllocError>
     ensures tiles { IfOk result (λ rounds. rounds.tiles ≡ after_changes tiles.now (flat_map (changes_to edited.now) (first_of map.now keys.now))) }
-    ensures considered { IfOk result (λ rounds. rounds.considered.keys
+    ensures considered { IfOk result (λ rounds. rounds.considered
         ≡ add_each (mated tiles.now rounds.tiles) (first_of map.now keys.now) (first_of map.now keys.now)) }
+    ensures within { IfOk result (λ rounds. rounds.known_from ≤ length rounds.considered) }
+    ensures known { IfOk result (λ rounds. IsCoveringsOf edited.now rounds.tiles
+        → list_all (is_subject edited.now) (drop rounds.known_from rounds.considered) ≡ true) }
 {
     let mut considered = first_round(alloc, map, keys)?;
     let first = Subjects::copy_of(alloc, considered.as_slice())?;
     let changes = tile_changes(alloc, edited, first.as_slice())?;
-    let plan = tiles.plan(alloc, &changes)?;
-    second_round(alloc, &mut considered, first.as_slice(), tiles, &plan)?;
+    let noted = tiles.plan_noting_mates(alloc, &changes)?;
+    second_round(alloc, &mut considered, first.as_slice(), tiles, &noted)?;
+    // Where no mate is lost, each pair is one of nodes and edges of the edited cell.
+    let known_from = if noted.keeps_mates {
+        first.len()
+    } else {
+        considered.len()
+    };
     Ok(Rounds {
-        tiles: plan,
+        tiles: noted.plan,
         considered,
+        known_from,
     })
 }
 
@@ -80,10 +93,14 @@ struct Parts {
     gone: Subjects,
 }
 
-// Puts the subjects that the edited cell has apart from the others.
-fn split(alloc: Global, edited: &Edited<'_>, subjects: &[Subject]) -> Result<Parts, AllocError>
-    ensures judged { IfOk result (λ parts. parts.judged ≡ filter (is_subject edited.now) subjects.now) }
-    ensures gone { IfOk result (λ parts. parts.gone ≡ filter (λ s. not (is_subject edited.now s)) subjects.now) }
+// The subjects that the edited cell has, and the others.
+fn asked(
+    alloc: Global,
+    edited: &Edited<'_>,
+    subjects: &[Subject],
+) -> Result<(Vec<Subject>, Vec<Subject>), AllocError>
+    ensures judged { IfOk result (λ parts. parts.0.items ≡ filter (is_subject edited.now) subjects.now) }
+    ensures gone { IfOk result (λ parts. parts.1.items ≡ filter (λ s. not (is_subject edited.now s)) subjects.now) }
 {
     let mut judged = Vec::new(alloc);
     let mut gone = Vec::new(alloc);
@@ -94,6 +111,19 @@ fn split(alloc: Global, edited: &Edited<'_>, subjects: &[Subject]) -> Result<Par
             gone.push(*subject)?;
         }
     }
+    Ok((judged, gone))
+}
+
+// Puts the subjects that the edited cell has apart from the others, without asking for what is known.
+fn split(alloc: Global, edited: &Edited<'_>, rounds: &Rounds) -> Result<Parts, AllocError>
+    requires within { rounds.now.known_from ≤ length rounds.now.considered }
+    requires known { list_all (is_subject edited.now) (drop rounds.now.known_from rounds.now.considered) ≡ true }
+    ensures judged { IfOk result (λ parts. parts.judged ≡ filter (is_subject edited.now) rounds.now.considered) }
+    ensures gone { IfOk result (λ parts. parts.gone ≡ filter (λ s. not (is_subject edited.now s)) rounds.now.considered) }
+{
+    let (unknown, known) = rounds.considered.as_slice().split_at(rounds.known_from);
+    let (mut judged, gone) = asked(alloc, edited, unknown)?;
+    judged.extend_from_slice(known)?;
     Ok(Parts {
         judged: Items::of_vec(judged),
         gone: Items::of_vec(gone),
@@ -131,7 +161,7 @@ pub fn reach_of<L: Ledger>(
     let keys = touched.as_slice();
     let edited = Edited::make(alloc, store, map, edits, keys, steps)?;
     let rounds = both_rounds(alloc, tiles, map, &edited, keys)?;
-    let parts = split(alloc, &edited, rounds.considered.as_slice())?;
+    let parts = split(alloc, &edited, &rounds)?;
     Ok(Reach {
         touched,
         tiles: rounds.tiles,

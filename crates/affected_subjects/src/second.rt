@@ -1,17 +1,18 @@
 //! The second round: each record of the first one with those that may touch it.
 
-ghost use Rattle.std.specs.Prelude.{◌≡◌, OnOk};
+ghost use Rattle.std.specs.Prelude.{◌≡◌, OnOk, true};
+ghost use Rattle.s57_types.specs.declared.name.RecName.{RecName as SpecRecName};
 ghost use Rattle.cell_spec.specs.declared.key.Subject.TheVariants.{Rec};
 ghost use Rattle.rule_spec.specs.Affected.{pair_of as spec_pair_of};
 ghost use Rattle.rule_spec.specs.Findings.{is_below as spec_is_below};
+ghost use Rattle.finding_laws.specs.Tables.{mates_in};
 ghost use Rattle.affected_subjects.specs.Rounds.{add_all, add_each, add_pairs as spec_add_pairs, mated};
 
-use crate::once::add;
+use crate::once::Considered;
 use cell_spec::{Subject, orders_are_by_parts};
-use indexmap::IndexSet;
 use s57_types::RecName;
 use std::alloc::{AllocError, Global};
-use tile_index::{TileIndex, TilePlan};
+use tile_index::{NotedPlan, TileIndex};
 
 /// Whether a name is below another.
 pub(crate) fn is_below(name: RecName, other: RecName) -> bool
@@ -33,47 +34,48 @@ fn pair_of(name: RecName, other: RecName) -> Subject
 }
 
 // Adds the pairs of a record with its mates.
-fn add_pairs(
-    set: &mut IndexSet<Subject>,
-    name: RecName,
-    mates: &[RecName],
-) -> Result<(), AllocError>
-    ensures { OnOk result (set.new.keys ≡ spec_add_pairs name set.old.keys mates.now) }
+fn add_pairs(set: &mut Considered, name: RecName, mates: &[RecName]) -> Result<(), AllocError>
+    ensures { OnOk result (set.new ≡ spec_add_pairs name set.old mates.now) }
 {
     for mate in mates {
-        add(set, pair_of(name, *mate))?;
+        set.add(pair_of(name, *mate))?;
     }
     Ok(())
 }
 
-// Adds the pairs of a record with its mates before, then with those after.
+// Adds the pairs of a record with its mates before, then with those after, unless they are known to be the same.
 fn add_mates(
     alloc: Global,
-    set: &mut IndexSet<Subject>,
+    set: &mut Considered,
     tiles: &TileIndex,
-    plan: &TilePlan,
+    noted: &NotedPlan,
     name: RecName,
 ) -> Result<(), AllocError>
-    ensures { OnOk result (set.new.keys ≡ add_all set.old.keys (mated tiles.now plan.now (Rec name))) }
+    requires { noted.now.keeps_mates ≡ true → (n : SpecRecName) → mates_in noted.now.plan n ≡ mates_in tiles.now n }
+    ensures { OnOk result (set.new ≡ add_all set.old (mated tiles.now noted.now.plan (Rec name))) }
 {
     let before = tiles.mates(alloc, name)?;
     add_pairs(set, name, before.as_slice())?;
-    let after = tiles.mates_after(alloc, plan, name)?;
+    if noted.keeps_mates {
+        return Ok(());
+    }
+    let after = tiles.mates_after(alloc, &noted.plan, name)?;
     add_pairs(set, name, after.as_slice())
 }
 
 // Adds the pairs of a subject, if it is a record.
 fn add_pairs_of(
     alloc: Global,
-    set: &mut IndexSet<Subject>,
+    set: &mut Considered,
     tiles: &TileIndex,
-    plan: &TilePlan,
+    noted: &NotedPlan,
     subject: Subject,
 ) -> Result<(), AllocError>
-    ensures { OnOk result (set.new.keys ≡ add_all set.old.keys (mated tiles.now plan.now subject)) }
+    requires { noted.now.keeps_mates ≡ true → (n : SpecRecName) → mates_in noted.now.plan n ≡ mates_in tiles.now n }
+    ensures { OnOk result (set.new ≡ add_all set.old (mated tiles.now noted.now.plan subject)) }
 {
     match subject {
-        Subject::Rec(name) => add_mates(alloc, set, tiles, plan, name),
+        Subject::Rec(name) => add_mates(alloc, set, tiles, noted, name),
         Subject::Side(_) | Subject::Pair(..) | Subject::Ident(_) => Ok(()),
     }
 }
@@ -81,15 +83,16 @@ fn add_pairs_of(
 /// Adds the pairs of the records of the first round, one record after the other.
 pub(crate) fn second_round(
     alloc: Global,
-    set: &mut IndexSet<Subject>,
+    set: &mut Considered,
     first: &[Subject],
     tiles: &TileIndex,
-    plan: &TilePlan,
+    noted: &NotedPlan,
 ) -> Result<(), AllocError>
-    ensures { OnOk result (set.new.keys ≡ add_each (mated tiles.now plan.now) set.old.keys first.now) }
+    requires { noted.now.keeps_mates ≡ true → (n : SpecRecName) → mates_in noted.now.plan n ≡ mates_in tiles.now n }
+    ensures { OnOk result (set.new ≡ add_each (mated tiles.now noted.now.plan) set.old first.now) }
 {
     for subject in first {
-        add_pairs_of(alloc, set, tiles, plan, *subject)?;
+        add_pairs_of(alloc, set, tiles, noted, *subject)?;
     }
     Ok(())
 }

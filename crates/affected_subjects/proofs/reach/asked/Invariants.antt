@@ -1,7 +1,7 @@
 use Rattle.std.proofs.Common.{◌≡◌, filter, take}
 use Rattle.std.specs.Prelude.{not}
 use Rattle.rule_spec.specs.Findings.{is_subject}
-use Rattle.affected_subjects.proofs.reach.split.Given as goal
+use Rattle.affected_subjects.proofs.reach.asked.Given as goal
 
 abbrev pub invariant-loop-subject : goal.invariant-loop-subject
 invariant-loop-subject l =
