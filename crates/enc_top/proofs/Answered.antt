@@ -40,8 +40,9 @@ use Rattle.std.proofs.lemmas.Bool.{cases_lt}
 use Rattle.enc_outside.specs.Count.{Rose}
 use Rattle.enc_outside.specs.Files.{Files}
 use Rattle.text_spec.specs.declared.command.Command.{Command}
-use Rattle.enc_top.specs.Inputs.{AreScripts, IsInputOf, IsInputStatus, IsReached, IsReachedScript, OutputIs, ScriptIs, ScriptsAre, Tells}
-use Rattle.enc_top.specs.Outcome.{Asks, IsAskedBy, IsBuilt, IsBuiltFor, IsOutput}
+use Rattle.enc_top.specs.Inputs.{AreScripts, IsInputOf, IsInputStatus, IsNotOfOrder, IsNotOfText, IsReached, IsReachedScript, OutputIs, ScriptIs, ScriptsAre}
+use Rattle.enc_top.specs.Inputs.{Tells}
+use Rattle.enc_top.specs.Outcome.{Asks, HasOrder, HasScripts, IsAskedBy, IsBuilt, IsBuiltFor, IsOutput}
 use Rattle.enc_top.specs.Task.{Task, task_of}
 use Rattle.enc_top.specs.Words.{
   Form,
@@ -173,34 +174,55 @@ asks_of_told (probe_form cell at) files before after answer has told = told
 asks_of_told (apply_form cell out update) files before after answer has told = told
 asks_of_told no_form files before after answer has told = absurd has
 
+-- ---- statuses of a script or an order come where the words name one
+abbrev pub Fits : Form → Status → Type 0
+Fits form (BadScript session line code) = HasScripts form
+Fits form (BadOrder place) = HasOrder form
+Fits form other = Unit {0}
+
+pub fits_no_text : (form : Form) (status : Status) → IsNotOfText status → Fits form status
+fits_no_text form (BadScript session line code) is = absurd is
+fits_no_text form (BadOrder place) is = absurd is
+fits_no_text form other is = tt
+
+pub fits_no_order : (form : Form) (status : Status) → HasScripts form → IsNotOfOrder status → Fits form status
+fits_no_order form (BadScript session line code) has is = has
+fits_no_order form (BadOrder place) has is = absurd is
+fits_no_order form other has is = tt
+
+pub fits_replay : (cell out order : List ℕ) (scripts : List (List ℕ)) (status : Status) → Fits (replay_form cell out order scripts) status
+fits_replay cell out order scripts (BadScript session line code) = tt
+fits_replay cell out order scripts (BadOrder place) = tt
+fits_replay cell out order scripts other = tt
+
 -- the status at which the input files of a form end a call
 pub asked_status : (sticks : Type 0) (form : Form) (files : Option Files) (before after : ℕ) (status : Status) → HasInput form
-    → IsInputStatus (IsInputOf form) status
+    → Fits form status → IsInputStatus (IsInputOf form) status
     → Tells task_of (OutputIs form) (IsReached form) files before after (Err status) → IsAskedBy sticks form files before after (Err status)
-asked_status sticks form files before after Done has is tells = absurd is
-asked_status sticks form files before after Usage has is tells = absurd is
-asked_status sticks form files before after (Absent name) has is tells =
+asked_status sticks form files before after Done has fits is tells = absurd is
+asked_status sticks form files before after Usage has fits is tells = absurd is
+asked_status sticks form files before after (Absent name) has fits is tells =
     (is, built_of_input form has, asks_of_told form files before after (Err (Absent name)) has tells)
-asked_status sticks form files before after (BadCell fault) has is tells =
+asked_status sticks form files before after (BadCell fault) has fits is tells =
     (built_of_input form has, asks_of_told form files before after (Err (BadCell fault)) has tells)
-asked_status sticks form files before after (BadScript session line code) has is tells =
-    (built_of_input form has, asks_of_told form files before after (Err (BadScript session line code)) has tells)
-asked_status sticks form files before after (ReadFault name) has is tells = (is, tells.0, tells.1)
-asked_status sticks form files before after WriteFault has is tells = absurd is
-asked_status sticks form files before after (TooLarge name) has is tells =
+asked_status sticks form files before after (BadScript session line code) has fits is tells =
+    (fits, built_of_input form has, asks_of_told form files before after (Err (BadScript session line code)) has tells)
+asked_status sticks form files before after (ReadFault name) has fits is tells = (is, tells.0, tells.1)
+asked_status sticks form files before after WriteFault has fits is tells = absurd is
+asked_status sticks form files before after (TooLarge name) has fits is tells =
     (is, built_of_input form has, asks_of_told form files before after (Err (TooLarge name)) has tells)
-asked_status sticks form files before after NoMemory has is tells = built_for_input form before after has
-asked_status sticks form files before after (BadOrder place) has is tells =
-    (built_of_input form has, asks_of_told form files before after (Err (BadOrder place)) has tells)
-asked_status sticks form files before after (Stuck desk serial) has is tells = absurd is
-asked_status sticks form files before after TooManyFindings has is tells =
+asked_status sticks form files before after NoMemory has fits is tells = built_for_input form before after has
+asked_status sticks form files before after (BadOrder place) has fits is tells =
+    (fits, built_of_input form has, asks_of_told form files before after (Err (BadOrder place)) has tells)
+asked_status sticks form files before after (Stuck desk serial) has fits is tells = absurd is
+asked_status sticks form files before after TooManyFindings has fits is tells =
     (built_of_input form has, asks_of_told form files before after (Err TooManyFindings) has tells)
-asked_status sticks form files before after (BadUpdate fault) has is tells = absurd is
-asked_status sticks form files before after (Refused refusal) has is tells = absurd is
-asked_status sticks form files before after (BadJournal place) has is tells = absurd is
-asked_status sticks form files before after DiskFault has is tells = absurd is
-asked_status sticks form files before after (OpRefused cause) has is tells = absurd is
-asked_status sticks form files before after (JournalFull count) has is tells = absurd is
+asked_status sticks form files before after (BadUpdate fault) has fits is tells = absurd is
+asked_status sticks form files before after (Refused refusal) has fits is tells = absurd is
+asked_status sticks form files before after (BadJournal place) has fits is tells = absurd is
+asked_status sticks form files before after DiskFault has fits is tells = absurd is
+asked_status sticks form files before after (OpRefused cause) has fits is tells = absurd is
+asked_status sticks form files before after (JournalFull count) has fits is tells = absurd is
 
 -- ---- scripts one after the other
 pub name_there : (names : List (String Global)) (k : ℕ) (name : String Global) → k < length names → name ≡ get_or names k name
@@ -270,10 +292,11 @@ tells_last seen Step Whole Near Far P files before mid after (Err status) le kno
 
 -- an answer of a form that has input files
 pub asked_answer : (sticks : Type 0) (form : Form) (files : Option Files) (before after : ℕ) (result : Result Work Status)
-    → HasInput form → IfOk result (λ work. IsOutput form files (task_of work)) → IfErr result (IsInputStatus (IsInputOf form))
+    → HasInput form → ((status : Status) → Fits form status) → IfOk result (λ work. IsOutput form files (task_of work))
+    → IfErr result (IsInputStatus (IsInputOf form))
     → Tells task_of (OutputIs form) (IsReached form) files before after result → IsAskedBy sticks form files before after result
-asked_answer sticks form files before after (Ok work) has output is tells = (output, asks_of_told form files before after (Ok (task_of work)) has tells)
-asked_answer sticks form files before after (Err status) has output is tells = asked_status sticks form files before after status has is tells
+asked_answer sticks form files before after (Ok work) has fits output is tells = (output, asks_of_told form files before after (Ok (task_of work)) has tells)
+asked_answer sticks form files before after (Err status) has fits output is tells = asked_status sticks form files before after status has (fits status) is tells
 
 pub if_err_more : {A : Type 0} (P Q : List ℕ → Type 0) (result : Result A Status) → ((name : List ℕ) → P name → Q name)
     → IfErr result (IsInputStatus P) → IfErr result (IsInputStatus Q)

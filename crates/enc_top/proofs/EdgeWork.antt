@@ -14,7 +14,7 @@ use Rattle.topo_ops.specs.declared.refusal.OpRefusal.TheVariants as op
 use Rattle.enc_top.specs.declared.operation.Operation.{Operation}
 use Rattle.enc_top.specs.declared.operation.Operation.TheVariants.{Split, Join}
 use Rattle.enc_top.specs.Commits.{IsCommitStatus, committed}
-use Rattle.enc_top.specs.Inputs.{CellIs, IsFile, IsInputOf, IsInputStatus, IsJudged, IsReached, OutputIs, Tells}
+use Rattle.enc_top.specs.Inputs.{CellIs, IsFile, IsInputOf, IsInputStatus, IsJudged, IsNotOfText, IsReached, OutputIs, Tells}
 use Rattle.enc_top.specs.Operations.{
   IsOperation,
   IsOperationEnd,
@@ -31,7 +31,7 @@ use Rattle.enc_top.specs.Words.{Form, edge_form}
 use Rattle.enc_top.specs.declared.work.Work.{Work}
 use Rattle.report_text.specs.declared.status.Status.{Status}
 use Rattle.report_text.specs.declared.status.Status.TheVariants.{NoMemory, OpRefused, Refused}
-use Rattle.enc_top.proofs.Answered.{asked_status, both_told, status_of_more, tells_first}
+use Rattle.enc_top.proofs.Answered.{asked_status, both_told, fits_no_text, status_of_more, tells_first}
 use Rattle.enc_top.proofs.CommitWork.{left_is}
 
 -- ---- the edits of an operation
@@ -120,10 +120,11 @@ module _ (cell out : List ℕ) (operation : Operation) (files : Option Files) (b
   abbrev form : Form
   form = edge_form cell out operation
 
-  pub cell_ends : (status : Status) → IsInputStatus (λ n. n ≡ cell) status
+  pub cell_ends : (status : Status) → IsNotOfText status → IsInputStatus (λ n. n ≡ cell) status
       → Tells (λ (c : Cell). c) (CellIs cell) (IsFile cell) files before after (Err status) → IsAskedBy ⊥ form files before after (Err status)
-  cell_ends status is tells =
-      asked_status ⊥ form files before after status tt (status_of_more (λ n. n ≡ cell) (IsInputOf form) status (λ n same. same) is)
+  cell_ends status text is tells =
+      asked_status ⊥ form files before after status tt (fits_no_text form status text)
+      (status_of_more (λ n. n ≡ cell) (IsInputOf form) status (λ n same. same) is)
       (tells_first (λ (c : Cell). c) task_of (CellIs cell) (OutputIs form) (IsFile cell) (IsReached form) files before after status
       (λ fs bad. inr (status, bad, refl)) (λ fs n is. is) tells)
 

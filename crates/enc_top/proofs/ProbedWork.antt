@@ -9,13 +9,13 @@ use Rattle.skin_probe.specs.Sheet.{sheet_of}
 use Rattle.skin_probe.specs.WindingLaws.{AreSumsByEdges}
 use Rattle.skin_probe.specs.declared.sheet.ProbeSheet.{ProbeSheet}
 use Rattle.enc_outside.specs.Files.{Files}
-use Rattle.enc_top.specs.Inputs.{CellIs, IsFile, IsInputStatus, IsReached, OutputIs, Tells}
+use Rattle.enc_top.specs.Inputs.{CellIs, IsFile, IsInputStatus, IsNotOfText, IsReached, OutputIs, Tells}
 use Rattle.enc_top.specs.Outcome.{IsAskedBy, IsProbeIn}
 use Rattle.enc_top.specs.Task.{Task, task_of}
 use Rattle.enc_top.specs.Words.{Form, probe_form}
 use Rattle.enc_top.specs.declared.work.Work.{Work}
 use Rattle.report_text.specs.declared.status.Status.{Status}
-use Rattle.enc_top.proofs.Answered.{asked_status, both_told, tells_first}
+use Rattle.enc_top.proofs.Answered.{asked_status, both_told, fits_no_text, tells_first}
 
 abbrev pub text_alone : List ℕ → Task
 text_alone text = record { text = text; file = None }
@@ -48,9 +48,9 @@ module _ (cell : List ℕ) (at : Point) (files : Option Files) (before after : �
   )
 
   -- the status at which the cell's file ends the call
-  pub probe_ends : (status : Status) → IsInputStatus (λ n. n ≡ cell) status
+  pub probe_ends : (status : Status) → IsNotOfText status → IsInputStatus (λ n. n ≡ cell) status
       → Tells (λ (c : Cell). c) (CellIs cell) (IsFile cell) files before after (Err status) → IsAskedBy ⊥ form files before after (Err status)
-  probe_ends status is tells =
-      asked_status ⊥ form files before after status tt is
+  probe_ends status text is tells =
+      asked_status ⊥ form files before after status tt (fits_no_text form status text) is
       (tells_first (λ (c : Cell). c) task_of (CellIs cell) (OutputIs form) (IsFile cell) (IsReached form) files before after status
       (λ fs step. inr (status, step, refl)) (λ fs name near. near) tells)

@@ -10,20 +10,21 @@ use Rattle.room_run.specs.declared.run.RunEnd.TheVariants as end
 use Rattle.enc_outside.specs.declared.meet.Stuck.{Stuck as Place}
 use Rattle.report_text.specs.declared.status.Status.{Status}
 use Rattle.report_text.specs.declared.status.Status.TheVariants.{Stuck}
-use Rattle.enc_top.specs.Inputs.{CellIs, IsAmong, IsFile, IsInputOf, IsInputStatus, IsReached, IsReachedScript, IsRunInRoom, OutputIs, ScriptsAre, Tells}
+use Rattle.enc_top.specs.Inputs.{CellIs, IsAmong, IsFile, IsInputOf, IsInputStatus, IsNotOfOrder, IsNotOfText, IsReached, IsReachedScript, IsRunInRoom, OutputIs}
+use Rattle.enc_top.specs.Inputs.{ScriptsAre, Tells}
 use Rattle.enc_top.specs.Outcome.{IsAskedBy}
 use Rattle.enc_top.specs.Task.{task_of}
 use Rattle.enc_top.specs.Words.{room_form}
 use Rattle.enc_top.specs.declared.work.Work.{Work}
-use Rattle.enc_top.proofs.Answered.{asked_status, both_told, status_of_more, tells_first, tells_later}
+use Rattle.enc_top.proofs.Answered.{asked_status, both_told, fits_no_order, fits_no_text, status_of_more, tells_first, tells_later}
 
 module _ (sticks : Type 0) (cell out : List ℕ) (names : List (List ℕ)) (files : Option Files) where
   -- the cell's file ends the call
-  pub cell_ends : (before after : ℕ) (status : Status) → IsInputStatus (λ n. n ≡ cell) status
+  pub cell_ends : (before after : ℕ) (status : Status) → IsNotOfText status → IsInputStatus (λ n. n ≡ cell) status
       → Tells (λ (c : Cell). c) (CellIs cell) (IsFile cell) files before after (Err status)
       → IsAskedBy sticks (room_form cell out names) files before after (Err status)
-  cell_ends before after status is tells =
-      asked_status sticks (room_form cell out names) files before after status tt
+  cell_ends before after status text is tells =
+      asked_status sticks (room_form cell out names) files before after status tt (fits_no_text (room_form cell out names) status text)
       (status_of_more (λ n. n ≡ cell) (IsInputOf (room_form cell out names)) status (λ n same. inl same) is)
       (tells_first (λ (c : Cell). c) task_of (CellIs cell) (OutputIs (room_form cell out names)) (IsFile cell)
       (IsReached (room_form cell out names)) files before after status
@@ -31,11 +32,11 @@ module _ (sticks : Type 0) (cell out : List ℕ) (names : List (List ℕ)) (file
 
   module _ (start : Cell) (good : IfSome files (λ fs. CellIs cell fs (Ok start))) where
     -- a script ends the call
-    pub scripts_end : (before mid after : ℕ) (status : Status) → before ≤ mid → IsInputStatus (IsAmong names) status
+    pub scripts_end : (before mid after : ℕ) (status : Status) → before ≤ mid → IsNotOfOrder status → IsInputStatus (IsAmong names) status
         → Tells (λ (scripts : Vec Script Global). scripts.items) (ScriptsAre names) (λ fs n. IsReachedScript names fs n) files mid after (Err status)
         → IsAskedBy sticks (room_form cell out names) files before after (Err status)
-    scripts_end before mid after status le is tells =
-        asked_status sticks (room_form cell out names) files before after status tt
+    scripts_end before mid after status le kind is tells =
+        asked_status sticks (room_form cell out names) files before after status tt (fits_no_order (room_form cell out names) status tt kind)
         (status_of_more (IsAmong names) (IsInputOf (room_form cell out names)) status (λ n other. inr other) is)
         (tells_later (λ (scripts : Vec Script Global). scripts.items) task_of (ScriptsAre names) (OutputIs (room_form cell out names))
         (λ fs n. IsReachedScript names fs n) (IsReached (room_form cell out names))

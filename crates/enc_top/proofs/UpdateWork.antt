@@ -10,7 +10,7 @@ use Rattle.s57_types.specs.declared.fault.CellFault.{CellFault}
 use Rattle.update_apply.specs.Gives.{IsUpdate}
 use Rattle.update_spec.specs.UpdatedCell.{updated_cell}
 use Rattle.enc_top.specs.Commits.{IsCommitStatus, committed}
-use Rattle.enc_top.specs.Inputs.{CellIs, FileIs, IsFile, IsInputOf, IsInputStatus, IsJudged, IsReached, OutputIs, Tells, cell_limit}
+use Rattle.enc_top.specs.Inputs.{CellIs, FileIs, IsFile, IsInputOf, IsInputStatus, IsJudged, IsNotOfText, IsReached, OutputIs, Tells, cell_limit}
 use Rattle.enc_top.specs.Outcome.{IsAskedBy}
 use Rattle.enc_top.specs.Task.{left_task, task_of}
 use Rattle.enc_top.specs.Updates.{IsUpdateEnd, left_by_update, refusal_of_edits, update_refusal, updated}
@@ -18,7 +18,7 @@ use Rattle.enc_top.specs.Words.{Form, apply_form}
 use Rattle.enc_top.specs.declared.work.Work.{Work}
 use Rattle.report_text.specs.declared.status.Status.{Status}
 use Rattle.report_text.specs.declared.status.Status.TheVariants.{BadUpdate, NoMemory, Refused}
-use Rattle.enc_top.proofs.Answered.{asked_status, both_told, status_of_more, tells_first, tells_later}
+use Rattle.enc_top.proofs.Answered.{asked_status, both_told, fits_no_text, status_of_more, tells_first, tells_later}
 use Rattle.enc_top.proofs.CommitWork.{left_is}
 
 -- ---- an update
@@ -49,18 +49,21 @@ module _ (cell out update : List ℕ) (files : Option Files) (before : ℕ) wher
   abbrev form : Form
   form = apply_form cell out update
 
-  pub cell_ends : (after : ℕ) (status : Status) → IsInputStatus (λ n. n ≡ cell) status
+  pub cell_ends : (after : ℕ) (status : Status) → IsNotOfText status → IsInputStatus (λ n. n ≡ cell) status
       → Tells (λ (c : Cell). c) (CellIs cell) (IsFile cell) files before after (Err status) → IsAskedBy ⊥ form files before after (Err status)
-  cell_ends after status is tells =
-      asked_status ⊥ form files before after status tt (status_of_more (λ n. n ≡ cell) (IsInputOf form) status (λ n same. inl same) is)
+  cell_ends after status text is tells =
+      asked_status ⊥ form files before after status tt (fits_no_text form status text)
+      (status_of_more (λ n. n ≡ cell) (IsInputOf form) status (λ n same. inl same) is)
       (tells_first (λ (c : Cell). c) task_of (CellIs cell) (OutputIs form) (IsFile cell) (IsReached form) files before after status
       (λ fs bad. inr (status, bad, refl)) (λ fs n is. inl is) tells)
 
   module _ (start : Cell) (good : IfSome files (λ fs. CellIs cell fs (Ok start))) where
-    pub file_ends : {A : Type 0} (seen : A → List ℕ) (mid after : ℕ) (status : Status) → before ≤ mid → IsInputStatus (λ n. n ≡ update) status
+    pub file_ends : {A : Type 0} (seen : A → List ℕ) (mid after : ℕ) (status : Status) → before ≤ mid → IsNotOfText status
+        → IsInputStatus (λ n. n ≡ update) status
         → Tells seen (FileIs cell_limit update) (IsFile update) files mid after (Err status) → IsAskedBy ⊥ form files before after (Err status)
-    file_ends seen mid after status le is tells =
-        asked_status ⊥ form files before after status tt (status_of_more (λ n. n ≡ update) (IsInputOf form) status (λ n same. inr same) is)
+    file_ends seen mid after status le text is tells =
+        asked_status ⊥ form files before after status tt (fits_no_text form status text)
+        (status_of_more (λ n. n ≡ update) (IsInputOf form) status (λ n same. inr same) is)
         (tells_later seen task_of (FileIs cell_limit update) (OutputIs form) (IsFile update) (IsReached form) (λ fs. CellIs cell fs (Ok start)) files
         before mid after status le good (λ fs at bad. inl (start, at, inr (status, bad, refl))) (λ fs n at is. inr (start, at, is)) tells)
 

@@ -266,6 +266,12 @@ abbrev pub IsNotOfOrder : Status → Type 0
 IsNotOfOrder (BadOrder place) = ⊥
 IsNotOfOrder other = Unit {0}
 
+-- it is neither that of a script nor that of an order
+abbrev pub IsNotOfText : Status → Type 0
+IsNotOfText (BadScript session line code) = ⊥
+IsNotOfText (BadOrder place) = ⊥
+IsNotOfText other = Unit {0}
+
 -- one of these names
 abbrev pub IsAmong : List (List ℕ) → List ℕ → Type 0
 IsAmong names name = (k : ℕ) × (k < length names) × (name ≡ slice_index_or names k [])

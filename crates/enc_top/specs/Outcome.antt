@@ -222,6 +222,17 @@ IsStuckAt (room_form cell out scripts) files desk serial = (1 ≤ desk) × (desk
     × IfSome files (IsStuckIn cell scripts desk serial)
 IsStuckAt other files desk serial = ⊥
 
+-- the words name scripts
+abbrev pub HasScripts : Form → Type 0
+HasScripts (replay_form cell out order scripts) = Unit {0}
+HasScripts (room_form cell out scripts) = Unit {0}
+HasScripts other = ⊥
+
+-- the words name an order
+abbrev pub HasOrder : Form → Type 0
+HasOrder (replay_form cell out order scripts) = Unit {0}
+HasOrder other = ⊥
+
 -- the words ask for an operation on edges
 abbrev pub IsOnEdges : Form → Type 0
 IsOnEdges (edge_form cell out operation) = Unit {0}
@@ -245,14 +256,14 @@ IsCauseOf sticks form before after Done = (task : Task) × IsOutput form before.
 IsCauseOf sticks form before after Usage = (form ≡ no_form) × IsSilent before after × (after.read_faults ≡ before.read_faults)
 IsCauseOf sticks form before after (Absent name) = IsInputOf form name × IsRefused form before after (Absent name)
 IsCauseOf sticks form before after (BadCell fault) = IsRefused form before after (BadCell fault)
-IsCauseOf sticks form before after (BadScript session line code) = IsRefused form before after (BadScript session line code)
+IsCauseOf sticks form before after (BadScript session line code) = HasScripts form × IsRefused form before after (BadScript session line code)
 IsCauseOf sticks form before after (ReadFault name) = IsInputOf form name × IsSilent before after × Rose before.read_faults after.read_faults
     × IfSome before.files (λ files. IsReached form files name)
 IsCauseOf sticks form before after WriteFault = (task : Task) × IsOutput form before.files task × IsAsked before after form (Ok task)
     × IsCut task before after
 IsCauseOf sticks form before after (TooLarge name) = IsInputOf form name × IsRefused form before after (TooLarge name)
 IsCauseOf sticks form before after NoMemory = IsBuiltFor form before.read_faults after.read_faults × IsSilent before after
-IsCauseOf sticks form before after (BadOrder place) = IsRefused form before after (BadOrder place)
+IsCauseOf sticks form before after (BadOrder place) = HasOrder form × IsRefused form before after (BadOrder place)
 IsCauseOf sticks form before after TooManyFindings = IsRefused form before after TooManyFindings
 IsCauseOf sticks form before after (BadUpdate fault) = IsOfUpdate form × IsRefused form before after (BadUpdate fault)
 IsCauseOf sticks form before after (Refused refusal) = IsOneCommit form × IsTooLarge refusal × IsRefused form before after (Refused refusal)
@@ -354,10 +365,10 @@ IsAskedBy sticks form files before after (Err NoMemory) = IsBuiltFor form before
 IsAskedBy sticks form files before after (Err (Absent name)) = IsInputOf form name × IsBuilt form × Asks form files before after (Err (Absent name))
 IsAskedBy sticks form files before after (Err (BadCell fault)) = IsBuilt form × Asks form files before after (Err (BadCell fault))
 IsAskedBy sticks form files before after (Err (BadScript session line code)) =
-    IsBuilt form × Asks form files before after (Err (BadScript session line code))
+    HasScripts form × IsBuilt form × Asks form files before after (Err (BadScript session line code))
 IsAskedBy sticks form files before after (Err (TooLarge name)) = IsInputOf form name × IsBuilt form
     × Asks form files before after (Err (TooLarge name))
-IsAskedBy sticks form files before after (Err (BadOrder place)) = IsBuilt form × Asks form files before after (Err (BadOrder place))
+IsAskedBy sticks form files before after (Err (BadOrder place)) = HasOrder form × IsBuilt form × Asks form files before after (Err (BadOrder place))
 IsAskedBy sticks form files before after (Err TooManyFindings) = IsBuilt form × Asks form files before after (Err TooManyFindings)
 IsAskedBy sticks form files before after (Err (Stuck desk serial)) = sticks × IsStuckAt form files desk serial
 IsAskedBy sticks form files before after (Err (BadUpdate fault)) =

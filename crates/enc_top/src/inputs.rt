@@ -11,7 +11,7 @@ ghost use Rattle.text_spec.specs.OrderLine.{IsOrder, order_of};
 ghost use Rattle.room_laws.specs.Orders.{quotas_of as quotas_of_lem};
 ghost use Rattle.enc_top.specs.Inputs.{CellIs, FileIs, IsAmong, IsCellOfFile, IsFile, IsInputStatus, IsJudged, IsJudgedScript};
 ghost use Rattle.enc_top.specs.Inputs.{IsReachedScript, IsScriptWithin, OrderIs, ScriptIs, ScriptsAre, Tells, cell_in, cell_limit, order_in};
-ghost use Rattle.enc_top.specs.Inputs.{IsNotOfOrder, script_limit};
+ghost use Rattle.enc_top.specs.Inputs.{IsNotOfOrder, IsNotOfText, script_limit};
 ghost use Rattle.enc_top.specs.Refused.{IsRefusal};
 
 use crate::input::{InputRefusal, read_file};
@@ -93,6 +93,7 @@ fn read_input<H: Shelf>(
         (H.files shelf.old) (H.read_faults shelf.old) (H.read_faults shelf.new) result }
     ensures status { IfErr result (IsInputStatus (λ n. n ≡ name.now)) }
     ensures kind { IfErr result IsNotOfOrder }
+    ensures text { IfErr result IsNotOfText }
     ensures within { IfOk result (λ bytes. length bytes.items ≤ limit) }
     ensures files { H.files shelf.new ≡ H.files shelf.old }
     ensures read_faults { H.read_faults shelf.old ≤ H.read_faults shelf.new }
@@ -113,6 +114,7 @@ fn decode(alloc: Global, bytes: &[u8]) -> Result<Cell, Status>
     ensures of_file { IfOk result IsCellOfFile }
     ensures status { IfErr result (IsInputStatus (λ n. ⊥)) }
     ensures kind { IfErr result IsNotOfOrder }
+    ensures text { IfErr result IsNotOfText }
 {
     decoded_cell_is_writable();
     match cell_read::read_cell(alloc, bytes) {
@@ -146,6 +148,7 @@ fn judge_cell(alloc: Global, bytes: &[u8]) -> Result<Checked, Status>
     ensures findings { IfOk result (λ checked. IsAllOf checked.cell finding_limit checked.findings) }
     ensures status { IfErr result (IsInputStatus (λ n. ⊥)) }
     ensures kind { IfErr result IsNotOfOrder }
+    ensures text { IfErr result IsNotOfText }
 {
     let cell = match decode(alloc, bytes) {
         Ok(cell) => cell,
@@ -164,6 +167,7 @@ fn judge_bench(alloc: Global, bytes: &[u8]) -> Result<Bench, Status>
     ensures judged { IsJudged (λ bench. bench) (cell_in bytes.now) result }
     ensures of_file { IfOk result IsCellOfFile }
     ensures status { IfErr result (IsInputStatus (λ n. ⊥)) }
+    ensures text { IfErr result IsNotOfText }
 {
     let cell = match decode(alloc, bytes) {
         Ok(cell) => cell,
@@ -184,6 +188,7 @@ pub fn read_cell<H: Shelf>(alloc: Global, shelf: &mut H, name: &str) -> Result<C
     ensures findings { IfOk result (λ checked. IsAllOf checked.cell finding_limit checked.findings) }
     ensures status { IfErr result (IsInputStatus (λ n. n ≡ name.now)) }
     ensures kind { IfErr result IsNotOfOrder }
+    ensures text { IfErr result IsNotOfText }
     ensures files { H.files shelf.new ≡ H.files shelf.old }
     ensures read_faults { H.read_faults shelf.old ≤ H.read_faults shelf.new }
     ensures write_faults { H.write_faults shelf.new ≡ H.write_faults shelf.old }
@@ -198,6 +203,7 @@ pub fn read_bench<H: Shelf>(alloc: Global, shelf: &mut H, name: &str) -> Result<
         (H.files shelf.old) (H.read_faults shelf.old) (H.read_faults shelf.new) result }
     ensures of_file { IfOk result IsCellOfFile }
     ensures status { IfErr result (IsInputStatus (λ n. n ≡ name.now)) }
+    ensures text { IfErr result IsNotOfText }
     ensures files { H.files shelf.new ≡ H.files shelf.old }
     ensures read_faults { H.read_faults shelf.old ≤ H.read_faults shelf.new }
     ensures write_faults { H.write_faults shelf.new ≡ H.write_faults shelf.old }
@@ -211,6 +217,7 @@ pub fn read_update<H: Shelf>(alloc: Global, shelf: &mut H, name: &str) -> Result
     ensures tells { Tells (λ bytes. bytes.items) (FileIs cell_limit name.now) (IsFile name.now)
         (H.files shelf.old) (H.read_faults shelf.old) (H.read_faults shelf.new) result }
     ensures status { IfErr result (IsInputStatus (λ n. n ≡ name.now)) }
+    ensures text { IfErr result IsNotOfText }
     ensures within { IfOk result (λ bytes. length bytes.items ≤ cell_limit) }
     ensures files { H.files shelf.new ≡ H.files shelf.old }
     ensures read_faults { H.read_faults shelf.old ≤ H.read_faults shelf.new }
@@ -279,6 +286,7 @@ pub fn read_scripts<H: Shelf>(
     ensures short { IfOk result (λ scripts. All IsShortScript scripts.items) }
     ensures of_texts { IfOk result (λ scripts. All IsScriptOfText scripts.items) }
     ensures status { IfErr result (IsInputStatus (IsAmong (map string_bytes names.now))) }
+    ensures kind { IfErr result IsNotOfOrder }
     ensures files { H.files shelf.new ≡ H.files shelf.old }
     ensures read_faults { H.read_faults shelf.old ≤ H.read_faults shelf.new }
     ensures write_faults { H.write_faults shelf.new ≡ H.write_faults shelf.old }

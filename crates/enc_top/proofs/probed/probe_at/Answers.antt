@@ -12,7 +12,7 @@ returns-in-Err-clause-asked g c =
     let faults = g.H.Shelf.read_faults in
     let old = c.args.shelf.now in
     probe_ends c.args.cell.now (c.args.y, c.args.x) (files old) (faults old) (faults c.read_bench.new.shelf) c.in-Err.status
-    c.in-Err.ensures.status c.in-Err.ensures.tells
+    c.in-Err.ensures.text c.in-Err.ensures.status c.in-Err.ensures.tells
 
 pub returns-in_err-probed_work-clause-asked : goal.returns-in_err-probed_work-clause-asked
 returns-in_err-probed_work-clause-asked g c =

@@ -42,7 +42,7 @@ returns-in-Err-clause-asked g c =
     form ∙ (λ i. room_form (sym c.as_str.ensures.value i) (string_bytes c.out-item.result) scripts) in
     subst (λ f. IsAskedBy sticks f (files old) (faults old) (faults c.read_bench.new.shelf) (Err c.in-Err.status)) (sym is)
     (cell_ends sticks c.as_str.result.now (string_bytes c.out-item.result) scripts (files old) (faults old)
-    (faults c.read_bench.new.shelf) c.in-Err.status c.in-Err.ensures.status c.in-Err.ensures.tells)
+    (faults c.read_bench.new.shelf) c.in-Err.status c.in-Err.ensures.text c.in-Err.ensures.status c.in-Err.ensures.tells)
 
 pub returns-in-Err-read_scripts-clause-asked : goal.returns-in-Err-read_scripts-clause-asked
 returns-in-Err-read_scripts-clause-asked g c =
@@ -67,7 +67,7 @@ returns-in-Err-read_scripts-clause-asked g c =
     subst (λ f. IsAskedBy sticks f (files old) (faults old) after (Err c.in-Err-read_scripts.status)) (sym is)
     (scripts_end sticks c.as_str.result.now (string_bytes c.out-item.result) scripts (files old) c.in-Ok.bench c.in-Ok.ensures.tells
     (faults old) mid after c.in-Err-read_scripts.status
-    c.in-Ok.ensures.read_faults c.in-Err-read_scripts.ensures.status tells)
+    c.in-Ok.ensures.read_faults c.in-Err-read_scripts.ensures.kind c.in-Err-read_scripts.ensures.status tells)
 
 pub returns-in-Ok-room_work-clause-asked : goal.returns-in-Ok-room_work-clause-asked
 returns-in-Ok-room_work-clause-asked g c =

@@ -8,7 +8,7 @@ use Rattle.enc_top.specs.Inputs.{CellIs, IsFile, IsInputOf, IsReached, OutputIs}
 use Rattle.enc_top.specs.Outcome.{IsAskedBy}
 use Rattle.enc_top.specs.Task.{check_task, task_of}
 use Rattle.enc_top.specs.Words.{check_among, check_form}
-use Rattle.enc_top.proofs.Answered.{asked_status, both_told, status_of_more, tells_first}
+use Rattle.enc_top.proofs.Answered.{asked_status, both_told, fits_no_text, status_of_more, tells_first}
 use Rattle.enc_top.proofs.FormWords.{one_word}
 use Rattle.enc_top.proofs.top.check.Goals as goal
 
@@ -37,7 +37,7 @@ returns-in-Err-clause-asked g c =
     let after = g.H.Shelf.read_faults c.read_cell.new.shelf in
     let status = c.in-Err.status in
     subst (λ f. IsAskedBy ⊥ f files before after (Err status)) (sym form)
-    (asked_status ⊥ (check_form cell) files before after status tt
+    (asked_status ⊥ (check_form cell) files before after status tt (fits_no_text (check_form cell) status c.in-Err.ensures.text)
     (status_of_more (λ n. n ≡ cell) (IsInputOf (check_form cell)) status (λ n same. same) c.in-Err.ensures.status)
     (tells_first (λ (checked : Checked). checked.cell) task_of (CellIs cell) (OutputIs (check_form cell)) (IsFile cell) (IsReached (check_form cell))
     files before after status (λ fs bad. inr (status, bad, refl)) (λ fs n is. is) c.in-Err.ensures.tells))

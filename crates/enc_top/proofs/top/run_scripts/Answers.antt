@@ -6,7 +6,7 @@ use Rattle.enc_top.specs.Inputs.{CellIs, IsAmong, IsFile, IsInputOf, IsReached, 
 use Rattle.enc_top.specs.Outcome.{IsAskedBy, IsOutput}
 use Rattle.enc_top.specs.Words.{Form, replay_among, replay_form}
 use Rattle.s57_types.specs.declared.cell.Cell.{Cell}
-use Rattle.enc_top.proofs.Answered.{asked_answer, asked_status, if_err_more, if_ok_more, status_of_more, tells_first, tells_last}
+use Rattle.enc_top.proofs.Answered.{asked_answer, asked_status, fits_replay, if_err_more, if_ok_more, status_of_more, tells_first, tells_last}
 use Rattle.enc_top.proofs.FormWords.{behind, replay_words}
 use Rattle.enc_top.proofs.top.run_scripts.Goals as goal
 
@@ -25,6 +25,7 @@ returns-in-Err-clause-asked g c =
     (g.H.Shelf.read_faults c.read_bench.new.shelf) (Err c.in-Err.status)) (sym is)
     (asked_status ⊥ form (g.H.Shelf.files c.args.shelf.now) (g.H.Shelf.read_faults c.args.shelf.now)
     (g.H.Shelf.read_faults c.read_bench.new.shelf) c.in-Err.status tt
+    (fits_replay c.as_str.result.now (string_bytes c.out-item.result) (string_bytes c.order-item.result) (map string_bytes names) c.in-Err.status)
     (status_of_more (λ n. n ≡ c.as_str.result.now) (IsInputOf form) c.in-Err.status (λ n same. inl same) c.in-Err.ensures.status)
     (tells_first (λ (cell : Cell). cell) task_of (CellIs c.as_str.result.now) (OutputIs form) (IsFile c.as_str.result.now) (IsReached form)
     (g.H.Shelf.files c.args.shelf.now) (g.H.Shelf.read_faults c.args.shelf.now) (g.H.Shelf.read_faults c.read_bench.new.shelf) c.in-Err.status
@@ -50,6 +51,7 @@ returns-clause-asked g c =
     (g.H.Shelf.read_faults c.run_on.new.shelf) c.run_on.result) (sym is)
     (asked_answer ⊥ form (g.H.Shelf.files c.args.shelf.now) (g.H.Shelf.read_faults c.args.shelf.now)
     (g.H.Shelf.read_faults c.run_on.new.shelf) c.run_on.result tt
+    (fits_replay c.as_str.result.now c.as_str-2.result.now c.as_str-3.result.now (map string_bytes names))
     (if_ok_more (λ (work : Work). IsRunOf cell c.as_str-2.result.now c.as_str-3.result.now (map string_bytes names)
     (g.H.Shelf.files c.read_bench.new.shelf) (task_of work))
     (λ (work : Work). IsOutput form (g.H.Shelf.files c.args.shelf.now) (task_of work)) c.run_on.result
