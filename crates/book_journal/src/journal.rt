@@ -123,6 +123,20 @@ impl<'a, D: Disk> Journal<'a, D> {
         &self.book
     }
 
+    /// Gives the disk back.
+    pub fn into_disk(self) -> &'a mut D
+        ensures same_reference { result.ghost_name ≡ self.entry.disk.ghost_name }
+        ensures disk { result.now ≡ self.entry.disk.now }
+    {
+        let Journal {
+            disk,
+            book: _,
+            end: _,
+            broken: _,
+        } = self;
+        disk
+    }
+
     /// Lets a desk see the newest state, as the book does. The disk isn't asked.
     pub fn view(&mut self, alloc: Global, desk: u32, base: u32) -> Result<Told, BookRefusal>
         requires base { base ≤ length (history_of self.old.book).commits }
