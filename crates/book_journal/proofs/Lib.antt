@@ -1,11 +1,11 @@
-mod Told
+pub mod Told
 mod Adding
 mod DiskReads
 mod Numbers
 mod Torn
-mod Lists
-mod Committing
-mod Taking
+pub mod Lists
+pub mod Committing
+pub mod Taking
 mod Replaying
 mod Replayed
 mod Opening
