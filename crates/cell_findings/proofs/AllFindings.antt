@@ -1,6 +1,6 @@
 -- All findings of a writable cell are those about its judged subjects, one subject after the other.
 use Rattle.std.proofs.Common.{◌≡◌, ℕ, ◌<◌, ◌≤◌, true, List, [], ◌∷◌, ◌++◌, map, length, cond, refl, sym, ap, ◌∙◌, subst, arith}
-use Rattle.std.specs.Prelude.{nat_lt}
+use Rattle.std.specs.Prelude.{Err, MatchResult, Ok, Result, nat_lt}
 use Rattle.std.specs.List.{flat_map}
 use Rattle.std.proofs.lemmas.Bool.Decides.{nat_tests}
 use Rattle.s57_types.specs.declared.cell.Cell.{Cell}
@@ -58,3 +58,10 @@ module _ (c : Cell) (w : IsWritable c) where
       → IsFindingRefusal c limit refusal
   over_is_refusal limit TooMany is = subst (λ n. limit < n) total is
   over_is_refusal limit NoMemory is = tt
+
+  -- what was gathered or refused by parts
+  pub all_of_parts : (limit : ℕ) (all : List SubjectFinding) → all ≡ flat_map (subject_findings c) (judged_subjects c)
+      → (r : Result (List SubjectFinding) FindingRefusal) → MatchResult r (IsGathered limit all) (IsOver limit all)
+      → MatchResult r (IsAllOf c limit) (IsFindingRefusal c limit)
+  all_of_parts limit all same (Ok found) h = gathered_is_all limit found (subst (λ fs. IsGathered limit fs found) same h)
+  all_of_parts limit all same (Err refusal) h = over_is_refusal limit refusal (subst (λ fs. IsOver limit fs refusal) same h)

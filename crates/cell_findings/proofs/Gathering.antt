@@ -1,54 +1,17 @@
 -- Findings gathered step by step: what a step leaves, and what its refusal says of all.
-use Rattle.std.proofs.Common.{
-  ◌≡◌,
-  ℕ,
-  ◌+◌,
-  ◌<◌,
-  ◌≤◌,
-  All,
-  List,
-  [],
-  ◌∷◌,
-  ◌++◌,
-  drop,
-  get_or,
-  length,
-  map,
-  append_assoc,
-  length-append,
-  sym,
-  ap,
-  ◌∙◌,
-  subst,
-  arith,
-}
-use Rattle.std.specs.List.{flat_map}
-use Rattle.std.proofs.lemmas.List.{append-nil, at_drop_more}
-use Rattle.std.proofs.lemmas.List.Concat.{flat_map-append}
+use Rattle.std.proofs.Common.{◌≡◌, ℕ, All, List, [], ◌∷◌, ◌++◌, length, map, append_assoc, length-append, ap, ◌∙◌, arith}
+use Rattle.std.specs.Prelude.{Err, IfOk, MatchResult, Ok, Result}
 use Rattle.std.proofs.lemmas.List.Elements.{All-cons, All-head, All-nil, All-tail}
-use Rattle.cell_spec.specs.declared.key.Subject.{Subject}
-use Rattle.cell_spec.specs.declared.key.Subject.TheVariants.{Pair}
 use Rattle.cell_findings.specs.declared.list.SubjectFinding.{SubjectFinding}
 use Rattle.cell_findings.specs.declared.refusal.FindingRefusal.{FindingRefusal}
 use Rattle.cell_findings.specs.declared.refusal.FindingRefusal.TheVariants.{TooMany, NoMemory}
 use Rattle.cell_findings.specs.Gathered.{IsGathered, IsOver}
-use Rattle.box_tree.specs.Leaves.{names_meeting}
-use Rattle.box_tree.specs.declared.leaf.Leaf.{Leaf}
-use Rattle.cell_findings.specs.Near.{near_pairs}
 
--- a step goes on to the rest
-pub gathered_more : (limit : ℕ) (before row rest all found : List SubjectFinding) → before ++ (row ++ rest) ≡ all
-    → IsGathered limit (before ++ row) found → found ++ rest ≡ all
-gathered_more limit before row rest all found left is = ap (λ fs. fs ++ rest) is.same ∙ append_assoc before row rest ∙ left
-
-pub gathered_within : (limit : ℕ) (all found : List SubjectFinding) → IsGathered limit all found → length found ≤ limit
-gathered_within limit all found is = subst (λ fs. length fs ≤ limit) (sym is.same) is.within
-
--- a subject without findings adds none
-pub gathered_none : (limit : ℕ) (before row : List SubjectFinding) → row ≡ [] → length before ≤ limit → IsGathered limit (before ++ row) before
-gathered_none limit before row none within =
-    let same = sym (append-nil before) ∙ ap (λ fs. before ++ fs) (sym none) in
-    record { same = same; within = subst (λ fs. length fs ≤ limit) same within }
+-- what was gathered, where it was
+pub gathered_if : {X : Type 0} (r : Result X FindingRefusal) (limit : ℕ) (all found : List SubjectFinding)
+    → MatchResult r (λ _. IsGathered limit all found) (IsOver limit all) → IfOk r (λ _. found ≡ all)
+gathered_if (Ok x) limit all found is = is.same
+gathered_if (Err refusal) limit all found over = tt
 
 -- what is too much for a part is too much for all
 pub over_more : (limit : ℕ) (before row rest all : List SubjectFinding) (refusal : FindingRefusal) → before ++ (row ++ rest) ≡ all
@@ -58,23 +21,6 @@ over_more limit before row rest all TooMany left over =
     let sum = length-append (before ++ row) rest in
     omega (arith, parts, sum, over)
 over_more limit before row rest all NoMemory left over = tt
-
--- ---- pairs of leaves, by their first one after the other
-pub pairs_more : (leaves : List Leaf) (k : ℕ) (d : Leaf) → k < length leaves
-    → near_pairs (drop k leaves)
-    ≡ map (Pair (get_or leaves k d).name) (names_meeting (get_or leaves k d).around (drop (k + 1) leaves)) ++ near_pairs (drop (k + 1) leaves)
-pairs_more leaves k d within = at_drop_more near_pairs leaves k d within
-
-pub firsts_more : (findings : Subject → List SubjectFinding) (leaves : List Leaf) (k : ℕ) (d : Leaf) (before all : List SubjectFinding) → k < length leaves
-    → before ++ flat_map findings (near_pairs (drop k leaves)) ≡ all
-    → before ++ (flat_map findings (map (Pair (get_or leaves k d).name) (names_meeting (get_or leaves k d).around (drop (k + 1) leaves)))
-    ++ flat_map findings (near_pairs (drop (k + 1) leaves))) ≡ all
-firsts_more findings leaves k d before all within left =
-    ap (λ fs. before ++ fs)
-    (sym (flat_map-append findings (map (Pair (get_or leaves k d).name) (names_meeting (get_or leaves k d).around (drop (k + 1) leaves)))
-    (near_pairs (drop (k + 1) leaves))))
-    ∙ ap (λ ss. before ++ flat_map findings ss) (sym (pairs_more leaves k d within))
-    ∙ left
 
 pub all_before : {X : Type 0} (P : X → Type 0) (xs ys : List X) → All P (xs ++ ys) → All P xs
 all_before P [] ys all = All-nil P

@@ -292,12 +292,16 @@ module _ (c : Cell) (w : IsWritable c) where
   judged_is (Pair a b) = judged_pair a b
   judged_is (Ident l) = judged_identity l
 
+  -- each judged subject is one
+  pub all_are_subjects : All (λ s. is_subject c s ≡ true) (judged_subjects c)
+  all_are_subjects =
+      λ k d within. sym (judged_is (get_or (judged_subjects c) k d)) ∙ holds-item subject_order total_subjects (judged_subjects c) k d within
+
   -- each two connected nodes or edges are a subject
   pub pairs_are_subjects : All (λ s. is_subject c s ≡ true) (part_pairs names)
   pairs_are_subjects =
       all_before (λ s. is_subject c s ≡ true) (part_pairs names) (map Ident (identities_in c))
-      (all_behind (λ s. is_subject c s ≡ true) (records_and_sides names) (part_pairs names ++ map Ident (identities_in c))
-      (λ k d within. sym (judged_is (get_or (judged_subjects c) k d)) ∙ holds-item subject_order total_subjects (judged_subjects c) k d within))
+      (all_behind (λ s. is_subject c s ≡ true) (records_and_sides names) (part_pairs names ++ map Ident (identities_in c)) all_are_subjects)
 
   -- each name of a connected node or an edge is that of one
   pub parts_are_chained : All (λ n. is_chain_part c n ≡ true) (filter is_part_name names)

@@ -9,6 +9,9 @@ pub mod AllFindings
 pub mod Gathering
 pub mod NearPairs
 pub mod NearNames
+pub mod LeafPairs
+pub mod Cutting
+pub mod Collected
 pub mod Unnamed
 pub mod SegmentsAt
 pub mod Coverings

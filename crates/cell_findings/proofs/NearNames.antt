@@ -1,11 +1,10 @@
 -- Of the names that a tree tells to a leaf, those above its own are those behind it.
-use Rattle.std.proofs.Common.{◌≡◌, ◌+◌, ◌<◌, ℕ, Bool, true, false, ◌&&◌, ◌||◌, List, [], ◌∷◌, ◌++◌, cond, drop, filter, get_or, length, take}
+use Rattle.std.proofs.Common.{◌≡◌, Bool, true, false, ◌&&◌, ◌||◌, List, [], ◌∷◌, ◌++◌, cond, filter}
 use Rattle.std.proofs.Common.{refl, sym, ap, ◌∙◌, subst}
 use Rattle.std.specs.declared.cmp.Ordering.TheVariants.{Less}
 use Rattle.std.specs.List.{AllByRecursion, list_any}
 use Rattle.std.specs.List.Sorted.{IsPermutation, IsStrictlySortedBy}
 use Rattle.std.specs.Ordering.{is_eq, is_lt, ordering_reverse}
-use Rattle.std.proofs.lemmas.List.{drop_more, take-append-drop}
 use Rattle.std.proofs.lemmas.List.Sorted.{list_any-IsPermutation}
 use Rattle.s57_types.specs.declared.name.RecName.{RecName}
 use Rattle.cell_spec.specs.Names.{name_order}
@@ -118,7 +117,7 @@ module _ (q : RecName) (around : Box4) where
       (not_below_lesser leaf.name first.name (at_middle (λ n. name_order first.name n ≡ Less) around front leaf back sorted.0))
       ∙ met_behind front leaf back sorted.1
 
-near_behind : (leaves tree front : List Leaf) (leaf : Leaf) (back : List Leaf)
+pub near_behind : (leaves tree front : List Leaf) (leaf : Leaf) (back : List Leaf)
     → leaves ≡ front ++ leaf ∷ back → Ascend (leaf_names leaves) → IsPermutation leaves tree
     → names_near leaf tree ≡ names_meeting leaf.around back
 near_behind leaves tree front leaf back is sorted same =
@@ -131,10 +130,3 @@ near_behind leaves tree front leaf back is sorted same =
     ∙ holds-filter name_order exact_names (is_below leaf.name) q (names_meeting around tree)
     ∙ ap (λ met. is_below leaf.name q && met) (met_in_any_order q around leaves tree same ∙ ap (λ ls. has q (names_meeting around ls)) is)
     ∙ met_behind q around front leaf back in_order)
-
--- the same at a place
-pub near_at : (leaves tree : List Leaf) (k : ℕ) (d : Leaf) → Ascend (leaf_names leaves) → IsPermutation leaves tree → k < length leaves
-    → names_near (get_or leaves k d) tree ≡ names_meeting (get_or leaves k d).around (drop (k + 1) leaves)
-near_at leaves tree k d sorted same within =
-    near_behind leaves tree (take k leaves) (get_or leaves k d) (drop (k + 1) leaves)
-    (sym (take-append-drop k leaves) ∙ ap (λ rest. take k leaves ++ rest) (drop_more leaves k d within)) sorted same

@@ -5,3 +5,4 @@ pub mod Gathered
 pub mod Points
 pub mod Near
 pub mod Parts
+pub mod Cut

@@ -1,6 +1,7 @@
 //! The findings of a chart cell and their text.
 #![tactic(auto)]
 
+mod block;
 mod findings;
 mod gather;
 mod list;
@@ -10,10 +11,12 @@ mod part;
 mod refusal;
 mod single;
 mod text;
+mod threads;
 mod tiles;
 
 pub use findings::find_all;
 pub use list::{Findings, SubjectFinding};
 pub use refusal::FindingRefusal;
 pub use text::{push_cell, push_findings};
+pub use threads::find_all_in_threads;
 pub use tiles::tiles_of;

@@ -1,6 +1,6 @@
 //! Findings that are gathered about each two connected nodes or edges.
 
-ghost use Rattle.std.specs.Prelude.{◌≡◌, ◌≤◌, ◌++◌, All, IfOk, IsPermutation, IsTrue, MatchResult, length, map};
+ghost use Rattle.std.specs.Prelude.{◌≡◌, ◌≤◌, ◌++◌, All, IfOk, IsTrue, MatchResult, length, map};
 ghost use Rattle.std.specs.List.{flat_map};
 ghost use Rattle.std.specs.List.Sorted.{IsStrictlySortedBy};
 ghost use Rattle.s57_types.specs.declared.name.RecName.{RecName as SpecRecName};
@@ -11,7 +11,7 @@ ghost use Rattle.rule_spec.specs.Findings.{findings_of_subject, is_below as spec
 ghost use Rattle.rule_spec.specs.Records.{is_chain_part};
 ghost use Rattle.cell_findings.specs.Gathered.{IsGathered, IsOver};
 ghost use Rattle.cell_findings.specs.Judged.{pairs_among, subject_findings};
-ghost use Rattle.cell_findings.specs.Near.{leaf_names, names_near as spec_names_near, near_pairs};
+ghost use Rattle.cell_findings.specs.Near.{AreNearSubjects, leaf_findings, names_near as spec_names_near};
 ghost use Rattle.cell_findings.specs.Parts.{AreParts};
 
 use crate::gather::push_found;
@@ -109,8 +109,33 @@ fn push_pairs_with<L: Ledger>(
     Ok(())
 }
 
-/// Appends the findings about each two leaves whose boxes meet. The tree has the same leaves.
-fn push_near_pairs<L: Ledger>(
+/// Appends the findings about the pairs of a leaf with those above it whose boxes meet its box.
+fn push_pairs_of<L: Ledger>(
+    alloc: Global,
+    gathered: &mut Vec<SubjectFinding>,
+    look: &ListLook,
+    placed: &PlacedParts,
+    tree: &BoxTree,
+    leaf: Leaf,
+    limit: usize,
+    steps: &mut Steps<L>,
+) -> Result<(), FindingRefusal>
+    requires parts { AreParts look.now placed.now }
+    requires subjects { AreNearSubjects look.now tree.now leaf }
+    requires within { length gathered.old.items ≤ limit }
+    ensures { MatchResult result
+        (λ _. IsGathered limit (gathered.old.items ++ leaf_findings look.now tree.now leaf) gathered.new.items)
+        (IsOver limit (gathered.old.items ++ leaf_findings look.now tree.now leaf)) }
+{
+    let others = names_near(alloc, tree, leaf)?;
+    let others = others.as_slice();
+    push_pairs_with(
+        alloc, gathered, look, placed, leaf.name, others, limit, steps,
+    )
+}
+
+/// Appends the findings about the pairs of leaves, each with those above it whose boxes meet its box.
+pub(crate) fn push_near_pairs<L: Ledger>(
     alloc: Global,
     gathered: &mut Vec<SubjectFinding>,
     look: &ListLook,
@@ -121,26 +146,14 @@ fn push_near_pairs<L: Ledger>(
     steps: &mut Steps<L>,
 ) -> Result<(), FindingRefusal>
     requires parts { AreParts look.now placed.now }
-    requires subjects { All (λ (s : SpecSubject). IsTrue (is_subject look.now s)) (near_pairs leaves.now) }
-    requires ascending { IsStrictlySortedBy name_order (leaf_names leaves.now) }
-    requires same { IsPermutation leaves.now tree.now }
+    requires subjects { All (AreNearSubjects look.now tree.now) leaves.now }
     requires within { length gathered.old.items ≤ limit }
     ensures { MatchResult result
-        (λ _. IsGathered limit (gathered.old.items ++ flat_map (subject_findings look.now) (near_pairs leaves.now)) gathered.new.items)
-        (IsOver limit (gathered.old.items ++ flat_map (subject_findings look.now) (near_pairs leaves.now))) }
+        (λ _. IsGathered limit (gathered.old.items ++ flat_map (leaf_findings look.now tree.now) leaves.now) gathered.new.items)
+        (IsOver limit (gathered.old.items ++ flat_map (leaf_findings look.now tree.now) leaves.now)) }
 {
     for leaf in leaves {
-        let others = names_near(alloc, tree, *leaf)?;
-        push_pairs_with(
-            alloc,
-            gathered,
-            look,
-            placed,
-            leaf.name,
-            others.as_slice(),
-            limit,
-            steps,
-        )?;
+        push_pairs_of(alloc, gathered, look, placed, tree, *leaf, limit, steps)?;
     }
     Ok(())
 }
@@ -165,7 +178,7 @@ pub(crate) fn push_pairs<L: Ledger>(
 {
     apart_pairs_are_clean();
     let placed = parts_of(alloc, look, names, steps)?;
-    let tree = BoxTree::make(alloc, placed.leaves.to_vec(alloc)?)?;
+    let tree = placed.tree(alloc)?;
     let leaves = placed.leaves.as_slice();
     push_near_pairs(alloc, gathered, look, &placed, leaves, &tree, limit, steps)
 }

@@ -1,6 +1,6 @@
 //! Connected nodes and edges with the boxes around them.
 
-ghost use Rattle.std.specs.Prelude.{◌≡◌, ◌++◌, All, IfOk, IfSome, IsTrue, OnOk};
+ghost use Rattle.std.specs.Prelude.{◌≡◌, ◌++◌, All, IfOk, IfSome, IsPermutation, IsTrue, OnOk};
 ghost use Rattle.s57_types.specs.declared.cell.Cell.{Cell as SpecCell};
 ghost use Rattle.s57_types.specs.declared.name.RecName.{RecName as SpecRecName};
 ghost use Rattle.check_pairs.specs.Parts.{IsPart};
@@ -9,7 +9,7 @@ ghost use Rattle.rule_spec.specs.Records.{is_chain_part, the_only};
 ghost use Rattle.cell_findings.specs.Near.{leaves_at, leaves_in};
 ghost use Rattle.cell_findings.specs.Parts.{AreParts};
 
-use box_tree::Leaf;
+use box_tree::{BoxTree, Leaf};
 use chain_topo::{ListLook, Look, Steps};
 use check_pairs::ChainPart;
 use check_words::is_edge_name;
@@ -160,6 +160,13 @@ fn part_among<'a, 'b>(parts: &'b [ChainPart<'a>], name: RecName) -> Option<&'b C
 }
 
 impl<'a> PlacedParts<'a> {
+    /// The tree of the boxes.
+    pub(crate) fn tree(&self, alloc: Global) -> Result<BoxTree, AllocError>
+        ensures { IfOk result (λ tree. IsPermutation self.now.leaves.items tree) }
+    {
+        BoxTree::make(alloc, self.leaves.to_vec(alloc)?)
+    }
+
     /// The connected node or the edge of a name.
     pub(crate) fn part(&self, name: RecName) -> Option<&ChainPart<'a>>
         ensures named { IfSome result (λ part. part.now.name ≡ name) }

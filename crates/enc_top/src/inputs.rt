@@ -1,7 +1,7 @@
 //! The input files of a call, each read and judged before the next.
 
 ghost use Rattle.std.specs.Prelude.{◌≡◌, ◌⊎◌, ◌≤◌, ◌<◌, ◌^◌, ◌++◌, ◌∷◌, [], All, Err, IfErr, IfOk, MatchResult, Ok, OnOk, length, map, string_bytes};
-ghost use Rattle.cell_findings.specs.AllFindings.{IsAllOf, IsFindingRefusal};
+ghost use Rattle.cell_findings.specs.AllFindings.{IsAllOf};
 ghost use Rattle.export_laws.specs.ExportedCells.{IsScriptOfText};
 ghost use Rattle.cell_spec.specs.Writable.{IsWritable};
 ghost use Rattle.file_spec.specs.DecodedCell.{decoded_cell};
@@ -16,19 +16,17 @@ ghost use Rattle.enc_top.specs.Refused.{IsRefusal};
 
 use crate::input::{InputRefusal, read_file};
 use cell_bench::{Bench, FINDING_LIMIT, LoadRefusal};
-use cell_findings::{FindingRefusal, Findings, find_all};
+use cell_findings::{FindingRefusal, Findings, find_all_in_threads};
 use cell_read::ReadRefusal;
 use decode_laws::decoded_cell_is_writable;
 use enc_outside::Shelf;
-use look_counter::start_counter;
 use order_text::{Order, OrderRefusal, order_lines_are_read, read_order};
 use report_text::Status;
 use s57_types::{Cell, Text};
 use script_text::{Script, ScriptRefusal, read_script};
 use sessions::load_bench;
 use std::alloc::{AllocError, Global};
-use std::marker::Brand;
-use std::sync::ledger::{Blank, Ledger};
+use std::thread::Threads;
 
 /// How many bytes a cell file may have.
 const CELL_LIMIT: usize = 16_777_216;
@@ -124,24 +122,8 @@ fn decode(alloc: Global, bytes: &[u8]) -> Result<Cell, Status>
     }
 }
 
-/// All findings of a writable cell, with the look-ups counted.
-fn find_counted<L: Ledger>(
-    alloc: Global,
-    cell: &Cell,
-    blank: Blank,
-) -> Result<Findings, FindingRefusal>
-    requires writable { IsWritable cell.now }
-    requires name { blank.name ≡ L.name }
-    requires parts { blank.parts ≡ L.parts }
-    requires some_part { 0 < L.parts }
-    ensures { MatchResult result (IsAllOf cell.now finding_limit) (IsFindingRefusal cell.now finding_limit) }
-{
-    let mut steps = start_counter::<L>(blank);
-    find_all(alloc, cell, FINDING_LIMIT, &mut steps)
-}
-
 /// The cell of a file, with its findings.
-fn judge_cell(alloc: Global, bytes: &[u8]) -> Result<Checked, Status>
+fn judge_cell<R: Threads + Sync>(rt: &R, alloc: Global, bytes: &[u8]) -> Result<Checked, Status>
     requires small { length bytes.now ≤ 16777216 }
     ensures judged { IsJudged (λ checked. checked.cell) (cell_in bytes.now) result }
     ensures of_file { IfOk result (λ checked. IsCellOfFile checked.cell) }
@@ -154,7 +136,7 @@ fn judge_cell(alloc: Global, bytes: &[u8]) -> Result<Checked, Status>
         Ok(cell) => cell,
         Err(status) => return Err(status),
     };
-    match find_counted::<Brand>(alloc, &cell, Blank::new(1)) {
+    match find_all_in_threads(rt, alloc, &cell, FINDING_LIMIT) {
         Ok(findings) => Ok(Checked { cell, findings }),
         Err(FindingRefusal::TooMany) => Err(Status::TooManyFindings),
         Err(FindingRefusal::NoMemory) => Err(Status::NoMemory),
@@ -181,7 +163,12 @@ fn judge_bench(alloc: Global, bytes: &[u8]) -> Result<Bench, Status>
 }
 
 /// The cell of an input file, with its findings.
-pub fn read_cell<H: Shelf>(alloc: Global, shelf: &mut H, name: &str) -> Result<Checked, Status>
+pub fn read_cell<R: Threads + Sync, H: Shelf>(
+    rt: &R,
+    alloc: Global,
+    shelf: &mut H,
+    name: &str,
+) -> Result<Checked, Status>
     ensures tells { Tells (λ checked. checked.cell) (CellIs name.now) (IsFile name.now)
         (H.files shelf.old) (H.read_faults shelf.old) (H.read_faults shelf.new) result }
     ensures of_file { IfOk result (λ checked. IsCellOfFile checked.cell) }
@@ -194,7 +181,7 @@ pub fn read_cell<H: Shelf>(alloc: Global, shelf: &mut H, name: &str) -> Result<C
     ensures write_faults { H.write_faults shelf.new ≡ H.write_faults shelf.old }
 {
     let bytes = read_input(alloc, shelf, name, CELL_LIMIT)?;
-    judge_cell(alloc, &bytes)
+    judge_cell(rt, alloc, &bytes)
 }
 
 /// The bench of an input file's cell.

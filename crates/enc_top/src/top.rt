@@ -167,7 +167,7 @@ fn asked_work<R: Threads + Sync, H: Shelf>(
     };
     let first = first.as_str();
     if first == "check" {
-        return check(alloc, others, shelf);
+        return check(rt, alloc, others, shelf);
     }
     if first == "replay" {
         return run_scripts(rt, alloc, others, shelf);
@@ -194,7 +194,12 @@ fn asked_work<R: Threads + Sync, H: Shelf>(
 }
 
 /// The text of the cell that the words behind `check` name.
-fn check<H: Shelf>(alloc: Global, others: &[String], shelf: &mut H) -> Result<Work, Status>
+fn check<R: Threads + Sync, H: Shelf>(
+    rt: &R,
+    alloc: Global,
+    others: &[String],
+    shelf: &mut H,
+) -> Result<Work, Status>
     ensures asked { IsAskedBy ⊥ (check_among (map string_bytes others.now)) (H.files shelf.old) (H.read_faults shelf.old) (H.read_faults shelf.new) result }
     ensures files { H.files shelf.new ≡ H.files shelf.old }
     ensures read_faults { H.read_faults shelf.old ≤ H.read_faults shelf.new }
@@ -203,7 +208,7 @@ fn check<H: Shelf>(alloc: Global, others: &[String], shelf: &mut H) -> Result<Wo
     let [name] = others else {
         return Err(Status::Usage);
     };
-    let checked = match read_cell(alloc, shelf, name.as_str()) {
+    let checked = match read_cell(rt, alloc, shelf, name.as_str()) {
         Ok(checked) => checked,
         Err(status) => return Err(status),
     };

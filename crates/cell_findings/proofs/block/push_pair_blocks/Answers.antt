@@ -1,0 +1,23 @@
+use Rattle.std.proofs.Common.{◌++◌, ◌∙◌, ap, length, refl, sym}
+use Rattle.std.specs.List.{flat_map}
+use Rattle.std.proofs.lemmas.Bool.{eqb-true}
+use Rattle.std.proofs.lemmas.List.{take-append-drop}
+use Rattle.std.proofs.lemmas.List.Concat.{flat_map-append}
+use Rattle.cell_findings.specs.Cut.{subjects_in}
+use Rattle.cell_findings.specs.Near.{pairs_near}
+use Rattle.cell_findings.specs.declared.block.Block.TheVariants.{Pairs}
+use Rattle.cell_findings.proofs.Cutting.{block_last, block_more}
+use Rattle.cell_findings.proofs.block.push_pair_blocks.Goals as goal
+
+pub loop-rest-preserved : goal.loop-rest-preserved
+loop-rest-preserved c = λ tree.
+    let rest = c.loop-rest.rest.now in
+    let near = flat_map (pairs_near tree) in
+    let whole = (λ i. c.split_at.ensures.front i ++ c.split_at.ensures.back i) ∙ take-append-drop c.min.result rest in
+    ap (λ cut. subjects_in tree cut ++ near c.split_at.result.1.now) c.in_ok-push.ensures.items
+    ∙ block_more tree near (λ xs ys. flat_map-append (pairs_near tree) xs ys) c.loop-rest.cut.items (Pairs c.split_at.result.0) c.split_at.result.0.now
+    c.split_at.result.1.now rest _ whole refl (c.loop-rest.invariant tree)
+
+pub returns : goal.returns
+returns c = λ tree. block_last (flat_map (pairs_near tree)) refl c.loop-rest.rest.now _ _
+    (eqb-true (length c.loop-rest.rest.now) 0 (sym c.loop-rest-test.ensures)) (c.loop-rest.invariant tree)

@@ -1,0 +1,273 @@
+//! The findings of a cell, judged by several threads.
+
+ghost use Rattle.std.specs.Prelude.{◌≡◌, ◌≤◌, ◌<◌, ◌++◌, All, IfOk, List, MatchResult, Ok, length, map};
+ghost use Rattle.std.specs.Borrow.{Bor};
+ghost use Rattle.std.specs.List.{AllZip, flat_map};
+ghost use Rattle.cell_spec.specs.Writable.{IsWritable};
+ghost use Rattle.cell_findings.specs.AllFindings.{IsAllOf, IsFindingRefusal};
+ghost use Rattle.cell_findings.specs.Cut.{AreSubjects, IsJudgedOf, block_findings};
+ghost use Rattle.cell_findings.specs.Gathered.{IsGathered, IsOver};
+ghost use Rattle.cell_findings.specs.Judged.{judged_subjects, subject_findings};
+ghost use Rattle.cell_findings.specs.Parts.{AreParts};
+ghost use Rattle.cell_findings.specs.declared.block.Block.{Block as SpecBlock};
+
+use crate::block::{Block, Judged};
+use crate::findings::find_all;
+use crate::list::{Findings, SubjectFinding};
+use crate::names::{edge_names, identities_in, names_in, part_names};
+use crate::pairing::push_near_pairs;
+use crate::part::parts_of;
+use crate::refusal::FindingRefusal;
+use crate::single::{push_identities, push_records, push_sides};
+use chain_topo::{ListLook, Steps};
+use finding_laws::apart_pairs_are_clean;
+use look_counter::start_counter;
+use rayon::prelude::*;
+use s57_types::Cell;
+use std::alloc::{AllocError, Global};
+use std::marker::Brand;
+use std::sync::ledger::{Blank, Ledger};
+use std::thread::Threads;
+
+/// The fewest blocks for which a thread is started. A small cell has a block for each kind of subject, and no thread.
+const FEWEST: usize = 3;
+
+/// A block may have this part of the limit as findings.
+const SHARES: usize = 16;
+
+/// Appends the findings about a block.
+fn push_block<L: Ledger>(
+    alloc: Global,
+    gathered: &mut Vec<SubjectFinding>,
+    look: &ListLook,
+    judged: &Judged,
+    block: Block,
+    limit: usize,
+    steps: &mut Steps<L>,
+) -> Result<(), FindingRefusal>
+    requires parts { AreParts look.now judged.now.placed }
+    requires subjects { AreSubjects look.now judged.now.tree block }
+    requires within { length gathered.old.items ≤ limit }
+    ensures { IfOk result (λ _. gathered.new.items ≡ gathered.old.items ++ block_findings look.now judged.now.tree block.entry) }
+{
+    match block {
+        Block::Records(names) => push_records(alloc, gathered, look, names, limit, steps),
+        Block::Sides(edges) => push_sides(alloc, gathered, look, edges, limit, steps),
+        Block::Pairs(leaves) => {
+            push_near_pairs(
+                alloc,
+                gathered,
+                look,
+                &judged.placed,
+                leaves,
+                &judged.tree,
+                limit,
+                steps,
+            )
+        }
+        Block::Identities(identities) => {
+            push_identities(alloc, gathered, look, identities, limit, steps)
+        }
+    }
+}
+
+/// The findings about a block, with the look-ups counted.
+fn counted<L: Ledger>(
+    alloc: Global,
+    look: &ListLook,
+    judged: &Judged,
+    block: Block,
+    limit: usize,
+    blank: Blank,
+) -> Result<Findings, FindingRefusal>
+    requires parts { AreParts look.now judged.now.placed }
+    requires subjects { AreSubjects look.now judged.now.tree block }
+    requires name { blank.name ≡ L.name }
+    requires parts_of_blank { blank.parts ≡ L.parts }
+    requires some_part { 0 < L.parts }
+    ensures { IfOk result (λ found. found ≡ block_findings look.now judged.now.tree block.entry) }
+{
+    let mut steps = start_counter::<L>(blank);
+    let mut gathered = Vec::new(alloc);
+    push_block(alloc, &mut gathered, look, judged, block, limit, &mut steps)?;
+    Ok(Findings::of_vec(gathered))
+}
+
+/// The findings about a block. It has a counter of its own, which its thread alone counts on, since nobody asks how many
+/// look-ups are made.
+fn judge(
+    alloc: Global,
+    look: &ListLook,
+    judged: &Judged,
+    block: Block,
+    limit: usize,
+) -> Result<Findings, FindingRefusal>
+    requires parts { AreParts look.now judged.now.placed }
+    requires subjects { AreSubjects look.now judged.now.tree block }
+    ensures { IfOk result (λ found. found ≡ block_findings look.now judged.now.tree block.entry) }
+{
+    counted::<Brand>(alloc, look, judged, block, limit, Blank::new(1))
+}
+
+/// What a call answers about each block, in the order of blocks. Threads share them.
+///
+/// An `Err` is that of a call, or out of memory.
+fn each_in_threads<
+    R: Threads + Sync,
+    F: Fn(&Block) -> Result<Findings, FindingRefusal> + Copy + Send + Sync,
+>(rt: &R, alloc: Global, blocks: &[Block], judge: F) -> Result<Vec<Findings>, FindingRefusal>
+    requires { All (λ (block : SpecBlock). (shown : Bor SpecBlock) → shown.now ≡ block → F.pre judge shown) blocks.now }
+    ensures { IfOk result (λ parts. (shown : List (Bor SpecBlock)) × (map (λ (b : Bor SpecBlock). b.now) shown ≡ blocks.now)
+        × AllZip (λ b found. F.post judge b (Ok found)) shown parts.items) }
+{
+    let parts = blocks
+        .par_iter()
+        .with_min_len(FEWEST)
+        .map(
+            |block: &Block| -> Result<Findings, FindingRefusal>
+                requires { F.pre judge block }
+                ensures { F.post judge block.entry result }
+            { judge(block) },
+        )
+        .collect::<Result<Vec<Findings>, FindingRefusal>>(rt, alloc)?;
+    Ok(parts?)
+}
+
+/// The findings about each block, in the order of blocks.
+///
+/// An `Err` says that some block has more than the limit, or that memory ran out.
+fn judge_blocks<R: Threads + Sync>(
+    rt: &R,
+    alloc: Global,
+    look: &ListLook,
+    judged: &Judged,
+    blocks: &[Block],
+    limit: usize,
+) -> Result<Vec<Findings>, FindingRefusal>
+    requires parts { AreParts look.now judged.now.placed }
+    requires subjects { All (AreSubjects look.now judged.now.tree) blocks.now }
+    ensures { IfOk result (λ parts. parts.items ≡ map (block_findings look.now judged.now.tree) blocks.now) }
+{
+    let parts = each_in_threads(
+        rt,
+        alloc,
+        blocks,
+        |block: &Block| -> Result<Findings, FindingRefusal>
+            requires { AreParts look.now judged.now.placed × AreSubjects look.now judged.now.tree block.now }
+            ensures { IfOk result (λ found. found ≡ block_findings look.entry.now judged.entry.now.tree block.now) }
+        { judge(alloc, look, judged, *block, limit) },
+    )?;
+    Ok(parts)
+}
+
+/// What is judged of a cell.
+fn judged_of<'a, L: Ledger>(
+    alloc: Global,
+    cell: &Cell,
+    look: &'a ListLook,
+    steps: &mut Steps<L>,
+) -> Result<Judged<'a>, AllocError>
+    requires writable { IsWritable cell.now }
+    requires same { look.now ≡ cell.now }
+    ensures judged { IfOk result (λ judged. IsJudgedOf cell.now judged) }
+    ensures parts { IfOk result (λ judged. AreParts look.now judged.placed) }
+{
+    let names = names_in(alloc, cell)?;
+    let identities = identities_in(alloc, cell)?;
+    let listed = names.as_slice();
+    let edges = edge_names(alloc, listed)?;
+    let parts = part_names(alloc, listed)?;
+    let placed = parts_of(alloc, look, &parts, steps)?;
+    let tree = placed.tree(alloc)?;
+    Ok(Judged {
+        names,
+        edges,
+        identities,
+        placed,
+        tree,
+    })
+}
+
+/// The findings about a cell's judged subjects, block by block.
+fn judged_by<R: Threads + Sync, L: Ledger>(
+    rt: &R,
+    alloc: Global,
+    cell: &Cell,
+    limit: usize,
+    blank: Blank,
+) -> Result<Vec<Findings>, FindingRefusal>
+    requires writable { IsWritable cell.now }
+    requires name { blank.name ≡ L.name }
+    requires parts { blank.parts ≡ L.parts }
+    requires some_part { 0 < L.parts }
+    ensures { IfOk result (λ parts. flat_map (λ part. part) parts.items ≡ flat_map (subject_findings cell.now) (judged_subjects cell.now)) }
+{
+    apart_pairs_are_clean();
+    let mut steps = start_counter::<L>(blank);
+    let look = ListLook::make(alloc, cell)?;
+    let judged = judged_of(alloc, cell, &look, &mut steps)?;
+    let blocks = judged.blocks(alloc)?;
+    let parts = judge_blocks(rt, alloc, &look, &judged, &blocks, limit / SHARES)?;
+    Ok(parts)
+}
+
+fn push_part(
+    all: &mut Vec<SubjectFinding>,
+    part: &[SubjectFinding],
+    limit: usize,
+) -> Result<(), FindingRefusal>
+    ensures { MatchResult result (λ _. IsGathered limit (all.old.items ++ part.now) all.new.items) (IsOver limit (all.old.items ++ part.now)) }
+{
+    all.extend_from_slice(part)?;
+    if all.len() > limit {
+        return Err(FindingRefusal::TooMany);
+    }
+    Ok(())
+}
+
+/// The findings of blocks one after the other, within the limit.
+fn joined(alloc: Global, parts: &[Findings], limit: usize) -> Result<Findings, FindingRefusal>
+    ensures { MatchResult result (IsGathered limit (flat_map (λ part. part) parts.now)) (IsOver limit (flat_map (λ part. part) parts.now)) }
+{
+    let mut all = Vec::new(alloc);
+    for part in parts {
+        push_part(&mut all, part.as_slice(), limit)?;
+    }
+    Ok(Findings::of_vec(all))
+}
+
+/// All findings of a cell, by one thread.
+fn find_alone<L: Ledger>(
+    alloc: Global,
+    cell: &Cell,
+    limit: usize,
+    blank: Blank,
+) -> Result<Findings, FindingRefusal>
+    requires writable { IsWritable cell.now }
+    requires name { blank.name ≡ L.name }
+    requires parts { blank.parts ≡ L.parts }
+    requires some_part { 0 < L.parts }
+    ensures { MatchResult result (IsAllOf cell.now limit) (IsFindingRefusal cell.now limit) }
+{
+    let mut steps = start_counter::<L>(blank);
+    find_all(alloc, cell, limit, &mut steps)
+}
+
+/// All findings of a writable cell, as `find_all` gives them, where threads share the judging.
+///
+/// Each thread judges blocks of subjects, each within a part of the limit, so that what the threads hold is bounded however
+/// many findings there are. Where a block has more, one thread judges all, and stops at the limit.
+pub fn find_all_in_threads<R: Threads + Sync>(
+    rt: &R,
+    alloc: Global,
+    cell: &Cell,
+    limit: usize,
+) -> Result<Findings, FindingRefusal>
+    requires writable { IsWritable cell.now }
+    ensures { MatchResult result (IsAllOf cell.now limit) (IsFindingRefusal cell.now limit) }
+{
+    match judged_by::<R, Brand>(rt, alloc, cell, limit, Blank::new(1)) {
+        Ok(parts) => joined(alloc, &parts, limit),
+        Err(_) => find_alone::<Brand>(alloc, cell, limit, Blank::new(1)),
+    }
+}
