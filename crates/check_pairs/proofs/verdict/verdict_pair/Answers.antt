@@ -39,7 +39,8 @@ returns-clause-subject g c =
     let first = c.in_ok-first.ensures in
     let second = c.in_ok-second.ensures in
     let pair = Pair c.args.a c.args.b in
-    IfOk-weaker c.pair_row.result (λ (row : Row). row ≡ exact_row cell pair) (λ (row : Row). row.subject ≡ pair) (λ row is. ap (λ (row : Row). row.subject) is)
+    IfOk-weaker c.pair_row.result (λ (row : Row). row ≡ exact_row cell pair) (λ (row : Row). row.subject ≡ pair)
+    (λ row is. ap (λ (row : Row). row.subject) is)
     (row_named c.pair_row.result cell c.args.a c.args.b _ _ first.named second.named (c.pair_row.ensures cell first.part second.part) c.requires)
 
 pub returns-clause-findings : goal.returns-clause-findings
@@ -48,7 +49,8 @@ returns-clause-findings g c =
     let first = c.in_ok-first.ensures in
     let second = c.in_ok-second.ensures in
     let pair = Pair c.args.a c.args.b in
-    IfOk-weaker c.pair_row.result (λ (row : Row). row ≡ exact_row cell pair) (λ (row : Row). row.findings ≡ findings_of_subject cell pair) (λ row is. ap (λ (row : Row). row.findings) is)
+    IfOk-weaker c.pair_row.result (λ (row : Row). row ≡ exact_row cell pair) (λ (row : Row). row.findings ≡ findings_of_subject cell pair)
+    (λ row is. ap (λ (row : Row). row.findings) is)
     (row_named c.pair_row.result cell c.args.a c.args.b _ _ first.named second.named (c.pair_row.ensures cell first.part second.part) c.requires)
 
 pub returns-clause-reads : goal.returns-clause-reads
@@ -57,7 +59,8 @@ returns-clause-reads g c =
     let first = c.in_ok-first.ensures in
     let second = c.in_ok-second.ensures in
     let pair = Pair c.args.a c.args.b in
-    IfOk-weaker c.pair_row.result (λ (row : Row). row ≡ exact_row cell pair) (λ (row : Row). row.reads ≡ read_set cell pair) (λ row is. ap (λ (row : Row). row.reads) is)
+    IfOk-weaker c.pair_row.result (λ (row : Row). row ≡ exact_row cell pair) (λ (row : Row). row.reads ≡ read_set cell pair)
+    (λ row is. ap (λ (row : Row). row.reads) is)
     (row_named c.pair_row.result cell c.args.a c.args.b _ _ first.named second.named (c.pair_row.ensures cell first.part second.part) c.requires)
 
 pub returns-clause-steps : goal.returns-clause-steps
