@@ -86,7 +86,7 @@ def write_text(name, text):
 
 
 def meeting(kind, count, bits):
-    """Numbers of records that meet in the table of subjects."""
+    """Numbers of records that meet in a hash table of subjects."""
     return [int(word) for word in subprocess.check_output([f"{folder}/plain", str(kind), str(count), str(bits)]).split()]
 
 
@@ -108,7 +108,7 @@ for count in (1, 2, 4):
     write_cell(f"COMBS_{count}", combs(count, 12_000))
 for count in (4_096, 16_384, 65_536, 225_000):
     write_cell(f"TILE_{count}", tile(count))
-# all edges and features of a file are touched where node 1 is; in one their numbers meet in the table of subjects
+# all edges and features of a file are touched where node 1 is; in one their numbers meet in a hash table of subjects
 write_cell("TIED", tied(range(3, 100_003), range(1, 86_001)))
 write_cell("TIED_MEETING", tied(meeting(2, 100_000, 15), meeting(3, 86_000, 15)))
 # commits of 16 sessions, as many as scripts hold: each moves a node of the session's own

@@ -1,4 +1,4 @@
-//! Numbers of records that meet in the table of subjects: hostile KIND COUNT BITS
+//! Numbers of records that meet in a hash table of subjects: hostile KIND COUNT BITS
 //!
 //! It prints COUNT numbers of records of a kind (0 to 3: isolated node, connected node, edge, feature) whose hashes have BITS last bits of 0. The hash is that
 //! of the kit's `indexmap`, whose seed is fixed, of a subject that is a record.
