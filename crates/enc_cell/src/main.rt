@@ -1,13 +1,8 @@
 //! `enc_cell`: a workroom for one electronic navigational chart base cell.
 #![tactic(auto)]
 
-mod disk;
-mod output;
-
-use disk::DiskShelf;
 use enc_outside::NoMeet;
 use enc_top::{Status, print_status, run};
-use output::StdSink;
 use std::alloc::Global;
 use std::env;
 use std::fs::File;
@@ -16,6 +11,7 @@ use std::process::ExitCode;
 use std::rt::{Env, Files};
 use std::sync::Wait;
 use std::thread::Threads;
+use whole_files::{DiskShelf, StdSink};
 
 /// The words after the program's name. A word that isn't UTF-8 is in no form.
 fn read_words(rt: &(impl Env + AllocGlobal)) -> Result<Vec<String>, Status> {

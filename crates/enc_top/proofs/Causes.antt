@@ -4,7 +4,7 @@ use Rattle.std.specs.Prelude.{IfSome}
 use Rattle.enc_outside.specs.Count.{Rose}
 use Rattle.enc_outside.specs.Files.{Files, Told}
 use Rattle.enc_top.specs.Inputs.{IsInputOf, OutputIs}
-use Rattle.enc_top.specs.Output.{Adds, AddsFront}
+use Rattle.whole_files.specs.Output.{Adds, AddsFront}
 use Rattle.enc_top.specs.Outcome.{
   AreBegun,
   AreWritten,

@@ -72,7 +72,8 @@ use Rattle.enc_top.specs.Outcome.{
   IsUpdateWorkOf,
   Outside,
 }
-use Rattle.enc_top.specs.Output.{Adds, AddsFrom}
+use Rattle.whole_files.specs.Output.{Adds}
+use Rattle.enc_top.specs.Output.{AddsFrom}
 use Rattle.enc_top.specs.Task.{Task, check_task, drill_task, left_task, make_task, probe_task, run_task}
 use Rattle.enc_top.specs.Words.{
   Form,

@@ -1,4 +1,3 @@
-pub mod Puts
 pub mod Ranges
 pub mod WordLists
 pub mod FileWrites

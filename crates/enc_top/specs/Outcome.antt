@@ -22,7 +22,8 @@ use Rattle.enc_top.specs.Operations.{OperationKeeps, operated}
 use Rattle.enc_top.specs.Updates.{updated}
 use Rattle.update_spec.specs.UpdatedCell.{updated_cell}
 use Rattle.enc_top.specs.Inputs.{CellIs, FileIs, IsInputOf, IsReached, IsRoomRun, IsRunOf, OrderIs, OutputIs, ScriptsAre, cell_limit, drill_answer}
-use Rattle.enc_top.specs.Output.{Adds, AddsFrom, AddsFront, IsBegun}
+use Rattle.enc_top.specs.Output.{AddsFrom, IsBegun}
+use Rattle.whole_files.specs.Output.{Adds, AddsFront}
 use Rattle.enc_top.specs.Task.{Task, check_task, left_task, make_task, probe_task, task_of}
 use Rattle.enc_top.specs.Words.{Form, check_form, replay_form, room_form, make_form, drill_form, edge_form, probe_form, apply_form, no_form, form_of}
 use Rattle.report_text.specs.declared.status.Status.{Status}

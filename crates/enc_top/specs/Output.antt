@@ -1,19 +1,12 @@
--- Writing a text whole, and a file.
+-- Writing a text that begins so, and a file.
 use mathlib.Core.List.{IsPrefix}
-use Rattle.std.specs.Prelude.{◌≡◌, ◌≢◌, ◌⊎◌, ℕ, List, ◌++◌, Some, take}
+use Rattle.std.specs.Prelude.{◌≡◌, ◌≢◌, ◌⊎◌, ℕ, List, Some, take}
 use Rattle.enc_outside.specs.Files.{Files, MayEmpty}
-
--- all bytes were added
-abbrev pub Adds : List ℕ → List ℕ → List ℕ → Type 0
-Adds bytes old new = new ≡ old ++ bytes
+use Rattle.whole_files.specs.Output.{Adds}
 
 -- a text was added that begins so
 abbrev pub AddsFrom : List ℕ → List ℕ → List ℕ → Type 0
 AddsFrom front old new = (text : List ℕ) × Adds text old new × IsPrefix front text
-
--- some first bytes were added
-abbrev pub AddsFront : List ℕ → List ℕ → List ℕ → Type 0
-AddsFront bytes old new = (n : ℕ) × (new ≡ old ++ take n bytes)
 
 -- a file has some first bytes now, and the others stay
 pub record HasFront (name bytes : List ℕ) (old new : Files) : Type 0 where

@@ -1,9 +1,9 @@
 -- The status of a refused input.
 use Rattle.std.specs.Prelude.{◌≡◌, ◌⊎◌, ℕ, List}
-use Rattle.enc_top.specs.declared.input.InputRefusal.{InputRefusal}
-use Rattle.enc_top.specs.declared.input.InputRefusal.TheVariants as input
 use Rattle.report_text.specs.declared.status.Status.{Status}
 use Rattle.report_text.specs.declared.status.Status.TheVariants as status
+use Rattle.whole_files.specs.declared.input.InputRefusal.{InputRefusal}
+use Rattle.whole_files.specs.declared.input.InputRefusal.TheVariants as input
 
 abbrev pub status_of : List ℕ → InputRefusal → Status
 status_of name input.Absent = status.Absent name

@@ -14,7 +14,6 @@ ghost use Rattle.enc_top.specs.Inputs.{IsReachedScript, IsScriptWithin, OrderIs,
 ghost use Rattle.enc_top.specs.Inputs.{IsNotOfOrder, IsNotOfText, script_limit};
 ghost use Rattle.enc_top.specs.Refused.{IsRefusal};
 
-use crate::input::{InputRefusal, read_file};
 use cell_bench::{Bench, FINDING_LIMIT, LoadRefusal};
 use cell_findings::{FindingRefusal, Findings, find_all_in_threads};
 use cell_read::ReadRefusal;
@@ -27,6 +26,7 @@ use script_text::{Script, ScriptRefusal, read_script};
 use sessions::load_bench;
 use std::alloc::{AllocError, Global};
 use std::thread::Threads;
+use whole_files::{InputRefusal, read_file};
 
 /// How many bytes a cell file may have.
 const CELL_LIMIT: usize = 16_777_216;

@@ -3,7 +3,6 @@
 
 mod edge;
 mod first;
-mod input;
 mod inputs;
 mod law;
 mod made;

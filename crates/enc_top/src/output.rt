@@ -3,28 +3,14 @@
 ghost use Rattle.std.specs.Prelude.{[], ◌≡◌, ◌≤◌, IfSome, OnOk, OnErr, string_bytes, Some};
 ghost use Rattle.enc_outside.specs.Count.{Rose};
 ghost use Rattle.enc_outside.specs.Files.{Told, StaysUntold, Writes};
-ghost use Rattle.enc_top.specs.Output.{Adds, AddsFront, HasFront, IsBegun};
+ghost use Rattle.enc_top.specs.Output.{HasFront, IsBegun};
 ghost use Rattle.enc_top.specs.Outcome.{IsDoneWork, outside};
 ghost use Rattle.enc_top.specs.Task.{task_of};
 
 use crate::work::{Export, Work};
 use enc_outside::{Failed, Shelf, Sink};
 use report_text::Status;
-
-/// Puts all of a text, in as many writes as it takes.
-pub fn put_all<O: Sink>(out: &mut O, text: &[u8]) -> Result<(), Failed>
-    ensures ok { OnOk result (Told (Adds text.now) (O.written out.old) (O.written out.new)) }
-    ensures err { OnErr result (Told (AddsFront text.now) (O.written out.old) (O.written out.new)) }
-    ensures cause { OnErr result (Rose (O.faults out.old) (O.faults out.new)) }
-    ensures untold { StaysUntold (O.written out.old) (O.written out.new) }
-    ensures faults { O.faults out.old ≤ O.faults out.new }
-{
-    let mut done = 0;
-    while done < text.len() {
-        done += out.put(&text[done..])?;
-    }
-    Ok(())
-}
+use whole_files::put_all;
 
 /// Appends all bytes to a file that is empty, in as many writes as it takes.
 fn append_all<H: Shelf>(shelf: &mut H, name: &str, bytes: &[u8]) -> Result<(), Failed>
