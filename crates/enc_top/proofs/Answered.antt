@@ -296,7 +296,8 @@ pub asked_answer : (sticks : Type 0) (form : Form) (files : Option Files) (befor
     → IfErr result (IsInputStatus (IsInputOf form))
     → Tells task_of (OutputIs form) (IsReached form) files before after result → IsAskedBy sticks form files before after result
 asked_answer sticks form files before after (Ok work) has fits output is tells = (output, asks_of_told form files before after (Ok (task_of work)) has tells)
-asked_answer sticks form files before after (Err status) has fits output is tells = asked_status sticks form files before after status has (fits status) is tells
+asked_answer sticks form files before after (Err status) has fits output is tells = asked_status sticks form files before after status has (fits status) is
+    tells
 
 pub if_err_more : {A : Type 0} (P Q : List ℕ → Type 0) (result : Result A Status) → ((name : List ℕ) → P name → Q name)
     → IfErr result (IsInputStatus P) → IfErr result (IsInputStatus Q)

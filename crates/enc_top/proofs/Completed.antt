@@ -359,10 +359,12 @@ done_of form files task (Stuck desk serial) good is = absurd
 done_of form files task TooManyFindings good is = absurd (apart form task TooManyFindings (one_output form files (Ok task) (Err TooManyFindings) good is))
 done_of form files task (BadUpdate fault) good is = absurd (apart form task (BadUpdate fault) (one_output form files (Ok task) (Err (BadUpdate fault)) good is))
 done_of form files task (Refused refusal) good is = absurd (apart form task (Refused refusal) (one_output form files (Ok task) (Err (Refused refusal)) good is))
-done_of form files task (BadJournal place) good is = absurd (apart form task (BadJournal place) (one_output form files (Ok task) (Err (BadJournal place)) good is))
+done_of form files task (BadJournal place) good is = absurd (apart form task (BadJournal place)
+    (one_output form files (Ok task) (Err (BadJournal place)) good is))
 done_of form files task DiskFault good is = absurd (apart form task DiskFault (one_output form files (Ok task) (Err DiskFault) good is))
 done_of form files task (OpRefused cause) good is = absurd (apart form task (OpRefused cause) (one_output form files (Ok task) (Err (OpRefused cause)) good is))
-done_of form files task (JournalFull count) good is = absurd (apart form task (JournalFull count) (one_output form files (Ok task) (Err (JournalFull count)) good is))
+done_of form files task (JournalFull count) good is = absurd (apart form task (JournalFull count)
+    (one_output form files (Ok task) (Err (JournalFull count)) good is))
 
 -- good files of sessions in threads leave no refusal
 no_bad_room : (cell out : List ℕ) (scripts : List (List ℕ)) (files : Files) (status : Status) → AreGood (room_form cell out scripts) files

@@ -132,7 +132,8 @@ module _ (cell out : List ℕ) (operation : Operation) (files : Option Files) (b
     ends_so : (status : Status) → operated start operation ≡ Err status → IfSome files (λ fs. OutputIs form fs (Err status))
     ends_so status is = both_told files good good (λ fs at again. inl (start, at, inr (status, is, refl)))
 
-    asked_end : (status : Status) → IsOperationEnd status → IfSome files (λ fs. OutputIs form fs (Err status)) → IsAskedBy ⊥ form files before after (Err status)
+    asked_end : (status : Status) → IsOperationEnd status → IfSome files (λ fs. OutputIs form fs (Err status)) → IsAskedBy ⊥ form files before after
+        (Err status)
     asked_end NoMemory is so = tt
     asked_end (Refused why) is so = (tt, is, tt, so)
     asked_end (OpRefused cause) is so = (tt, tt, so)

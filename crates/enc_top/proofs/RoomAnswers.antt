@@ -10,7 +10,8 @@ use Rattle.room_run.specs.declared.run.RunEnd.TheVariants as end
 use Rattle.enc_outside.specs.declared.meet.Stuck.{Stuck as Place}
 use Rattle.report_text.specs.declared.status.Status.{Status}
 use Rattle.report_text.specs.declared.status.Status.TheVariants.{Stuck}
-use Rattle.enc_top.specs.Inputs.{CellIs, IsAmong, IsFile, IsInputOf, IsInputStatus, IsNotOfOrder, IsNotOfText, IsReached, IsReachedScript, IsRunInRoom, OutputIs}
+use Rattle.enc_top.specs.Inputs.{CellIs, IsAmong, IsFile, IsInputOf, IsInputStatus, IsNotOfOrder, IsNotOfText, IsReached, IsReachedScript, IsRunInRoom}
+use Rattle.enc_top.specs.Inputs.{OutputIs}
 use Rattle.enc_top.specs.Inputs.{ScriptsAre, Tells}
 use Rattle.enc_top.specs.Outcome.{IsAskedBy}
 use Rattle.enc_top.specs.Task.{task_of}
