@@ -61,7 +61,8 @@ alone_row() {
     for _ in $(seq "$runs"); do
         one_run main "$work/$program" "$@"
     done
-    awk -v name="$program $*" -v user="$(time_of main 1 1)" -v clock="$(time_of main 2 1)" -v memory="$(megabytes "$work/$program" "$@")" -v said="$(cat "$work/main.said")" \
+    awk -v name="$program $*" -v user="$(time_of main 1 1)" -v clock="$(time_of main 2 1)" -v memory="$(megabytes "$work/$program" "$@")" \
+        -v said="$(cat "$work/main.said")" \
         'BEGIN { printf "%-45s %8.0f ms %8.0f ms by the clock %5d MB, ends with %s\n", name, user * 1e3, clock * 1e3, memory, said }'
 }
 

@@ -1,5 +1,6 @@
 -- A record of an update is judged alike by the cell before the update and by the one that the records before it left.
-use Rattle.std.proofs.Common.{◌≡◌, ℕ, ◌+◌, ◌==◌, ◌&&◌, Bool, true, false, not, is_some, List, [], length, nat_le, nat_lt, Option, None, Some, Result, Ok, refl, sym, ap, ◌∙◌}
+use Rattle.std.proofs.Common.{◌≡◌, ℕ, ◌+◌, ◌==◌, ◌&&◌, Bool, true, false, not, is_some, List, [], length, nat_le, nat_lt, Option, None, Some, Result, Ok}
+use Rattle.std.proofs.Common.{refl, sym, ap, ◌∙◌}
 use Rattle.std.specs.Prelude.{if◌then◌else◌}
 use Rattle.std.specs.List.{list_any}
 use Rattle.std.specs.Option.{option_and_then, ok_or}
@@ -61,7 +62,8 @@ use Rattle.update_spec.specs.UpdateRecords.{
 use Rattle.update_spec.specs.declared.control.Instruction.{Instruction}
 use Rattle.update_spec.specs.declared.control.Instruction.TheVariants.{Insert, Delete, Modify}
 use Rattle.update_spec.specs.declared.fault.UpdateFault.{UpdateFault}
-use Rattle.update_spec.specs.declared.fault.UpdateFault.TheVariants.{Record, NoTarget, TargetThere, WrongVersion, OtherIdentity, BadControl, LevelMix, TooManyEdits}
+use Rattle.update_spec.specs.declared.fault.UpdateFault.TheVariants.{Record, NoTarget, TargetThere, WrongVersion, OtherIdentity, BadControl, LevelMix}
+use Rattle.update_spec.specs.declared.fault.UpdateFault.TheVariants.{TooManyEdits}
 use Rattle.update_spec.specs.declared.identifiers.Identifiers.{Identifiers}
 
 -- a cell has the level of another, and under each name that no earlier edit is about what the other has

@@ -1,5 +1,6 @@
 -- The edits of an update, applied at once, make the cell that its records make one after the other.
-use Rattle.std.proofs.Common.{◌≡◌, ℕ, ◌+◌, ◌≤◌, true, false, List, [], ◌∷◌, ◌++◌, length, Option, None, Some, Result, Ok, Err, refl, sym, ap, subst, ◌∙◌, arith, length-append}
+use Rattle.std.proofs.Common.{◌≡◌, ℕ, ◌+◌, ◌≤◌, true, false, List, [], ◌∷◌, ◌++◌, length, Option, None, Some, Result, Ok, Err, refl, sym, ap, subst, ◌∙◌}
+use Rattle.std.proofs.Common.{arith, length-append}
 use Rattle.std.specs.Prelude.{option_to_list, filter_map}
 use Rattle.std.specs.Result.{result_map_both}
 use Rattle.std.proofs.lemmas.Bool.{ltb-true}
@@ -35,7 +36,8 @@ use Rattle.update_spec.specs.UpdateFaults.{of_record, update_fault_at}
 use Rattle.update_spec.specs.UpdateFields.{checked_fields}
 use Rattle.update_spec.specs.UpdateHead.{head_update, identification_fault, is_identification, told_by_values, update_identification}
 use Rattle.update_spec.specs.UpdateRecords.{record_update}
-use Rattle.update_spec.specs.UpdatedCell.{after_update, edits_of_records, edits_of_update, edits_with, told_by, told_by_next, updated_by_records, updated_cell, with_updates}
+use Rattle.update_spec.specs.UpdatedCell.{after_update, edits_of_records, edits_of_update, edits_with, told_by, told_by_next, updated_by_records}
+use Rattle.update_spec.specs.UpdatedCell.{updated_cell, with_updates}
 use Rattle.update_spec.specs.declared.fault.UpdateFault.{UpdateFault}
 use Rattle.update_apply.specs.Gives.{IsUpdate, IsUpdateRefusal, RefusesFile}
 use Rattle.update_apply.specs.declared.refusal.UpdateRefusal.{UpdateRefusal}

@@ -4,7 +4,8 @@ ghost use Rattle.std.specs.Prelude.{◌≡◌, ◌<◌, ◌≤◌, ◌^◌, fals
 ghost use Rattle.std.specs.List.{list_all};
 ghost use Rattle.frame_spec.specs.FrameDecision.{is_digit};
 ghost use Rattle.frame_spec.specs.RecordFrame.{decimal_value};
-ghost use Rattle.update_spec.specs.UpdateHead.{greater_level, head_update, identification_fault, is_identification, is_next_update, told_by_values, update_identification, update_number};
+ghost use Rattle.update_spec.specs.UpdateHead.{greater_level, head_update, identification_fault, is_identification, is_next_update, told_by_values};
+ghost use Rattle.update_spec.specs.UpdateHead.{update_identification, update_number};
 ghost use Rattle.update_apply.specs.Gives.{GivesUpdate};
 
 use crate::given::required;
