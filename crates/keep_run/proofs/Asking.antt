@@ -74,7 +74,8 @@ module _ (book : BookState) (set : GuardedEdits) where
   commits_more : state_refusal h.cell set.edits ≡ None → commits_left book event ≡ h.commits ++ one ∷ []
   commits_more none =
       let answered : answer h event ≡ verdict_of None =
-      ap (λ (o : Option Reply). option_map_or (λ (reply : Reply). reply) o (verdict_of (state_refusal h.cell set.edits))) (none_newer h.commits set.edits set.guards)
+      ap (λ (o : Option Reply). option_map_or (λ (reply : Reply). reply) o (verdict_of (state_refusal h.cell set.edits)))
+      (none_newer h.commits set.edits set.guards)
       ∙ ap verdict_of none in
       ap (λ (reply : Reply). (left_after 1 event reply h).commits) answered
 

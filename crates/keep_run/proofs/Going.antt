@@ -193,9 +193,11 @@ module _ (c : Cell) (commits : List AcceptedCommit) (script : List Command) wher
             ∙ ap (λ (requests : List Request). lines ++ transcript_from at (length run.at.commits) (length draft.edits) (command ∷ rest)
             (replies_of run.at requests)) asks
             ∙ ap (λ (l : List ℕ). lines ++ l) (tells (length run.at.commits) (answer run.at asked) (replies_behind next after rest))
-            ∙ ap (λ (base : ℕ). lines ++ (reply_line (answer run.at asked) ++ transcript_from at base (length after.edits) rest (replies_behind next after rest)))
+            ∙ ap (λ (base : ℕ). lines ++ (reply_line (answer run.at asked) ++ transcript_from at base (length after.edits) rest
+            (replies_behind next after rest)))
             (base_told run.at asked (answer run.at asked) (answer_numbered run.at asked))
-            ∙ ap (λ (one : Reply). lines ++ (reply_line one ++ transcript_from at (length next.commits) (length after.edits) rest (replies_behind next after rest)))
+            ∙ ap (λ (one : Reply). lines ++ (reply_line one ++ transcript_from at (length next.commits) (length after.edits) rest
+            (replies_behind next after rest)))
             told
             ∙ sym (append_assoc lines (reply_line reply) (transcript_from at (length next.commits) (length after.edits) rest (replies_behind next after rest)))
 
@@ -248,7 +250,8 @@ module _ (c : Cell) (commits : List AcceptedCommit) (script : List Command) wher
           ∙ ap (λ (requests : List Request). lines ++ transcript_from at (length run.at.commits) (length draft.edits) (command ∷ rest)
           (replies_of run.at requests)) asks
           ∙ ap (λ (l : List ℕ). lines ++ l) (tells (length run.at.commits) (replies_behind run.at after rest))
-          ∙ ap (λ (l : List ℕ). lines ++ (l ++ transcript_from at (length run.at.commits) (length after.edits) rest (replies_behind run.at after rest))) same_lines
+          ∙ ap (λ (l : List ℕ). lines ++ (l ++ transcript_from at (length run.at.commits) (length after.edits) rest (replies_behind run.at after rest)))
+          same_lines
           ∙ sym (append_assoc lines alone_lines (transcript_from at (length run.at.commits) (length after.edits) rest (replies_behind run.at after rest)));
     }
 

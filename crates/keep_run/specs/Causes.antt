@@ -136,7 +136,8 @@ IsCauseOf form before after content now faults faults_now images Usage = ⊥
 IsCauseOf form before after content now faults faults_now images status = IsSilent before after
     × IsAskedOf form before.files before.read_faults after.read_faults content now faults faults_now images (Err status)
 
-abbrev pub IsCauseIn : Option KeepForm → (before after : Outside) → (content now : Option (List ℕ)) → (faults faults_now : ℕ) → (List ℕ → Type 0) → Status → Type 0
+abbrev pub IsCauseIn : Option KeepForm → (before after : Outside) → (content now : Option (List ℕ)) → (faults faults_now : ℕ) → (List ℕ → Type 0) → Status →
+    Type 0
 IsCauseIn None before after content now faults faults_now images status =
     (status ≡ Usage) × IsSilent before after × (after.read_faults ≡ before.read_faults)
 IsCauseIn (Some form) before after content now faults faults_now images status = IsCauseOf form before after content now faults faults_now images status

@@ -48,7 +48,8 @@ abbrev pub IsLeftWith : Cell → List AcceptedCommit → Option (List ℕ) → (
 IsLeftWith c commits now images = IfSome now (λ file. IsJournalOf c file commits × Only file images)
 
 -- the same, with what it leaves of the disk: these commits and all that the script has accepted
-pub record IsKeptOn (c : Cell) (commits : List AcceptedCommit) (script : List Command) (now : Option (List ℕ)) (images : List ℕ → Type 0) (kept : Kept) : Type 0 where
+pub record IsKeptOn (c : Cell) (commits : List AcceptedCommit) (script : List Command) (now : Option (List ℕ)) (images : List ℕ → Type 0) (kept : Kept) :
+    Type 0 where
   pub text_is : kept.text.items ≡ kept_text c commits script
   pub bytes_are : kept.bytes.items ≡ encoded_cell (kept_history c commits script).cell
   pub read_back : decoded_cell (encoded_cell (kept_history c commits script).cell) ≡ Ok (kept_history c commits script).cell

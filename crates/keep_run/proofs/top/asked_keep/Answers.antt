@@ -38,7 +38,8 @@ returns-clause-asked g c =
     let disk = c.args.disk.now in
     let five : length c.args.words.now ≡ 5 = omega (arith, c.in-len5.len_at_least, c.in-len5.len_below) in
     let other = ap (is_word (codes "keep")) (sym c.as_str.ensures.value) ∙ sym c.if-eq.ensures in
-    let none = other_word c.args.words.now c.first-item.result c.cell-item.result c.out-item.result c.script-item.result five c.first-item.is c.cell-item.is c.out-item.is
+    let none = other_word c.args.words.now c.first-item.result c.cell-item.result c.out-item.result c.script-item.result five c.first-item.is c.cell-item.is
+    c.out-item.is
     c.script-item.is other in
     subst (λ (f : Option KeepForm). IsAskedIn f (g.H.Shelf.files c.args.shelf.now) reads reads (g.D.Disk.content disk) (g.D.Disk.content disk)
     (g.D.Disk.faults disk) (g.D.Disk.faults disk) (g.D.Disk.images disk) (Err Usage)) (sym none) refl
@@ -56,7 +57,8 @@ returns-then-eq-clause-asked g c =
     let new = c.kept_work.new.disk in
     let five : length c.args.words.now ≡ 5 = omega (arith, c.in-len5.len_at_least, c.in-len5.len_below) in
     let keep = ap (is_word (codes "keep")) (sym c.as_str.ensures.value) ∙ sym c.if-eq.ensures in
-    let form = keep_words c.args.words.now c.first-item.result c.cell-item.result c.out-item.result c.script-item.result five c.first-item.is c.cell-item.is c.out-item.is
+    let form = keep_words c.args.words.now c.first-item.result c.cell-item.result c.out-item.result c.script-item.result five c.first-item.is c.cell-item.is
+    c.out-item.is
     c.script-item.is keep
     ∙ (λ i. Some (keep_form (sym c.as_str-then-eq.ensures.value i) (sym c.as_str-then-eq-2.ensures.value i) (sym c.as_str-then-eq-3.ensures.value i))) in
     subst (λ (f : Option KeepForm). IsAskedIn f (g.H.Shelf.files old) (g.H.Shelf.read_faults old) (g.H.Shelf.read_faults c.kept_work.new.shelf)
@@ -68,7 +70,8 @@ returns-then-eq-clause-moments g c =
     let disk = c.args.disk.now in
     let five : length c.args.words.now ≡ 5 = omega (arith, c.in-len5.len_at_least, c.in-len5.len_below) in
     let keep = ap (is_word (codes "keep")) (sym c.as_str.ensures.value) ∙ sym c.if-eq.ensures in
-    let form = keep_words c.args.words.now c.first-item.result c.cell-item.result c.out-item.result c.script-item.result five c.first-item.is c.cell-item.is c.out-item.is
+    let form = keep_words c.args.words.now c.first-item.result c.cell-item.result c.out-item.result c.script-item.result five c.first-item.is c.cell-item.is
+    c.out-item.is
     c.script-item.is keep
     ∙ (λ i. Some (keep_form (sym c.as_str-then-eq.ensures.value i) (sym c.as_str-then-eq-2.ensures.value i) (sym c.as_str-then-eq-3.ensures.value i))) in
     subst (λ (f : Option KeepForm). IfSome (g.D.Disk.content disk) (λ file. LeavesOnly g.D.Disk.moment g.D.Disk.left_since disk c.kept_work.new.disk
