@@ -31,8 +31,14 @@ module _ (file : List ℕ) (end : ℕ) (part : List ℕ) (within : end < length 
   before_mark mark = take_at (take end file) (mark ∷ (part ++ behind)) end front
 
   pub long : (mark : ℕ) → end + 1 ≤ length (with_part file end mark part)
-  long mark = omega (arith, front, ap length (regrouped mark), length-append (take end file ++ mark ∷ []) (part ++ behind), length-append (take end file)
-  (mark ∷ []))
+  long mark = omega (
+    arith,
+    front,
+    ap length (regrouped mark),
+    length-append (take end file ++ mark ∷ []) (part ++ behind),
+    length-append (take end file)
+        (mark ∷ []),
+  )
 
   -- the mark is written over the byte at the place
   pub remarked : (mark other : ℕ) → overlaid end (other ∷ []) (with_part file end mark part) ≡ with_part file end other part

@@ -60,7 +60,7 @@ kept_on content images c commits script journal (Ok kept) run still whole = reco
   read_back = run.read_back;
   left = if_some _ _ (content journal.disk.now) (still.standing whole) (λ file told standing. (
     inr (subst (λ (l : List AcceptedCommit). IsListOf c file l) run.commits_are
-    (subst (λ (d : Cell). IsListOf d file (history_of journal.book).commits) run.opening standing.list)),
+        (subst (λ (d : Cell). IsListOf d file (history_of journal.book).commits) run.opening standing.list)),
     standing.kept,
   ));
 }

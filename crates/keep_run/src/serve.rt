@@ -63,7 +63,9 @@ fn serve<R: Threads + Sync, L: Ledger, D: Disk>(
         }
         Command::List(shown) => {
             let book = journal.book();
-            session.transcript.push_list(book.commits(), *shown, book.bench())?;
+            session
+                .transcript
+                .push_list(book.commits(), *shown, book.bench())?;
         }
         Command::Push(edit) => session.push_edit(alloc, edit)?,
         Command::Guard(name) => session.push_guard(*name)?,

@@ -11,7 +11,8 @@ use std::test::Fail;
 use std::thread::Threads;
 
 /// Three commits.
-const SCRIPT: &[u8] = b"add vi 1 1 d=100,100,52\ncommit\ndel fe 2\ncommit\nadd vi 2 1 d=200,200,52\ncommit\n";
+const SCRIPT: &[u8] =
+    b"add vi 1 1 d=100,100,52\ncommit\ndel fe 2\ncommit\nadd vi 2 1 d=200,200,52\ncommit\n";
 
 /// How what an empty script puts begins behind none, one, two and all of them.
 const BEGINNINGS: [&[u8]; 4] = [
@@ -45,7 +46,9 @@ fn kept<R: Threads + Sync>(
 
 /// How many of the commits a text that was put is behind.
 fn count_in(text: &[u8]) -> Option<usize> {
-    BEGINNINGS.iter().position(|beginning| text.starts_with(beginning))
+    BEGINNINGS
+        .iter()
+        .position(|beginning| text.starts_with(beginning))
 }
 
 #[test]
@@ -66,7 +69,9 @@ fn each_image_opens_with_all_that_was_acknowledged(rt: HostRuntime) -> Result<()
             }
             let (status, text) = kept(&rt, alloc, b"", &mut left)?;
             assert_eq!(rt; status, Status::Done);
-            let count = count_in(&text).ok_or("the text is behind a beginning of the commits")? as u64;
+            let count = count_in(&text).ok_or(
+                "the text is behind a beginning of the commits",
+            )? as u64;
             assert!(rt; acknowledged <= count && count <= acknowledged + 1);
         }
     }

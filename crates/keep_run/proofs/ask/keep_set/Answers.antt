@@ -4,7 +4,6 @@ use Rattle.rule_spec.specs.Affected.{RowsAreExact}
 use Rattle.commit_book.specs.Books.{BookState, history_of}
 use Rattle.commit_book.specs.Prepared.{AreRight}
 use Rattle.crash_disk.specs.Disk.{LeavesOnly}
-
 use Rattle.book_journal.specs.Keeping.{HasOrHasNot}
 use Rattle.book_journal.proofs.Taking.{rows_right}
 use Rattle.std.specs.Prelude.{IfSome}

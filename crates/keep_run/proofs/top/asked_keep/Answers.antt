@@ -24,7 +24,7 @@ returns-in_default-clause-asked g c =
         → IsAskedIn (form_of (map string_bytes c.args.words.now)) (g.H.Shelf.files c.args.shelf.now) reads reads (g.D.Disk.content disk)
         (g.D.Disk.content disk) (g.D.Disk.faults disk) (g.D.Disk.faults disk) (g.D.Disk.images disk) (Err Usage)
     none_asked is = subst (λ (f : Option KeepForm). IsAskedIn f (g.H.Shelf.files c.args.shelf.now) reads reads (g.D.Disk.content disk)
-    (g.D.Disk.content disk) (g.D.Disk.faults disk) (g.D.Disk.faults disk) (g.D.Disk.images disk) (Err Usage)) (sym is) refl
+        (g.D.Disk.content disk) (g.D.Disk.faults disk) (g.D.Disk.faults disk) (g.D.Disk.images disk) (Err Usage)) (sym is) refl
 
 pub returns-in_default-clause-moments : goal.returns-in_default-clause-moments
 returns-in_default-clause-moments g c =

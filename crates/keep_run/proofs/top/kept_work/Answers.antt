@@ -49,4 +49,3 @@ returns-in-Err-read_session-clause-moments g c =
     let disk = c.args.disk.now in
     not_asked g.D.Disk.moment g.D.Disk.left_since g.D.Disk.images (Some (keep_form c.args.cell.now c.args.out.now c.args.script.now))
     (g.H.Shelf.files c.args.shelf.now) (g.D.Disk.content disk) disk (g.met.D.Disk.only_now disk)
-

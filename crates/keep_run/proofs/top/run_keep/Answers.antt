@@ -282,4 +282,3 @@ returns-in-Ok-clause-usage g c =
     let cause : IsCause words before after content now faults faults_now images c.finish.result =
     done_cause before after content now faults faults_now images (form_of words) work c.finish.result asked done in
     usage words before after content now faults faults_now images c.finish.result cause
-
