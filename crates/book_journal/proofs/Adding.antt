@@ -1,5 +1,6 @@
 -- The calls of a disk while an entry is added, one after the other.
-use Rattle.std.proofs.Common.{◌≡◌, ◌↔◌, inl, ℕ, ◌+◌, ◌<◌, ◌≤◌, List, [], ◌∷◌, length, take, get_or, Option, None, Some, IfSome, IsSome, refl, sym, ap, subst, ◌∙◌, arith}
+use Rattle.std.proofs.Common.{◌≡◌, ◌↔◌, inl, ℕ, ◌+◌, ◌<◌, ◌≤◌, List, [], ◌∷◌, length, take, get_or, Option, None, Some, IfSome, IsSome, refl, sym, ap}
+use Rattle.std.proofs.Common.{subst, ◌∙◌, arith}
 use Rattle.std.proofs.lemmas.Bool.{false≢true}
 use Rattle.enc_outside.specs.Files.{Told}
 use Rattle.crash_disk.specs.Disk.{Elapses, Follows, Holds, LeavesOnly, NoMore, Only, Torn, overlaid}
@@ -51,7 +52,8 @@ module _ {D : Type 0} (content : D → Option (List ℕ)) (images : D → List �
             false≢true (subst (λ (q : Option (List ℕ)). IsSome q) none before)
 
         -- the mark is written within it
-        pub mark_within : (o : Option (List ℕ)) → o ≡ content kept → (before : Option (List ℕ)) → before ≡ content old → IfSome o (λ (there : List ℕ). end ≤ length there)
+        pub mark_within : (o : Option (List ℕ)) → o ≡ content kept → (before : Option (List ℕ)) → before ≡ content old → IfSome o
+            (λ (there : List ℕ). end ≤ length there)
         mark_within None is before was = tt
         mark_within (Some there) is None was = absurd (none_told (sym was) (Some there) (is ∙ same) refl)
         mark_within (Some there) is (Some file) was =

@@ -1,5 +1,6 @@
 -- A journal whose book answers, and what is kept of it.
-use Rattle.std.proofs.Common.{◌≡◌, ℕ, ◌+◌, ◌<◌, ◌≤◌, ◌^◌, false, List, [], ◌∷◌, ◌++◌, length, Option, None, Some, IfSome, IsSome, IfOk, IfErr, Result, Ok, Err, refl, sym, ap, subst, ◌∙◌, arith, length-append}
+use Rattle.std.proofs.Common.{◌≡◌, ℕ, ◌+◌, ◌<◌, ◌≤◌, ◌^◌, false, List, [], ◌∷◌, ◌++◌, length, Option, None, Some, IfSome, IsSome, IfOk, IfErr, Result, Ok}
+use Rattle.std.proofs.Common.{Err, refl, sym, ap, subst, ◌∙◌, arith, length-append}
 use Rattle.std.proofs.lemmas.Bool.{false≢true}
 use Rattle.s57_types.specs.declared.cell.Cell.{Cell}
 use Rattle.edit_sets.specs.FormFault.{form_fault}
@@ -79,7 +80,8 @@ module _ {D : Type 0} (content : D → Option (List ℕ)) (images : D → List �
   }
 
   -- what an entry is added to
-  pub stands_ready : journal.broken ≡ false → IfSome (content journal.disk.now) (λ (file : List ℕ). (journal.end < length file) × Only file (images journal.disk.now))
+  pub stands_ready : journal.broken ≡ false → IfSome (content journal.disk.now)
+      (λ (file : List ℕ). (journal.end < length file) × Only file (images journal.disk.now))
   stands_ready whole = if_some _ _ (content journal.disk.now) (still.standing whole) (λ file told standing.
       (standing_within journal.book.opening (history_of journal.book).commits journal.end (images journal.disk.now) file standing, standing.kept))
 
@@ -90,12 +92,14 @@ module _ {D : Type 0} (content : D → Option (List ℕ)) (images : D → List �
         (HasOrHasNot journal.book.opening (history_of journal.book).commits one))
     nothing_written only_now = if_some _ _ (content journal.disk.now) (still.standing whole) (λ file told standing.
         started moment left_since journal.disk.now (HasOrHasNot journal.book.opening (history_of journal.book).commits one)
-        (λ image left. yet journal.book.opening (history_of journal.book).commits one journal.end (images journal.disk.now) file standing image (only_now image left)))
+        (λ image left. yet journal.book.opening (history_of journal.book).commits one journal.end (images journal.disk.now) file standing image
+        (only_now image left)))
 
     module _ (part : List ℕ) (part_is : part ≡ entry_part one.desk (edit_lines one.edits) ++ 0 ∷ [])
         (accepted : IsAcceptedBehind journal.book.opening (history_of journal.book).commits one) (new : D) where
       -- while an entry is added
-      pub entry_written : IfSome (content journal.disk.now) (λ (file : List ℕ). LeavesOnly moment left_since journal.disk.now new (IsTornEntry file journal.end part))
+      pub entry_written : IfSome (content journal.disk.now) (λ (file : List ℕ). LeavesOnly moment left_since journal.disk.now new
+          (IsTornEntry file journal.end part))
           → IfSome (content journal.disk.now) (λ (file : List ℕ). LeavesOnly moment left_since journal.disk.now new
           (HasOrHasNot journal.book.opening (history_of journal.book).commits one))
       entry_written moments = if_some _ _ (content journal.disk.now) (still.standing whole) (λ file told standing.
@@ -127,7 +131,8 @@ asked_accepted old new desk prepared reply entered is desk_fits level lines form
     })
 
 -- the journal once the entry is kept
-pub still_more : {D : Type 0} (content : D → Option (List ℕ)) (images : D → List ℕ → Type 0) (old new : Journal D) → IsStill content images old → old.broken ≡ false
+pub still_more : {D : Type 0} (content : D → Option (List ℕ)) (images : D → List ℕ → Type 0) (old new : Journal D) → IsStill content images old → old.broken
+    ≡ false
     → (desk : ℕ) (prepared : PreparedCommit) (reply : Reply) → IsEntered old.book desk (Commit prepared.base prepared.edits) new.book reply → IsAcceptance reply
     → IsAcceptedBehind old.book.opening (history_of old.book).commits (commit_asked desk prepared) → (part : List ℕ) → IsPartOf desk prepared part
     → new.end ≡ old.end + length part → (IsSome (content new.disk.now) → IsSome (content old.disk.now))
@@ -160,7 +165,8 @@ still_more {D} content images old new still whole desk prepared reply entered is
         let more = stands_more c commits one old.end before part standing.list standing.place_is part_of.part_is accepted (images new.disk.now)
         (some_at _ (content old.disk.now) before (sym was) only) in
         let placed = subst (λ (n : ℕ). IsStanding c (commits ++ one ∷ []) n (images new.disk.now) (with_entry before old.end part)) (sym end) more in
-        let opened = subst (λ (d : Cell). IsStanding d (commits ++ one ∷ []) new.end (images new.disk.now) (with_entry before old.end part)) (sym entered.opening) placed in
+        let opened = subst (λ (d : Cell). IsStanding d (commits ++ one ∷ []) new.end (images new.disk.now) (with_entry before old.end part))
+        (sym entered.opening) placed in
         let listed = subst (λ (l : List AcceptedCommit). IsStanding new.book.opening l new.end (images new.disk.now) (with_entry before old.end part))
         (sym (commits_accepted old.book new.book desk prepared.base prepared.edits reply entered is)) opened in
         subst (λ (l : List ℕ). IsStanding new.book.opening (history_of new.book).commits new.end (images new.disk.now) l) (sym file_is) listed

@@ -1,5 +1,6 @@
 -- An entry more in a list that stands, and what a crash leaves meanwhile.
-use Rattle.std.proofs.Common.{◌≡◌, inl, inr, ℕ, ◌+◌, ◌<◌, List, [], ◌∷◌, ◌++◌, length, take, drop, sym, ap, subst, ◌∙◌, arith, append_assoc, length-append, take-append-drop}
+use Rattle.std.proofs.Common.{◌≡◌, inl, inr, ℕ, ◌+◌, ◌<◌, List, [], ◌∷◌, ◌++◌, length, take, drop, sym, ap, subst, ◌∙◌, arith, append_assoc, length-append}
+use Rattle.std.proofs.Common.{take-append-drop}
 use Rattle.std.proofs.lemmas.Bool.{cases_eq}
 use Rattle.std.proofs.lemmas.List.{take_at}
 use Rattle.s57_types.specs.declared.cell.Cell.{Cell}
@@ -85,7 +86,8 @@ module _ (c : Cell) (commits : List AcceptedCommit) (one : AcceptedCommit) (end 
   torn_keeps accepted image (inl same) = inl (inr (as_it_was image same))
   torn_keeps accepted image (inr (mark, is)) =
       elim (cases_eq mark 1) [
-        | inl marked ↦ inr (inr (subst (λ (l : List ℕ). IsListOf c l (commits ++ one ∷ [])) (sym (is ∙ ap (λ (m : ℕ). with_part file end m part) marked)) (with_mark accepted)))
+        | inl marked ↦ inr (inr (subst (λ (l : List ℕ). IsListOf c l (commits ++ one ∷ [])) (sym (is ∙ ap (λ (m : ℕ). with_part file end m part) marked))
+            (with_mark accepted)))
         | inr other ↦ inl (inr (subst (λ (l : List ℕ). IsListOf c l commits) (sym is) (without_mark mark other)))
       ]
 

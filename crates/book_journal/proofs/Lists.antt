@@ -1,5 +1,6 @@
 -- Lists of entries: one commit more, and the places where they are damaged.
-use Rattle.std.proofs.Common.{◌≡◌, ℕ, ◌+◌, ◌<◌, ◌^◌, List, [], ◌∷◌, ◌++◌, length, take, fold, Option, None, Some, refl, sym, ap, subst, ◌∙◌, arith, append_assoc, append-nil}
+use Rattle.std.proofs.Common.{◌≡◌, ℕ, ◌+◌, ◌<◌, ◌^◌, List, [], ◌∷◌, ◌++◌, length, take, fold, Option, None, Some, refl, sym, ap, subst, ◌∙◌, arith}
+use Rattle.std.proofs.Common.{append_assoc, append-nil}
 use Rattle.std.specs.List.{enumerate_from, filter_map}
 use Rattle.std.specs.Option.{option_map_or}
 use Rattle.std.proofs.Math.Seq.{take-length}
@@ -74,7 +75,8 @@ pub accepting : (refusal : Option StateRefusal) (number findings : ℕ) → refu
 accepting None number findings none = tt
 accepting (Some why) number findings none = cc
 
-pub accepting_none : (refusal : Option StateRefusal) (number findings : ℕ) → IsAcceptance (option_map_or Refused refusal (Accepted number findings)) → refusal ≡ None
+pub accepting_none : (refusal : Option StateRefusal) (number findings : ℕ) → IsAcceptance (option_map_or Refused refusal (Accepted number findings)) →
+    refusal ≡ None
 accepting_none None number findings is = refl
 accepting_none (Some why) number findings is = absurd is
 
@@ -126,7 +128,8 @@ module _ (c : Cell) (commits : List AcceptedCommit) where
       read = subst (IsReadTo c file commits) entry.bytes_are read;
       place_is = refl;
       bad = λ one after is behind_it accepted.
-          let same = marked_same desk one.desk text (edit_lines one.edits) behind after entry.desk_fits accepted.entry.desk entry.text_fits accepted.entry.text is in
+          let same = marked_same desk one.desk text (edit_lines one.edits) behind after entry.desk_fits accepted.entry.desk entry.text_fits
+          accepted.entry.text is in
           not_taken one.edits (subst (λ (l : List ℕ). AreTaken (cell_after (length commits) commits c) l one.edits) (sym same.1) (accepted_taken one accepted));
     }
 

@@ -1,5 +1,6 @@
 -- Entries as bytes: what they are made of can be read off them.
-use Rattle.std.proofs.Common.{◌≡◌, ℕ, ◌+◌, ◌<◌, ◌≤◌, ◌^◌, zero, suc, List, [], ◌∷◌, ◌++◌, length, take, drop, get_or, refl, sym, ap, subst, ◌∙◌, arith, append_assoc, length-append, length-drop, length-take, take-append-drop}
+use Rattle.std.proofs.Common.{◌≡◌, ℕ, ◌+◌, ◌<◌, ◌≤◌, ◌^◌, zero, suc, List, [], ◌∷◌, ◌++◌, length, take, drop, get_or, refl, sym, ap, subst, ◌∙◌, arith}
+use Rattle.std.proofs.Common.{append_assoc, length-append, length-drop, length-take, take-append-drop}
 use Rattle.std.specs.Int.{w32, from_le_bytes, to_le_bytes}
 use Rattle.std.proofs.lemmas.List.{take_at, drop_at}
 use Rattle.std.proofs.lemmas.Nat.{from_le_bytes-to_le_bytes_4, le_bytes_4}
@@ -87,15 +88,18 @@ pub cut_no_entry : (bytes behind after last : List ℕ) (desk size : ℕ) → de
     → after ≡ four_bytes size ++ last → length last ≤ size → HasNoEntry bytes
 cut_no_entry bytes behind after last desk size desk_fits size_fits is behind_is after_is short other text rest entry =
     let whole : entry_part other text ++ rest ≡ behind = ap (λ (l : List ℕ). drop 1 l) (sym entry.bytes_are ∙ is) in
-    let desks = four_same other desk entry.desk_fits desk_fits (four_bytes (length text) ++ (text ++ rest)) after (sym (part_split other text rest) ∙ whole ∙ behind_is) in
+    let desks = four_same other desk entry.desk_fits desk_fits (four_bytes (length text) ++ (text ++ rest)) after
+    (sym (part_split other text rest) ∙ whole ∙ behind_is) in
     let sizes = four_same (length text) size entry.text_fits size_fits (text ++ rest) last (desks.1 ∙ after_is) in
     omega (arith, sizes.0, ap length sizes.1, length-append text rest, entry.more, short)
 
-pub cut_entry : (bytes behind after last text rest : List ℕ) (desk size : ℕ) → desk < 2 ^ 32 → size < 2 ^ 32 → bytes ≡ 1 ∷ behind → behind ≡ four_bytes desk ++ after
+pub cut_entry : (bytes behind after last text rest : List ℕ) (desk size : ℕ) → desk < 2 ^ 32 → size < 2 ^ 32 → bytes ≡ 1 ∷ behind → behind ≡ four_bytes desk
+    ++ after
     → after ≡ four_bytes size ++ last → size < length last → text ≡ take size last → rest ≡ drop size last → IsEntryOf bytes desk text rest
 cut_entry bytes behind after last text rest desk size desk_fits size_fits is behind_is after_is more text_is rest_is =
     let sized : length text ≡ size = omega (arith, ap length text_is, length-take size last, more) in
-    let whole : last ≡ text ++ rest = sym (take-append-drop size last) ∙ ap (λ (l : List ℕ). l ++ drop size last) (sym text_is) ∙ ap (λ (l : List ℕ). text ++ l) (sym rest_is) in
+    let whole : last ≡ text ++ rest = sym (take-append-drop size last) ∙ ap (λ (l : List ℕ). l ++ drop size last) (sym text_is) ∙ ap
+    (λ (l : List ℕ). text ++ l) (sym rest_is) in
     record {
       bytes_are = is
           ∙ ap (λ (l : List ℕ). 1 ∷ l) (behind_is

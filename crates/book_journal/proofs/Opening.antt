@@ -1,5 +1,6 @@
 -- Opening a journal: what a crash leaves is read as before.
-use Rattle.std.proofs.Common.{◌≡◌, inl, ℕ, ◌<◌, ◌≤◌, List, [], ◌∷◌, length, Option, None, Some, IfSome, IsSome, Result, Ok, Err, refl, sym, ap, subst, ◌∙◌, arith}
+use Rattle.std.proofs.Common.{◌≡◌, inl, ℕ, ◌<◌, ◌≤◌, List, [], ◌∷◌, length, Option, None, Some, IfSome, IsSome, Result, Ok, Err, refl, sym, ap, subst, ◌∙◌}
+use Rattle.std.proofs.Common.{arith}
 use Rattle.std.proofs.lemmas.Bool.{false≢true}
 use Rattle.s57_types.specs.declared.cell.Cell.{Cell}
 use Rattle.history_spec.specs.Steps.{AcceptedCommit}
@@ -28,9 +29,11 @@ short_read c file other (Err place) short also damaged = absurd (omega (arith, s
 pub short_alike : (c : Cell) (file other : List ℕ) → length file ≤ 1 → length other ≤ 1 → AreAlike c file other
 short_alike c file other short also reading = (short_read c file other reading short also, short_read c other file reading also short)
 
-module _ {D : Type 0} (content : D → Option (List ℕ)) (images : D → List ℕ → Type 0) (moment : D → ℕ) (left_since : D → ℕ → List ℕ → Type 0) (c : Cell) (old : D) where
+module _ {D : Type 0} (content : D → Option (List ℕ)) (images : D → List ℕ → Type 0) (moment : D → ℕ) (left_since : D → ℕ → List ℕ → Type 0) (c : Cell)
+    (old : D) where
   -- while the disk is read
-  pub read_as_before : (mid : D) → LeavesOnly moment left_since old mid (images old) → IfSome (content old) (λ (file : List ℕ). LeavesOnly moment left_since old mid (IsAsBefore c (images old)))
+  pub read_as_before : (mid : D) → LeavesOnly moment left_since old mid (images old) → IfSome (content old)
+      (λ (file : List ℕ). LeavesOnly moment left_since old mid (IsAsBefore c (images old)))
   read_as_before mid moments = always (content old)
     where
       leaves : LeavesOnly moment left_since old mid (IsAsBefore c (images old))
@@ -75,7 +78,8 @@ read_standing c file book place images more replayed only =
     record { list = record { rest = replayed.rest; read = read.0; ends = read.1 }; place_is = replayed.place_is; kept = only }
 
 -- what is told after an empty list was made
-pub begun_told : {D : Type 0} (content : D → Option (List ℕ)) (images : D → List ℕ → Type 0) (c : Cell) (book : BookState) (place : ℕ) (file : List ℕ) (mid new : D)
+pub begun_told : {D : Type 0} (content : D → Option (List ℕ)) (images : D → List ℕ → Type 0) (c : Cell) (book : BookState) (place : ℕ) (file : List ℕ)
+    (mid new : D)
     → length file ≤ 1 → IsReplayed c file book place → (IsSome (content new) → IsSome (content mid))
     → IfSome (content mid) (λ (bytes : List ℕ). content new ≡ Some (0 ∷ [])) → IfSome (content mid) (λ (bytes : List ℕ). Only (0 ∷ []) (images new))
     → IfSome (content new) (IsStanding c (history_of book).commits place (images new))
@@ -92,7 +96,8 @@ begun_told {D} content images c book place file mid new short replayed told byte
         (begun_standing c file book place (images new) short replayed (some_at _ (content mid) before (sym was) only))
 
 -- a file that is read has as many bytes as were read
-pub read_short : (o : Option (List ℕ)) (bytes : List ℕ) → IfSome o (λ (file : List ℕ). bytes ≡ file) → length bytes ≤ 1 → IfSome o (λ (file : List ℕ). length file ≤ 1)
+pub read_short : (o : Option (List ℕ)) (bytes : List ℕ) → IfSome o (λ (file : List ℕ). bytes ≡ file) → length bytes ≤ 1 → IfSome o
+    (λ (file : List ℕ). length file ≤ 1)
 read_short o bytes read short = if_some _ _ o read (λ file told is. omega (arith, short, ap length is))
 
 pub read_journal : (c : Cell) (o : Option (List ℕ)) (bytes : List ℕ) (commits : List AcceptedCommit) → IfSome o (λ (file : List ℕ). bytes ≡ file)

@@ -46,7 +46,8 @@ book_more c file old new rest desk text behind to entry taken room =
     let longer = ap length taken.commits ∙ length-append commits (one ∷ []) in
     record {
       opening = taken.opening ∙ to.opening;
-      read = subst (λ (l : List AcceptedCommit). IsReadTo c file l behind) (sym taken.commits) (read_more c file commits one rest behind to.read before accepted);
+      read = subst (λ (l : List AcceptedCommit). IsReadTo c file l behind) (sym taken.commits)
+          (read_more c file commits one rest behind to.read before accepted);
       entries = omega (arith, taken.entries, to.entries, longer);
       few = omega (arith, longer, room);
       more = entry.more;

@@ -1,6 +1,7 @@
 -- Texts of edits as scripts.
 use borrow.Author.Tests.{ltb-false}
-use Rattle.std.proofs.Common.{IsTrue, ◌↔◌, MatchOption, Vec, get_or, zero, suc, ◌≡◌, ℕ, ◌<◌, ◌≤◌, ◌==◌, if◌then◌else◌, Bool, true, false, cond, List, [], ◌∷◌, ◌++◌, length, map, All, Option, None, Some, Result, Ok, Err, refl, sym, ap, subst, ◌∙◌, arith, nat_lt}
+use Rattle.std.proofs.Common.{IsTrue, ◌↔◌, MatchOption, Vec, get_or, zero, suc, ◌≡◌, ℕ, ◌<◌, ◌≤◌, ◌==◌, if◌then◌else◌, Bool, true, false, cond, List, []}
+use Rattle.std.proofs.Common.{◌∷◌, ◌++◌, length, map, All, Option, None, Some, Result, Ok, Err, refl, sym, ap, subst, ◌∙◌, arith, nat_lt}
 use Rattle.std.specs.Bool.{then_some}
 use Rattle.std.specs.Option.{option_map}
 use Rattle.std.specs.declared.alloc.Global.{Global}
@@ -33,7 +34,8 @@ form_few level edits none =
     let few = guarded (nat_lt edit_limit (length edits)) (TooMany (length edits)) (first_edit_fault level edits) some.1 in
     ltb-false 4096 (length edits) few.0
 
-line_of : (edits : List Edit) → AllByRecursion (λ (edit : Edit). IsCommand (Push edit)) edits → AllByRecursion IsLine (map (λ (edit : Edit). spoken (Push edit)) edits)
+line_of : (edits : List Edit) → AllByRecursion (λ (edit : Edit). IsCommand (Push edit)) edits → AllByRecursion IsLine
+    (map (λ (edit : Edit). spoken (Push edit)) edits)
 line_of [] all = tt
 line_of (edit ∷ edits) all = (all.0, line_of edits all.1)
 
@@ -72,7 +74,8 @@ script_lines text commands edits script is =
     All-from_recursion (λ (edit : Edit). IsCommand (Push edit)) edits
     (push_all edits (subst (AllByRecursion IsCommand) (sym script.commands_are ∙ is) spoken_ones))
 
-pub script_few : (text : List ℕ) (commands : List Command) (edits : List Edit) → IsScript text commands → commands ≡ map Push edits → length edits ≤ command_limit
+pub script_few : (text : List ℕ) (commands : List Command) (edits : List Edit) → IsScript text commands → commands ≡ map Push edits → length edits ≤
+    command_limit
 script_few text commands edits script is = let few = script.few in omega (arith, few, ap length is, length-map edits Push)
 
 has_lines : (edits : List Edit) → AllByRecursion (λ (edit : Edit). IsCommand (Push edit)) edits → AllByRecursion (λ (edit : Edit). has_line edit ≡ true) edits
@@ -151,7 +154,8 @@ pushed_same text script edits others is pushes are =
     pushes_same edits others (sym pushes ∙ commands)
 
 -- edits that a script pushes are those of the text where their lines are the text
-pub pushes_read : (text : List ℕ) (script : List Command) (edits : Vec Edit Global) (same : Bool) → IsScriptRead text (Some script) → script ≡ map Push edits.items
+pub pushes_read : (text : List ℕ) (script : List Command) (edits : Vec Edit Global) (same : Bool) → IsScriptRead text (Some script) → script ≡ map Push
+    edits.items
     → (IsTrue same ↔ (edit_lines edits.items ≡ text)) → AreEditsRead text (option_map (λ (v : Vec Edit Global). v.items) (then_some same edits))
 pushes_read text script edits true is pushes decides = record {
   are = record {

@@ -1,5 +1,6 @@
 -- What the two steps of adding an entry leave.
-use Rattle.std.proofs.Common.{◌≡◌, inl, inr, ℕ, ◌+◌, ◌<◌, ◌≤◌, List, [], ◌∷◌, ◌++◌, length, take, drop, get_or, sym, ap, subst, ◌∙◌, arith, append_assoc, length-append, take-append-drop}
+use Rattle.std.proofs.Common.{◌≡◌, inl, inr, ℕ, ◌+◌, ◌<◌, ◌≤◌, List, [], ◌∷◌, ◌++◌, length, take, drop, get_or, sym, ap, subst, ◌∙◌, arith, append_assoc}
+use Rattle.std.proofs.Common.{length-append, take-append-drop}
 use Rattle.std.proofs.lemmas.List.{take_at, drop_at, drop_more, length-take-le, take_more}
 use Rattle.crash_disk.specs.Disk.{Follows, Holds, Only, Torn, overlaid}
 use Rattle.book_journal.specs.Writing.{IsTornEntry, with_entry, with_part}
@@ -30,7 +31,14 @@ module _ (file : List ℕ) (end : ℕ) (part : List ℕ) (within : end < length 
   before_mark mark = take_at (take end file) (mark ∷ (part ++ behind)) end front
 
   pub long : (mark : ℕ) → end + 1 ≤ length (with_part file end mark part)
-  long mark = omega (arith, front, ap length (regrouped mark), length-append (take end file ++ mark ∷ []) (part ++ behind), length-append (take end file) (mark ∷ []))
+  long mark = omega (
+    arith,
+    front,
+    ap length (regrouped mark),
+    length-append (take end file ++ mark ∷ []) (part ++ behind),
+    length-append (take end file)
+        (mark ∷ []),
+  )
 
   -- the mark is written over the byte at the place
   pub remarked : (mark other : ℕ) → overlaid end (other ∷ []) (with_part file end mark part) ≡ with_part file end other part

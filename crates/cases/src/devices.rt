@@ -1,5 +1,6 @@
-//! The devices of a call: files and a sink in memory, of which one call may fail and which may move one byte at a time.
+//! The devices of a call: files, a sink and a disk in memory, of which one call may fail; files and sink may move one byte at a time.
 
+use crash_disk::{Disk, DiskFailed, MemDisk};
 use enc_outside::{Failed, Got, MemShelf, MemSink, Shelf, Sink};
 use std::alloc::{AllocError, Global};
 use std::collections::BTreeMap;
@@ -11,6 +12,8 @@ pub struct Manner {
     pub failing_store: u64,
     /// Which call of the sink fails, from 1, or 0.
     pub failing_sink: u64,
+    /// Which call of the disk fails, from 1, or 0.
+    pub failing_disk: u64,
     /// Whether each call moves one byte.
     pub is_slow: bool,
 }
@@ -20,6 +23,7 @@ impl Manner {
     pub const GOOD: Manner = Manner {
         failing_store: 0,
         failing_sink: 0,
+        failing_disk: 0,
         is_slow: false,
     };
 }
@@ -127,4 +131,22 @@ impl Sink for Paper {
             self.inner.put(bytes)
         }
     }
+}
+
+/// The calls that lay the bytes of a journal on a disk: a write and a sync.
+const LAYING_CALLS: u64 = 2;
+
+/// A disk with these bytes, all of them kept.
+pub fn disk_of(alloc: Global, bytes: &[u8], manner: Manner) -> Result<MemDisk, DiskFailed> {
+    let mut disk = MemDisk::make(alloc);
+    let mut failing = manner.failing_disk;
+    if !bytes.is_empty() {
+        disk.write_at(0, bytes)?;
+        disk.sync()?;
+        if failing > 0 {
+            failing = failing.saturating_add(LAYING_CALLS);
+        }
+    }
+    disk.fail_at(failing);
+    Ok(disk)
 }

@@ -2,10 +2,11 @@
 
 use crate::compare::{expect_beginning, expect_end, expect_file, expect_text};
 use crate::content::{Bases, take_line};
-use crate::devices::{Manner, Paper, Store};
+use crate::devices::{Manner, Paper, Store, disk_of};
 use crate::stop::Stop;
 use enc_outside::NoMeet;
 use enc_top::{Status, print_status, run};
+use keep_run::run_keep;
 use std::alloc::{AllocError, Global};
 use std::collections::BTreeMap;
 use std::mem;
@@ -19,6 +20,8 @@ enum Open {
     Nothing,
     /// A file of this name, as it is to be.
     File(String),
+    /// The journal, as it is to be.
+    Journal,
     /// The output of the last call, or its beginning or end.
     Output(Part),
 }
@@ -48,6 +51,8 @@ struct Ended {
     words: Vec<String>,
     store: Store,
     paper: Paper,
+    /// The bytes of the journal then.
+    journal: Vec<u8>,
     /// The words of its status.
     status: String,
     is_status_said: bool,
@@ -61,6 +66,8 @@ pub struct Stage<'a> {
     bases: &'a Bases,
     /// The files as they are to be: those that were given, and what calls are to leave.
     files: BTreeMap<String, Vec<u8>>,
+    /// The bytes of the journal as they are to be.
+    journal: Vec<u8>,
     manner: Manner,
     open: Open,
     content: Vec<u8>,
@@ -76,6 +83,7 @@ impl<'a> Stage<'a> {
             alloc,
             bases,
             files: BTreeMap::new(alloc),
+            journal: Vec::new(alloc),
             manner: Manner::GOOD,
             open: Open::Nothing,
             content: Vec::new(alloc),
@@ -98,12 +106,12 @@ impl<'a> Stage<'a> {
     ) -> Result<(), Stop> {
         let (word, rest) = line.split_once(' ').unwrap_or((line, ""));
         match word {
-            "file" | "call" | "store" | "sink" | "slowly" => {
+            "file" | "journal" | "call" | "store" | "sink" | "disk" | "slowly" => {
                 self.settle()?;
                 self.number = number;
                 self.prepare(rt, word, rest)
             }
-            "status" | "output" | "left" | "made" | "reads" => {
+            "status" | "output" | "left" | "kept" | "made" | "reads" => {
                 self.close()?;
                 self.number = number;
                 self.expect(word, rest)
@@ -128,6 +136,10 @@ impl<'a> Stage<'a> {
     ) -> Result<(), Stop> {
         match word {
             "file" => self.open_file(rest),
+            "journal" => {
+                self.open = Open::Journal;
+                Ok(())
+            }
             "call" => self.call(rt, rest),
             "slowly" => {
                 self.manner.is_slow = true;
@@ -150,6 +162,7 @@ impl<'a> Stage<'a> {
         };
         match device {
             "store" => self.manner.failing_store = call,
+            "disk" => self.manner.failing_disk = call,
             _ => self.manner.failing_sink = call,
         }
         Ok(())
@@ -160,12 +173,21 @@ impl<'a> Stage<'a> {
         let words = words_of(self.alloc, text)?;
         let mut store = Store::of(self.alloc, &self.files, self.manner)?;
         let mut paper = Paper::make(self.alloc, self.manner);
-        let status = run(rt, self.alloc, &words, &mut store, &mut paper, &NoMeet);
+        let Ok(mut disk) = disk_of(self.alloc, &self.journal, self.manner) else {
+            return Err(Stop::NoMemory);
+        };
+        let status = match words.as_slice() {
+            [first, ..] if first.as_str() == "keep" => {
+                run_keep(rt, self.alloc, &words, &mut store, &mut paper, &mut disk)
+            }
+            _ => run(rt, self.alloc, &words, &mut store, &mut paper, &NoMeet),
+        };
         self.manner = Manner::GOOD;
         self.ended = Some(Ended {
             words,
             store,
             paper,
+            journal: Vec::from_slice(self.alloc, disk.bytes())?,
             status: words_of_status(self.alloc, &status)?,
             is_status_said: false,
             is_output_said: false,
@@ -188,6 +210,10 @@ impl<'a> Stage<'a> {
                 expect_words(self.alloc, "reads", reads.as_str(), rest)
             }
             "left" => self.open_file(rest),
+            "kept" => {
+                self.open = Open::Journal;
+                Ok(())
+            }
             "made" => self.take_file(rest),
             _ => {
                 ended.is_output_said = true;
@@ -232,6 +258,10 @@ impl<'a> Stage<'a> {
                 self.files.insert(name, content)?;
                 Ok(())
             }
+            Open::Journal => {
+                self.journal = content;
+                Ok(())
+            }
             Open::Output(part) => self.expect_output(part, &content),
         }
     }
@@ -260,7 +290,13 @@ impl<'a> Stage<'a> {
         if !ended.is_output_said {
             expect_text(self.alloc, ended.paper.bytes(), b"")?;
         }
-        self.expect_files(&ended)
+        self.expect_files(&ended)?;
+        expect_file(
+            self.alloc,
+            "the journal",
+            Some(ended.journal.as_slice()),
+            &self.journal,
+        )
     }
 
     /// The files are as they are to be, and no others were made.

@@ -1,5 +1,6 @@
 -- Calls gone through in their order.
-use Rattle.std.proofs.Common.{◌≡◌, ℕ, ◌+◌, ◌<◌, min, List, [], ◌∷◌, ◌++◌, length, take, drop, replicate, get_or, Bool, true, false, ◌==◌, ◌%◌, if◌then◌else◌, refl, sym, ap, subst, ◌∙◌, arith, nat_le, length-append, length-drop, length-take, take-append-drop}
+use Rattle.std.proofs.Common.{◌≡◌, ℕ, ◌+◌, ◌<◌, min, List, [], ◌∷◌, ◌++◌, length, take, drop, replicate, get_or, Bool, true, false, ◌==◌, ◌%◌}
+use Rattle.std.proofs.Common.{if◌then◌else◌, refl, sym, ap, subst, ◌∙◌, arith, nat_le, length-append, length-drop, length-take, take-append-drop}
 use Rattle.std.proofs.lemmas.List.{take_more, reverse-append, length-replicate}
 use Rattle.std.proofs.lemmas.Bool.{leb-true}
 use Rattle.crash_disk.specs.Disk.{Torn, overlaid}
@@ -8,7 +9,8 @@ use Rattle.crash_disk.specs.MemDisk.{both_true, picked_image, read_is_image, tor
 use Rattle.crash_disk.specs.declared.mem_disk.Call.{Call}
 use Rattle.crash_disk.specs.declared.mem_disk.Call.TheVariants.{Idle, Wrote, Synced}
 
-pub length-overlaid : (at : ℕ) (bytes old : List ℕ) → length (overlaid at bytes old) ≡ min at (length old) + length bytes + length (drop (at + length bytes) old)
+pub length-overlaid : (at : ℕ) (bytes old : List ℕ) → length (overlaid at bytes old) ≡ min at (length old) + length bytes + length
+    (drop (at + length bytes) old)
 length-overlaid at bytes old =
     omega (arith, length-append (take at old ++ bytes) (drop (at + length bytes) old), length-append (take at old) bytes, length-take at old)
 
@@ -19,7 +21,8 @@ one_more calls i d lt = ap newest_first (take_more calls i d lt) ∙ reverse-app
 -- the earlier calls of calls that begin within are such
 pub within_front : (calls : List Call) → (others : List Call) → are_within (others ++ calls) ≡ true → are_within calls ≡ true
 within_front calls [] within = within
-within_front calls (call ∷ others) within = within_front calls others (both_true (is_within call (read_after (others ++ calls))) (are_within (others ++ calls)) within).1
+within_front calls (call ∷ others) within = within_front calls others (both_true (is_within call (read_after (others ++ calls)))
+    (are_within (others ++ calls)) within).1
 
 -- so are the first of calls
 pub within_up_to : (calls : List Call) (n : ℕ) → are_within (newest_first calls) ≡ true → are_within (newest_first (take n calls)) ≡ true

@@ -64,7 +64,8 @@ picked_image pick calls = if pick % 2 == 0 then read_after calls else filled (pi
 pub torn_by : (at : ℕ) (bytes old : List ℕ) → at ≤ length old → Torn at (length bytes) old (overlaid at bytes old)
 torn_by at bytes old within =
     let front = length-take-le at old within in
-    let pieces : overlaid at bytes old ≡ take at old ++ (bytes ++ drop (at + length bytes) old) = append_assoc (take at old) bytes (drop (at + length bytes) old) in
+    let pieces : overlaid at bytes old ≡ take at old ++ (bytes ++ drop (at + length bytes) old) = append_assoc (take at old) bytes
+    (drop (at + length bytes) old) in
     let sizes = length-append (take at old) (bytes ++ drop (at + length bytes) old) in
     let behind = length-append bytes (drop (at + length bytes) old) in
     record {

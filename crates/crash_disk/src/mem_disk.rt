@@ -80,7 +80,8 @@ impl MemDisk {
     ghost use Rattle.std.specs.Prelude.{◌≡◌, ◌+◌, ◌≤◌, ◌↔◌, [], IfOk, IsTrue, OnErr, OnOk, length};
     ghost use Rattle.enc_outside.specs.Count.{Counts, Rose};
     ghost use Rattle.crash_disk.specs.Calls.{IsImage};
-    ghost use Rattle.crash_disk.specs.MemDisk.{IsFailing, IsIdle, IsSame, IsWritten, calls_up_to, failed_calls, failing_call, mem_bytes, mem_calls, next_call, picked_image};
+    ghost use Rattle.crash_disk.specs.MemDisk.{IsFailing, IsIdle, IsSame, IsWritten, calls_up_to, failed_calls, failing_call, mem_bytes, mem_calls};
+    ghost use Rattle.crash_disk.specs.MemDisk.{next_call, picked_image};
 
     /// A disk without bytes, of which no call fails.
     pub fn make(alloc: Global) -> MemDisk

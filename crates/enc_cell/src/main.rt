@@ -1,8 +1,12 @@
 //! `enc_cell`: a workroom for one electronic navigational chart base cell.
 #![tactic(auto)]
 
+mod journal;
+
 use enc_outside::NoMeet;
 use enc_top::{Status, print_status, run};
+use journal::FileDisk;
+use keep_run::run_keep;
 use std::alloc::Global;
 use std::env;
 use std::fs::File;
@@ -29,14 +33,21 @@ fn read_words(rt: &(impl Env + AllocGlobal)) -> Result<Vec<String>, Status> {
     Ok(words)
 }
 
-/// Does what the words say on the real file store and standard output.
+/// Does what the words say on the real file store and standard output. The journal that `keep` names is a file of its own, which is none of the
+/// others.
 fn run_words<R: Threads + Wait + Sync + Files<File = File> + Print + AllocGlobal>(
     rt: &R,
     words: &[String],
 ) -> Status {
     let mut shelf = DiskShelf::new(rt);
     let mut out = StdSink::new(rt);
-    run(rt, rt.alloc(), words, &mut shelf, &mut out, &NoMeet)
+    match words {
+        [first, _, _, name, ..] if first.as_str() == "keep" => {
+            let mut disk = FileDisk::new(rt, name.as_str());
+            run_keep(rt, rt.alloc(), words, &mut shelf, &mut out, &mut disk)
+        }
+        _ => run(rt, rt.alloc(), words, &mut shelf, &mut out, &NoMeet),
+    }
 }
 
 /// The line of a status, or nothing where memory ran out.

@@ -2,6 +2,7 @@ mod calls;
 mod drawn;
 mod draws;
 mod edges;
+mod journal;
 mod lines;
 mod room;
 mod square;

@@ -9,7 +9,8 @@ returns-in_default c = no_set_read c.args.level c.args.text.now c.in_ok-edits.fi
 
 pub returns-in-Ok : goal.returns-in-Ok
 returns-in-Ok c =
-    set_read c.args.level c.args.text.now c.in-Some.edits.items c.in-Ok.set (rw c.in-Some.is at c.in_ok-edits.ensures) (rw c.deref.ensures.value at c.in-Ok.ensures)
+    set_read c.args.level c.args.text.now c.in-Some.edits.items c.in-Ok.set (rw c.in-Some.is at c.in_ok-edits.ensures)
+    (rw c.deref.ensures.value at c.in-Ok.ensures)
 
 pub returns-in-Err-Fault : goal.returns-in-Err-Fault
 returns-in-Err-Fault c =

@@ -41,7 +41,8 @@ returns-in-Ok-clause-still g c =
     let told = c.in_ok-told.ensures.ok in
     let part = c.in_ok-part.ensures.ok in
     let form = c.known-2.ensures.form in
-    let accepted = asked_accepted c.args.self.now.book c.commit.new.self c.args.desk c.args.prepared.now c.in_ok-told.told.reply told c.if-not-is_accepted.ensures
+    let accepted = asked_accepted c.args.self.now.book c.commit.new.self c.args.desk c.args.prepared.now c.in_ok-told.told.reply told
+    c.if-not-is_accepted.ensures
     (omega (arith, c.ranges.desk.fits)) c.requires.level c.requires.lines
     (subst (λ (set : GuardedEdits). form_fault set.nall set.edits set.guards ≡ None) c.edits.ensures form) part.short in
     let kept = c.in-Ok.ensures in
@@ -58,10 +59,12 @@ returns-in-Ok-clause-moments g c whole =
     let told = c.in_ok-told.ensures.ok in
     let part = c.in_ok-part.ensures.ok in
     let form = c.known-2.ensures.form in
-    let accepted = asked_accepted c.args.self.now.book c.commit.new.self c.args.desk c.args.prepared.now c.in_ok-told.told.reply told c.if-not-is_accepted.ensures
+    let accepted = asked_accepted c.args.self.now.book c.commit.new.self c.args.desk c.args.prepared.now c.in_ok-told.told.reply told
+    c.if-not-is_accepted.ensures
     (omega (arith, c.ranges.desk.fits)) c.requires.level c.requires.lines
     (subst (λ (set : GuardedEdits). form_fault set.nall set.edits set.guards ≡ None) c.edits.ensures form) part.short in
-    entry_written g.D.Disk.content g.D.Disk.images c.args.self.now c.requires.still g.D.Disk.moment g.D.Disk.left_since (commit_asked c.args.desk c.args.prepared.now) c.if-self.false c.deref.result.now
+    entry_written g.D.Disk.content g.D.Disk.images c.args.self.now c.requires.still g.D.Disk.moment g.D.Disk.left_since
+    (commit_asked c.args.desk c.args.prepared.now) c.if-self.false c.deref.result.now
     (c.deref.ensures.value ∙ part.part_is) accepted c.keep.new.self.disk.now c.keep.ensures.moments
 
 pub returns-clause-moments : goal.returns-clause-moments
@@ -69,8 +72,10 @@ returns-clause-moments g c whole =
     let told = c.in_ok-told.ensures.ok in
     let part = c.in_ok-part.ensures.ok in
     let form = c.known-2.ensures.form in
-    let accepted = asked_accepted c.args.self.now.book c.commit.new.self c.args.desk c.args.prepared.now c.in_ok-told.told.reply told c.if-not-is_accepted.ensures
+    let accepted = asked_accepted c.args.self.now.book c.commit.new.self c.args.desk c.args.prepared.now c.in_ok-told.told.reply told
+    c.if-not-is_accepted.ensures
     (omega (arith, c.ranges.desk.fits)) c.requires.level c.requires.lines
     (subst (λ (set : GuardedEdits). form_fault set.nall set.edits set.guards ≡ None) c.edits.ensures form) part.short in
-    entry_written g.D.Disk.content g.D.Disk.images c.args.self.now c.requires.still g.D.Disk.moment g.D.Disk.left_since (commit_asked c.args.desk c.args.prepared.now) c.if-self.false c.deref.result.now
+    entry_written g.D.Disk.content g.D.Disk.images c.args.self.now c.requires.still g.D.Disk.moment g.D.Disk.left_since
+    (commit_asked c.args.desk c.args.prepared.now) c.if-self.false c.deref.result.now
     (c.deref.ensures.value ∙ part.part_is) accepted c.keep.new.self.disk.now c.keep.ensures.moments

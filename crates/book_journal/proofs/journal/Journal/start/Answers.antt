@@ -14,4 +14,5 @@ over-requires-clause-standing g c =
 
 pub returns-in-Err-clause-err : goal.returns-in-Err-clause-err
 returns-in-Err-clause-err g c =
-    cause_of c.args.cell (g.D.Disk.content c.args.disk.now) (g.D.Disk.faults c.args.disk.now) (g.D.Disk.faults c.open_book.new.disk) c.in-Err.why c.in-Err.ensures.err
+    cause_of c.args.cell (g.D.Disk.content c.args.disk.now) (g.D.Disk.faults c.args.disk.now) (g.D.Disk.faults c.open_book.new.disk) c.in-Err.why
+    c.in-Err.ensures.err

@@ -1,0 +1,123 @@
+//! The real disk of a journal.
+
+ghost use Rattle.std.specs.Prelude.{◌≡◌, None, Unit};
+
+use crash_disk::{Disk, DiskFailed};
+use std::fs::{File, OpenOptions};
+use std::io;
+use std::os::unix::fs::FileExt;
+use std::rt::Files;
+
+/// A disk over a file of the file system. The file is opened, and made where it isn't there, at the first call. It tells contracts nothing of its
+/// bytes.
+#[derive(Drop)]
+pub struct FileDisk<'a, R: Files<File = File>> {
+    rt: &'a R,
+    name: &'a str,
+    file: Option<File>,
+    faults: u64,
+}
+
+/// Opens a file to read and write it, and makes it where it isn't there. The folder's entry of it is kept, too, once it is open.
+fn open_or_make<R: Files<File = File>>(rt: &R, name: &str) -> io::Result<File> {
+    let mut options = OpenOptions::new();
+    options.read(true);
+    options.write(true);
+    options.create(true);
+    let file = options.open(rt, name)?;
+    File::open(rt, folder_of(name))?.sync_all()?;
+    Ok(file)
+}
+
+/// The folder that a file stands in.
+fn folder_of(name: &str) -> &str {
+    match name.rsplit_once('/') {
+        Some(("", _)) => "/",
+        Some((folder, _)) => folder,
+        None => ".",
+    }
+}
+
+impl<'a, R: Files<File = File>> FileDisk<'a, R> {
+    /// The disk over the file of this name.
+    pub fn new(rt: &'a R, name: &'a str) -> FileDisk<'a, R> {
+        FileDisk {
+            rt,
+            name,
+            file: None,
+            faults: 0,
+        }
+    }
+
+    /// The file, opened.
+    fn opened(&mut self) -> io::Result<&File>
+        ensures { self.new.faults ≡ self.old.faults }
+    {
+        if self.file.is_none() {
+            self.file = Some(open_or_make(self.rt, self.name)?);
+        }
+        match &self.file {
+            Some(file) => Ok(file),
+            None => unreachable!(),
+        }
+    }
+
+    /// How many bytes the file has.
+    fn measure(&mut self) -> io::Result<u64>
+        ensures { self.new.faults ≡ self.old.faults }
+    {
+        Ok(self.opened()?.metadata()?.len())
+    }
+
+    /// A call that failed.
+    fn failed(&mut self) -> DiskFailed {
+        self.faults = self.faults.saturating_add(1);
+        DiskFailed
+    }
+}
+
+impl<R: Files<File = File>> Disk for FileDisk<'_, R> {
+    ghost content = { λ _. None };
+
+    ghost images = { λ _ _. Unit {0} };
+
+    ghost moment = { λ _. 0 };
+
+    ghost left_since = { λ _ _ _. Unit {0} };
+
+    ghost faults = { λ d. d.faults };
+
+    ghost reads_an_image = { λ _. tt };
+
+    ghost counts_now = { λ _ _ _ _ _. tt };
+
+    ghost only_now = { λ _ _ _. tt };
+
+    fn length(&mut self) -> Result<u64, DiskFailed> {
+        match self.measure() {
+            Ok(length) => Ok(length),
+            Err(_) => Err(self.failed()),
+        }
+    }
+
+    fn read_at(&mut self, at: u64, into: &mut [u8]) -> Result<(), DiskFailed> {
+        match self.opened().and_then(|file| file.read_exact_at(into, at)) {
+            Ok(()) => Ok(()),
+            Err(_) => Err(self.failed()),
+        }
+    }
+
+    fn write_at(&mut self, at: u64, bytes: &[u8]) -> Result<(), DiskFailed> {
+        match self.opened().and_then(|file| file.write_all_at(bytes, at)) {
+            Ok(()) => Ok(()),
+            Err(_) => Err(self.failed()),
+        }
+    }
+
+    fn sync(&mut self) -> Result<(), DiskFailed> {
+        match self.opened().and_then(|file| file.sync_all()) {
+            Ok(()) => Ok(()),
+            Err(_) => Err(self.failed()),
+        }
+    }
+}

@@ -1,0 +1,93 @@
+-- A journal that is opened and kept: what ends it, what it gives, and what a crash leaves meanwhile.
+use Rattle.std.proofs.Common.{◌≡◌, inl, inr, false, ℕ, ◌≤◌, List, length, Option, None, Some, Result, Ok, Err, IfOk, OnOk, refl, subst, arith}
+use Rattle.std.specs.Prelude.{IfSome, IsSome}
+use Rattle.std.proofs.lemmas.Bool.{false≢true}
+use Rattle.enc_top.proofs.Answered.{rose_earlier}
+use Rattle.s57_types.specs.declared.cell.Cell.{Cell}
+use Rattle.rule_spec.specs.Findings.{finding_total}
+use Rattle.text_spec.specs.declared.command.Command.{Command}
+use Rattle.history_spec.specs.Steps.{AcceptedCommit, finding_limit}
+use Rattle.commit_book.specs.Books.{history_of}
+use Rattle.crash_disk.specs.Disk.{LeavesOnly}
+use Rattle.crash_disk.proofs.Moments.{then, weakened}
+use Rattle.book_journal.specs.Journals.{IsJournalOf, IsListOf}
+use Rattle.book_journal.specs.Keeping.{IsAsBefore}
+use Rattle.book_journal.specs.Opening.{IsOpenRefusal, LeavesBytes}
+use Rattle.book_journal.specs.Standing.{IsStill}
+use Rattle.book_journal.specs.declared.journal.Journal.{Journal}
+use Rattle.book_journal.specs.declared.refusal.OpenRefusal.{OpenRefusal}
+use Rattle.book_journal.specs.declared.refusal.OpenRefusal.TheVariants.{BadJournal, DiskFault, JournalFull, FindingsFull, NoMemory}
+use Rattle.book_journal.proofs.Told.{if_some}
+use Rattle.keep_run.specs.Keeps.{IsKeepEnd, IsKeptImage, IsKeptOn, IsKeptRun, IsOpenEnd, status_of, stop_status}
+use Rattle.keep_run.specs.Runs.{IsKeptTo}
+use Rattle.keep_run.specs.Stops.{IsStop}
+use Rattle.keep_run.specs.declared.report.Kept.{Kept}
+use Rattle.keep_run.specs.declared.stop.Stop.{Stop}
+use Rattle.keep_run.specs.declared.stop.Stop.TheVariants as stop
+
+-- ---- a journal that isn't opened
+module _ (c : Cell) (before now : Option (List ℕ)) (faults faults_now : ℕ) (few : finding_total c ≤ finding_limit) where
+  pub open_end : (why : OpenRefusal) → IsOpenRefusal c before faults faults_now why → IsOpenEnd why
+  open_end (BadJournal place) is = tt
+  open_end DiskFault is = tt
+  open_end (JournalFull count) is = tt
+  open_end FindingsFull is = absurd (omega (arith, few, is))
+  open_end NoMemory is = tt
+
+  pub open_ends : (why : OpenRefusal) → IsOpenRefusal c before faults faults_now why → LeavesBytes before now why
+      → IsKeepEnd c before now faults faults_now (status_of why)
+  open_ends (BadJournal place) is left = (is, left)
+  open_ends DiskFault is left = is
+  open_ends (JournalFull count) is left =
+      (if_some _ _ before is (λ file told long. record { commits = long.0; journal = long.1; more = long.2; count_is = long.3 }), left)
+  open_ends FindingsFull is left = tt
+  open_ends NoMemory is left = tt
+
+-- ---- a script that doesn't go on
+pub stop_ends : (c : Cell) (before now : Option (List ℕ)) (faults mid faults_now : ℕ) (why : Stop) → faults ≤ mid → IsStop mid faults_now why
+    → IsKeepEnd c before now faults faults_now (stop_status why)
+stop_ends c before now faults mid faults_now stop.DiskFault le is = rose_earlier faults mid faults_now le is
+stop_ends c before now faults mid faults_now stop.NoMemory le is = tt
+
+-- ---- a script that was run
+pub kept_on : {D : Type 0} (content : D → Option (List ℕ)) (images : D → List ℕ → Type 0) (c : Cell) (commits : List AcceptedCommit) (script : List Command)
+    (journal : Journal D) (result : Result Kept Stop) → IfOk result (IsKeptRun c commits script journal.book) → IsStill content images journal
+    → OnOk result (journal.broken ≡ false)
+    → IfOk result (IsKeptOn c commits script (content journal.disk.now) (images journal.disk.now))
+kept_on content images c commits script journal (Ok kept) run still whole = record {
+  text_is = run.text_is;
+  bytes_are = run.bytes_are;
+  read_back = run.read_back;
+  left = if_some _ _ (content journal.disk.now) (still.standing whole) (λ file told standing. (
+    inr (subst (λ (l : List AcceptedCommit). IsListOf c file l) run.commits_are
+        (subst (λ (d : Cell). IsListOf d file (history_of journal.book).commits) run.opening standing.list)),
+    standing.kept,
+  ));
+}
+kept_on content images c commits script journal (Err why) run still whole = tt
+
+-- ---- what a crash leaves
+module _ {D : Type 0} (moment : D → ℕ) (left_since : D → ℕ → List ℕ → Type 0) (content : D → Option (List ℕ)) (images : D → List ℕ → Type 0) (c : Cell)
+    (script : List Command) (old mid : D) (opened : IfSome (content old) (λ _. LeavesOnly moment left_since old mid (IsAsBefore c (images old)))) where
+  -- while the journal is opened
+  pub while_opened : IfSome (content old) (λ file. LeavesOnly moment left_since old mid (IsKeptImage c script file (images old)))
+  while_opened = if_some _ _ (content old) opened (λ file told is.
+      weakened moment left_since old mid (IsAsBefore c (images old)) (IsKeptImage c script file (images old)) is (λ image earlier. inl earlier))
+
+  -- and then, while the script is run over its commits
+  module _ (new : D) (commits : List AcceptedCommit) where
+    pub while_run : IfSome (content old) (λ file. IsJournalOf c file commits) → (IsSome (content old) → IsSome (content mid))
+        → IfSome (content mid) (λ _. LeavesOnly moment left_since mid new (IsKeptTo c commits script))
+        → IfSome (content old) (λ file. LeavesOnly moment left_since old new (IsKeptImage c script file (images old)))
+    while_run journal told during = by (content old) (content mid) while_opened journal told during
+      where
+        by : (a b : Option (List ℕ)) → IfSome a (λ file. LeavesOnly moment left_since old mid (IsKeptImage c script file (images old)))
+            → IfSome a (λ file. IsJournalOf c file commits) → (IsSome a → IsSome b)
+            → IfSome b (λ _. LeavesOnly moment left_since mid new (IsKeptTo c commits script))
+            → IfSome a (λ file. LeavesOnly moment left_since old new (IsKeptImage c script file (images old)))
+        by None b x is on y = tt
+        by (Some file) None x is on y = absurd (false≢true (on refl))
+        by (Some file) (Some other) x is on y =
+            then moment left_since old mid new (IsKeptImage c script file (images old)) x
+            (weakened moment left_since mid new (IsKeptTo c commits script) (IsKeptImage c script file (images old)) y
+            (λ image kept. inr (commits, is, kept)))

@@ -1,0 +1,62 @@
+use Rattle.std.proofs.Common.{List, refl, subst, sym, ◌∙◌, arith}
+use Rattle.text_spec.specs.declared.command.Command.{Command}
+use Rattle.commit_book.specs.Books.{history_of}
+use Rattle.keep_run.specs.Sessions.{IsRunTo, draft_of}
+use Rattle.keep_run.proofs.Looping.{at_start, ended, next_done, so_far}
+use Rattle.keep_run.proofs.serve.serve_all.Goals as goal
+
+pub loop-command-init : goal.loop-command-init
+loop-command-init g c =
+    let journal = c.args.journal.now in
+    let session = c.args.session.now in
+    let script = c.args.script.now in
+    record {
+      still = c.requires.still;
+      same_reference = refl;
+      whole = c.requires.whole;
+      stays_told = λ told. told;
+      run = subst (λ (rest : List Command). IsRunTo journal.book.opening (history_of journal.book).commits script rest journal.book (draft_of session)
+          session.transcript) (sym c.commands-command-items.ensures) c.requires.begun;
+      moments = at_start g.D.Disk.content g.D.Disk.images g.D.Disk.moment g.D.Disk.left_since journal script (draft_of session) session.transcript
+          c.requires.begun c.requires.still c.requires.whole (g.met.D.Disk.only_now journal.disk.now);
+      no_fall = omega arith;
+    }
+
+-- what a crash leaves up to a command that isn't done
+pub returns-in_err-serve-clause-moments : goal.returns-in_err-serve-clause-moments
+returns-in_err-serve-clause-moments g c =
+    let old = c.args.journal.now in
+    let before = c.loop-command.invariant in
+    so_far old.book.opening (history_of old.book).commits c.args.script.now c.commands-command-items.result.now c.loop-command.command-index
+    c.command-item.result c.loop-command-test.true c.command-item.is c.loop-command.journal.book c.loop-command.session before.run g.D.Disk.moment
+    g.D.Disk.left_since g.D.Disk.content old.disk.now c.loop-command.journal.disk.now c.serve.new.journal.disk.now before.moments before.stays_told
+    c.serve.ensures.moments
+
+pub loop-command-preserved : goal.loop-command-preserved
+loop-command-preserved g c =
+    let old = c.args.journal.now in
+    let before = c.loop-command.invariant in
+    let step = c.in_ok-serve.ensures in
+    let fell = before.no_fall in
+    let falls = step.no_fall in
+    record {
+      still = step.still;
+      same_reference = step.same_reference ∙ before.same_reference;
+      whole = step.whole;
+      stays_told = λ told. step.stays_told (before.stays_told told);
+      run = next_done old.book.opening (history_of old.book).commits c.args.script.now c.commands-command-items.result.now c.loop-command.command-index
+          c.command-item.result c.loop-command-test.true c.command-item.is c.loop-command.journal.book c.loop-command.session before.run
+          c.serve.new.journal.book c.serve.new.session step.ok;
+      moments = so_far old.book.opening (history_of old.book).commits c.args.script.now c.commands-command-items.result.now
+          c.loop-command.command-index c.command-item.result c.loop-command-test.true c.command-item.is c.loop-command.journal.book
+          c.loop-command.session before.run g.D.Disk.moment g.D.Disk.left_since g.D.Disk.content old.disk.now c.loop-command.journal.disk.now
+          c.serve.new.journal.disk.now before.moments before.stays_told step.moments;
+      no_fall = omega (arith, fell, falls);
+    }
+
+-- no command is left
+pub returns-clause-ok : goal.returns-clause-ok
+returns-clause-ok g c =
+    let old = c.args.journal.now in
+    ended old.book.opening (history_of old.book).commits c.args.script.now c.commands-command-items.result.now c.loop-command.command-index
+    c.loop-command.journal.book c.loop-command.session c.loop-command-test.false c.loop-command.invariant.run

@@ -1,0 +1,78 @@
+use Rattle.std.proofs.Common.{◌≡◌, List, ℕ, Option, None, Some, Err, length, map, refl, rules, sym, ap, ◌∙◌, string_bytes, subst, arith}
+use Rattle.std.specs.Prelude.{IfSome, codes}
+use Rattle.crash_disk.specs.Disk.{LeavesOnly}
+use Rattle.report_text.specs.declared.status.Status.TheVariants.{Usage}
+use Rattle.enc_top.specs.Words.{is_word}
+use Rattle.keep_run.specs.Causes.{IsAskedIn, IsImageIn}
+use Rattle.keep_run.specs.Words.{KeepForm, form_of, keep_form}
+use Rattle.keep_run.proofs.Answers.{not_asked}
+use Rattle.keep_run.proofs.Words.{fewer, keep_words, more, other_word}
+use Rattle.keep_run.proofs.top.asked_keep.Goals as goal
+use Rattle.keep_run.proofs.top.asked_keep.Goals.{in_default-via-then-words-lt5, in_default-via-else-words-lt5+else-words-lt6}
+
+pub returns-in_default-clause-asked : goal.returns-in_default-clause-asked
+returns-in_default-clause-asked g c =
+    elim c.in_default.branch [
+      | in_default-via-then-words-lt5 w ↦ none_asked (fewer c.args.words.now (search rules))
+      | in_default-via-else-words-lt5+else-words-lt6 w ↦ none_asked (more c.args.words.now (search rules))
+    ]
+  where
+    reads = g.H.Shelf.read_faults c.args.shelf.now
+    disk = c.args.disk.now
+
+    none_asked : form_of (map string_bytes c.args.words.now) ≡ None
+        → IsAskedIn (form_of (map string_bytes c.args.words.now)) (g.H.Shelf.files c.args.shelf.now) reads reads (g.D.Disk.content disk)
+        (g.D.Disk.content disk) (g.D.Disk.faults disk) (g.D.Disk.faults disk) (g.D.Disk.images disk) (Err Usage)
+    none_asked is = subst (λ (f : Option KeepForm). IsAskedIn f (g.H.Shelf.files c.args.shelf.now) reads reads (g.D.Disk.content disk)
+        (g.D.Disk.content disk) (g.D.Disk.faults disk) (g.D.Disk.faults disk) (g.D.Disk.images disk) (Err Usage)) (sym is) refl
+
+pub returns-in_default-clause-moments : goal.returns-in_default-clause-moments
+returns-in_default-clause-moments g c =
+    let disk = c.args.disk.now in
+    not_asked g.D.Disk.moment g.D.Disk.left_since g.D.Disk.images (form_of (map string_bytes c.args.words.now)) (g.H.Shelf.files c.args.shelf.now)
+    (g.D.Disk.content disk) disk (g.met.D.Disk.only_now disk)
+
+pub returns-clause-asked : goal.returns-clause-asked
+returns-clause-asked g c =
+    let reads = g.H.Shelf.read_faults c.args.shelf.now in
+    let disk = c.args.disk.now in
+    let five : length c.args.words.now ≡ 5 = omega (arith, c.in-len5.len_at_least, c.in-len5.len_below) in
+    let other = ap (is_word (codes "keep")) (sym c.as_str.ensures.value) ∙ sym c.if-eq.ensures in
+    let none = other_word c.args.words.now c.first-item.result c.cell-item.result c.out-item.result c.script-item.result five c.first-item.is c.cell-item.is
+    c.out-item.is
+    c.script-item.is other in
+    subst (λ (f : Option KeepForm). IsAskedIn f (g.H.Shelf.files c.args.shelf.now) reads reads (g.D.Disk.content disk) (g.D.Disk.content disk)
+    (g.D.Disk.faults disk) (g.D.Disk.faults disk) (g.D.Disk.images disk) (Err Usage)) (sym none) refl
+
+pub returns-clause-moments : goal.returns-clause-moments
+returns-clause-moments g c =
+    let disk = c.args.disk.now in
+    not_asked g.D.Disk.moment g.D.Disk.left_since g.D.Disk.images (form_of (map string_bytes c.args.words.now)) (g.H.Shelf.files c.args.shelf.now)
+    (g.D.Disk.content disk) disk (g.met.D.Disk.only_now disk)
+
+pub returns-then-eq-clause-asked : goal.returns-then-eq-clause-asked
+returns-then-eq-clause-asked g c =
+    let old = c.args.shelf.now in
+    let disk = c.args.disk.now in
+    let new = c.kept_work.new.disk in
+    let five : length c.args.words.now ≡ 5 = omega (arith, c.in-len5.len_at_least, c.in-len5.len_below) in
+    let keep = ap (is_word (codes "keep")) (sym c.as_str.ensures.value) ∙ sym c.if-eq.ensures in
+    let form = keep_words c.args.words.now c.first-item.result c.cell-item.result c.out-item.result c.script-item.result five c.first-item.is c.cell-item.is
+    c.out-item.is
+    c.script-item.is keep
+    ∙ (λ i. Some (keep_form (sym c.as_str-then-eq.ensures.value i) (sym c.as_str-then-eq-2.ensures.value i) (sym c.as_str-then-eq-3.ensures.value i))) in
+    subst (λ (f : Option KeepForm). IsAskedIn f (g.H.Shelf.files old) (g.H.Shelf.read_faults old) (g.H.Shelf.read_faults c.kept_work.new.shelf)
+    (g.D.Disk.content disk) (g.D.Disk.content new) (g.D.Disk.faults disk) (g.D.Disk.faults new) (g.D.Disk.images new) c.kept_work.result) (sym form)
+    c.kept_work.ensures.asked
+
+pub returns-then-eq-clause-moments : goal.returns-then-eq-clause-moments
+returns-then-eq-clause-moments g c =
+    let disk = c.args.disk.now in
+    let five : length c.args.words.now ≡ 5 = omega (arith, c.in-len5.len_at_least, c.in-len5.len_below) in
+    let keep = ap (is_word (codes "keep")) (sym c.as_str.ensures.value) ∙ sym c.if-eq.ensures in
+    let form = keep_words c.args.words.now c.first-item.result c.cell-item.result c.out-item.result c.script-item.result five c.first-item.is c.cell-item.is
+    c.out-item.is
+    c.script-item.is keep
+    ∙ (λ i. Some (keep_form (sym c.as_str-then-eq.ensures.value i) (sym c.as_str-then-eq-2.ensures.value i) (sym c.as_str-then-eq-3.ensures.value i))) in
+    subst (λ (f : Option KeepForm). IfSome (g.D.Disk.content disk) (λ file. LeavesOnly g.D.Disk.moment g.D.Disk.left_since disk c.kept_work.new.disk
+    (IsImageIn f (g.H.Shelf.files c.args.shelf.now) file (g.D.Disk.images disk)))) (sym form) c.kept_work.ensures.moments

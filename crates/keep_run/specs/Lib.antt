@@ -1,0 +1,7 @@
+pub mod Stops
+pub mod Runs
+pub mod Sessions
+pub mod Keeps
+pub mod Words
+pub mod Causes
+pub mod Complete

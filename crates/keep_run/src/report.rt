@@ -1,0 +1,89 @@
+//! The text of a session over a journal, and the file of the cell that it leaves.
+
+ghost use Rattle.std.specs.Prelude.{◌≡◌, ◌++◌, ◌∷◌, [], IfOk, Ok, OnOk, codes, decimal};
+ghost use Rattle.commit_book.specs.Books.{history_of};
+ghost use Rattle.file_spec.specs.DecodedCell.{decoded_cell};
+ghost use Rattle.file_spec.specs.EncodedCell.{encoded_cell};
+ghost use Rattle.text_spec.specs.Lines.{line};
+ghost use Rattle.keep_run.specs.Runs.{text_of};
+
+use cell_bench::Bench;
+use cell_write::write_cell;
+use commit_book::Book;
+use file_spec::writable_cell_is_read_back;
+use report_text::{Transcript, print_findings};
+use std::alloc::{AllocError, Global};
+use text_lines::{push_bytes, push_number, push_text};
+
+/// The text that is to be put, and the bytes of the file that is to be made then.
+#[derive(Debug)]
+pub(crate) struct Kept {
+    pub(crate) text: Vec<u8>,
+    pub(crate) bytes: Vec<u8>,
+}
+
+impl Drop for Kept {
+    fn drop(self) {
+        let Kept { text: _, bytes: _ } = self;
+    }
+}
+
+impl Kept {
+    /// The text, and the bytes.
+    pub(crate) fn into_parts(self) -> (Vec<u8>, Vec<u8>)
+        ensures text { result.0 ≡ self.text }
+        ensures bytes { result.1 ≡ self.bytes }
+    {
+        let Kept { text, bytes } = self;
+        (text, bytes)
+    }
+}
+
+/// Appends the lines in front of those of the session: how many commits the journal had, and the session's number.
+fn push_head(out: &mut Vec<u8>, count: u32) -> Result<(), AllocError>
+    ensures { OnOk result (out.new.items ≡ out.old.items
+        ++ (line (codes "kept") (decimal count ∷ []) ++ line (codes "session") (decimal 1 ∷ []))) }
+{
+    push_text(out, "kept")?;
+    push_number(out, count)?;
+    push_text(out, "\nsession")?;
+    push_number(out, 1)?;
+    push_text(out, "\n")
+}
+
+/// The text of a session whose journal had so many commits.
+fn text_with(
+    alloc: Global,
+    count: u32,
+    transcript: &Transcript,
+    bench: &Bench,
+) -> Result<Vec<u8>, AllocError>
+    ensures { IfOk result (λ text. text.items ≡ text_of count transcript.now bench.now) }
+{
+    let mut text = Vec::new(alloc);
+    push_head(&mut text, count)?;
+    push_bytes(&mut text, transcript.lines())?;
+    print_findings(alloc, bench, &mut text)?;
+    Ok(text)
+}
+
+/// The text of a session whose journal had so many commits, and the file of the cell that a book has.
+///
+/// An `Err` means out of memory.
+pub(crate) fn report(
+    alloc: Global,
+    count: u32,
+    transcript: &Transcript,
+    book: &Book,
+) -> Result<Kept, AllocError>
+    ensures text { IfOk result (λ kept. kept.text.items ≡ text_of count transcript.now (history_of book.now).cell) }
+    ensures bytes { IfOk result (λ kept. kept.bytes.items ≡ encoded_cell (history_of book.now).cell) }
+    ensures read_back { IfOk result (λ _. decoded_cell (encoded_cell (history_of book.now).cell) ≡ Ok (history_of book.now).cell) }
+{
+    book.known();
+    let text = text_with(alloc, count, transcript, book.bench())?;
+    let cell = book.bench().to_cell(alloc)?;
+    writable_cell_is_read_back(&cell);
+    let bytes = write_cell(alloc, &cell)?;
+    Ok(Kept { text, bytes })
+}
