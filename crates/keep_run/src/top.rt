@@ -129,7 +129,7 @@ fn kept_work<R: Threads + Sync, H: Shelf, D: Disk>(
     ensures read_faults { H.read_faults shelf.old ≤ H.read_faults shelf.new }
     ensures write_faults { H.write_faults shelf.new ≡ H.write_faults shelf.old }
 {
-    let checked = match read_cell(alloc, shelf, cell) {
+    let checked = match read_cell(rt, alloc, shelf, cell) {
         Ok(checked) => checked,
         Err(status) => return Err(status),
     };
