@@ -195,8 +195,8 @@ module _ (before after : Outside) (content now : Option (List ℕ)) (faults faul
     expected_of form (Absent name) cause = inl (input_ends form (Absent name) cause.1.1)
     expected_of form (BadCell fault) cause = inl (input_ends form (BadCell fault) cause.1)
     expected_of form (BadScript session line code) cause = inl (input_ends form (BadScript session line code) cause.1)
-    expected_of form (ReadFault name) cause = absurd (smooth.reads cause.2)
-    expected_of form (TooLarge name) cause = inl (input_ends form (TooLarge name) cause.2)
+    expected_of form (ReadFault name) cause = absurd (smooth.reads cause.1.1)
+    expected_of form (TooLarge name) cause = inl (input_ends form (TooLarge name) cause.1.1)
     expected_of form NoMemory cause = inr refl
     expected_of form (BadOrder place) cause = absurd cause.1
     expected_of form (Stuck desk serial) cause = absurd cause.1

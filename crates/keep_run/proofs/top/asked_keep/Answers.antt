@@ -12,19 +12,19 @@ use Rattle.keep_run.proofs.top.asked_keep.Goals.{in_default-via-then-words-lt5, 
 
 pub returns-in_default-clause-asked : goal.returns-in_default-clause-asked
 returns-in_default-clause-asked g c =
+    let files = g.H.Shelf.files c.args.shelf.now in
+    let reads = g.H.Shelf.read_faults c.args.shelf.now in
+    let disk = c.args.disk.now in
+    let content = g.D.Disk.content disk in
+    let faults = g.D.Disk.faults disk in
+    let images = g.D.Disk.images disk in
+    let asked : form_of (map string_bytes c.args.words.now) ≡ None
+    → IsAskedIn (form_of (map string_bytes c.args.words.now)) files reads reads content content faults faults images (Err Usage) =
+    λ none. subst (λ (f : Option KeepForm). IsAskedIn f files reads reads content content faults faults images (Err Usage)) (sym none) refl in
     elim c.in_default.branch [
-      | in_default-via-then-words-lt5 w ↦ none_asked (fewer c.args.words.now (search rules))
-      | in_default-via-else-words-lt5+else-words-lt6 w ↦ none_asked (more c.args.words.now (search rules))
+      | in_default-via-then-words-lt5 w ↦ asked (fewer c.args.words.now (search rules))
+      | in_default-via-else-words-lt5+else-words-lt6 w ↦ asked (more c.args.words.now (search rules))
     ]
-  where
-    reads = g.H.Shelf.read_faults c.args.shelf.now
-    disk = c.args.disk.now
-
-    none_asked : form_of (map string_bytes c.args.words.now) ≡ None
-        → IsAskedIn (form_of (map string_bytes c.args.words.now)) (g.H.Shelf.files c.args.shelf.now) reads reads (g.D.Disk.content disk)
-        (g.D.Disk.content disk) (g.D.Disk.faults disk) (g.D.Disk.faults disk) (g.D.Disk.images disk) (Err Usage)
-    none_asked is = subst (λ (f : Option KeepForm). IsAskedIn f (g.H.Shelf.files c.args.shelf.now) reads reads (g.D.Disk.content disk)
-        (g.D.Disk.content disk) (g.D.Disk.faults disk) (g.D.Disk.faults disk) (g.D.Disk.images disk) (Err Usage)) (sym is) refl
 
 pub returns-in_default-clause-moments : goal.returns-in_default-clause-moments
 returns-in_default-clause-moments g c =
