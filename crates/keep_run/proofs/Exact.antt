@@ -1,15 +1,13 @@
 -- What the causes of statuses tell where no device failed, and what is left in OUT.
-use Rattle.std.proofs.Common.{◌≡◌, ◌⊎◌, inl, inr, ℕ, ◌<◌, ◌≤◌, List, length, Option, None, Some, Result, Ok, Err, refl, sym, ap, ◌∙◌, subst, arith}
+use Rattle.std.proofs.Common.{◌≡◌, ◌⊎◌, inl, inr, ℕ, List, length, Option, None, Some, Result, Ok, Err, refl, sym, ap, ◌∙◌, subst, arith}
 use Rattle.std.specs.Prelude.{IfSome}
 use Rattle.enc_outside.specs.Count.{Rose}
 use Rattle.enc_outside.specs.Files.{Files, Told, Writes}
 use Rattle.s57_types.specs.declared.cell.Cell.{Cell}
-use Rattle.file_spec.specs.DecodedCell.{decoded_cell}
 use Rattle.file_spec.specs.EncodedCell.{encoded_cell}
 use Rattle.text_spec.specs.declared.command.Command.{Command}
 use Rattle.history_spec.specs.Steps.{AcceptedCommit}
-use Rattle.book_journal.specs.Journals.{IsDamagedAt, IsJournalOf, IsReading}
-use Rattle.book_journal.specs.Keeping.{commit_limit}
+use Rattle.book_journal.specs.Journals.{IsJournalOf, IsReading}
 use Rattle.report_text.specs.declared.status.Status.{Status}
 use Rattle.report_text.specs.declared.status.Status.TheVariants.{
   Done,

@@ -1,6 +1,6 @@
 -- Drafts and the commands behind them, within the limits of a script.
-use Rattle.std.proofs.Common.{◌≡◌, ℕ, ◌+◌, ◌≤◌, List, [], ◌∷◌, ◌++◌, length, Option, None, Some, refl, sym, ap, ◌∙◌, subst, length-append, arith}
-use Rattle.std.specs.Prelude.{All, filter_map, codes}
+use Rattle.std.proofs.Common.{◌≡◌, ℕ, ◌+◌, ◌≤◌, List, [], ◌∷◌, ◌++◌, length, sym, ap, ◌∙◌, subst, length-append, arith}
+use Rattle.std.specs.Prelude.{All, filter_map}
 use Rattle.std.specs.List.{flat_map}
 use Rattle.std.proofs.lemmas.Grind.{flat_map-append}
 use Rattle.std.proofs.lemmas.List.{append-nil}
@@ -8,11 +8,11 @@ use Rattle.std.proofs.lemmas.List.Elements.{All-append, All-cons, All-head, All-
 use Rattle.s57_types.specs.declared.name.RecName.{RecName}
 use Rattle.cell_spec.specs.declared.edit.Edit.{Edit}
 use Rattle.text_spec.specs.EditLine.{edit_line}
-use Rattle.text_spec.specs.ScriptLines.{IsCommand, IsLine, IsScript, ScriptLine, command_limit, command_line, line_text, skipped, spoken, spoken_command}
+use Rattle.text_spec.specs.ScriptLines.{IsCommand, IsLine, ScriptLine, command_line, line_text, skipped, spoken, spoken_command}
 use Rattle.text_spec.specs.declared.command.Command.{Command}
 use Rattle.text_spec.specs.declared.command.Command.TheVariants.{Push}
 use Rattle.history_spec.specs.Served.{Draft, no_draft}
-use Rattle.book_journal.specs.Entries.{HaveLines, edit_lines, text_limit}
+use Rattle.book_journal.specs.Entries.{edit_lines, text_limit}
 use Rattle.enc_top.specs.Inputs.{IsScriptWithin}
 use Rattle.keep_run.specs.Sessions.{IsFit}
 

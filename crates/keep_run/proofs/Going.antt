@@ -1,64 +1,26 @@
 -- One command more of a script over a journal, and what a crash leaves meanwhile.
 use mathlib.Core.List.{IsPrefix}
-use Rattle.std.proofs.Common.{
-  ◌≡◌,
-  ◌⊎◌,
-  inl,
-  inr,
-  ℕ,
-  ◌+◌,
-  ◌≤◌,
-  List,
-  [],
-  ◌∷◌,
-  ◌++◌,
-  length,
-  map,
-  fold,
-  refl,
-  sym,
-  ap,
-  ◌∙◌,
-  subst,
-  length-append,
-  append_assoc,
-  arith,
-}
+use Rattle.std.proofs.Common.{◌≡◌, inl, inr, ℕ, ◌+◌, ◌≤◌, List, [], ◌∷◌, ◌++◌, length, map, fold, refl, sym, ap, ◌∙◌, subst, length-append, append_assoc, arith}
 use Rattle.std.proofs.lemmas.List.{append-nil, take-append-le}
 use Rattle.s57_types.specs.declared.cell.Cell.{Cell}
-use Rattle.s57_types.specs.declared.name.RecName.{RecName}
 use Rattle.cell_spec.specs.Edits.{apply_edits}
-use Rattle.cell_spec.specs.declared.edit.Edit.{Edit}
 use Rattle.text_spec.specs.declared.command.Command.{Command}
 use Rattle.text_spec.specs.declared.command.Command.TheVariants.{View, Commit, Drop, List as Findings, Push, Guard}
 use Rattle.history_spec.specs.declared.reply.Reply.{Reply}
 use Rattle.history_spec.specs.Entries.{brief_of, event_asked, replayed}
-use Rattle.history_spec.specs.ReportText.{base_after, list_lines, reply_line, transcript_from}
+use Rattle.history_spec.specs.ReportText.{base_after, reply_line, transcript_from}
 use Rattle.history_spec.specs.Served.{Draft, draft_after, local_lines, no_draft}
 use Rattle.history_spec.specs.Sessions.{Request, event_of, history_after, offer, replies_from, request_step, requests_from, see}
 use Rattle.history_spec.specs.Steps.{AcceptedCommit, Event, History, answer, cell_after, left_after, view}
 use Rattle.room_laws.proofs.Steps.{IsNumbered, answer_numbered}
-use Rattle.commit_book.specs.Books.{BookState, entry_limit, entry_of, history_of}
+use Rattle.commit_book.specs.Books.{BookState, entry_of, history_of}
 use Rattle.commit_book.proofs.Kept.{replayed_entered}
 use Rattle.book_journal.specs.Journals.{IsJournalOf, state_after}
 use Rattle.book_journal.specs.Keeping.{commit_limit}
 use Rattle.book_journal.proofs.Committing.{cell_of_all}
 use Rattle.keep_run.specs.Runs.{IsKeptTo, kept_at, kept_history, kept_lines, kept_replies, left_behind, replies_behind}
 use Rattle.enc_top.specs.Inputs.{IsScriptWithin}
-use Rattle.keep_run.specs.Sessions.{
-  IsAnswered,
-  IsAround,
-  IsDone,
-  IsDoneAlone,
-  IsEntered,
-  IsFit,
-  IsRun,
-  IsRunTo,
-  commits_left,
-  draft_of,
-  event_by,
-  offered,
-}
+use Rattle.keep_run.specs.Sessions.{IsAnswered, IsAround, IsDone, IsDoneAlone, IsEntered, IsFit, IsRun, IsRunTo, commits_left, draft_of, event_by}
 use Rattle.keep_run.specs.declared.session.Session.{Session}
 use Rattle.keep_run.proofs.Fits.{fit_edit, fit_guard, fit_none, fit_same, fit_script}
 use Rattle.keep_run.proofs.Steps.{

@@ -1,5 +1,5 @@
 -- A journal that is opened and kept: what ends it, what it gives, and what a crash leaves meanwhile.
-use Rattle.std.proofs.Common.{◌≡◌, inl, inr, false, ℕ, ◌≤◌, List, length, Option, None, Some, Result, Ok, Err, IfOk, OnOk, refl, subst, arith}
+use Rattle.std.proofs.Common.{◌≡◌, inl, inr, false, ℕ, ◌≤◌, List, Option, None, Some, Result, Ok, Err, IfOk, OnOk, refl, subst, arith}
 use Rattle.std.specs.Prelude.{IfSome, IsSome}
 use Rattle.std.proofs.lemmas.Bool.{false≢true}
 use Rattle.enc_top.proofs.Answered.{rose_earlier}

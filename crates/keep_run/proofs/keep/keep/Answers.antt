@@ -1,4 +1,4 @@
-use Rattle.std.proofs.Common.{List, ℕ, subst, sym}
+use Rattle.std.proofs.Common.{subst, sym}
 use Rattle.std.specs.Prelude.{IfSome}
 use Rattle.s57_types.specs.declared.cell.Cell.{Cell}
 use Rattle.commit_book.specs.Books.{history_of}

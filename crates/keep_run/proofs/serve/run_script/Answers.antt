@@ -1,7 +1,7 @@
-use Rattle.std.proofs.Common.{List, ℕ, [], subst, sym}
+use Rattle.std.proofs.Common.{List, ℕ, subst, sym}
 use Rattle.history_spec.specs.Served.{Draft, no_draft}
 use Rattle.commit_book.specs.Books.{history_of}
-use Rattle.keep_run.specs.Sessions.{IsRunTo, draft_of}
+use Rattle.keep_run.specs.Sessions.{IsRunTo}
 use Rattle.keep_run.proofs.Going.{not_yet}
 use Rattle.keep_run.proofs.serve.run_script.Goals as goal
 

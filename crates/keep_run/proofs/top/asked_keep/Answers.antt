@@ -1,4 +1,4 @@
-use Rattle.std.proofs.Common.{◌≡◌, List, ℕ, Option, None, Some, Err, length, map, refl, rules, sym, ap, ◌∙◌, string_bytes, subst, arith}
+use Rattle.std.proofs.Common.{◌≡◌, Option, None, Some, Err, length, map, refl, rules, sym, ap, ◌∙◌, string_bytes, subst, arith}
 use Rattle.std.specs.Prelude.{IfSome, codes}
 use Rattle.crash_disk.specs.Disk.{LeavesOnly}
 use Rattle.report_text.specs.declared.status.Status.TheVariants.{Usage}

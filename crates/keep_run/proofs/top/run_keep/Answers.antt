@@ -4,7 +4,7 @@ use Rattle.enc_top.specs.Task.{task_of}
 use Rattle.enc_top.proofs.Causes.{done_still}
 use Rattle.keep_run.specs.Causes.{IsAskedIn, IsCause}
 use Rattle.keep_run.specs.Words.{form_of}
-use Rattle.keep_run.proofs.Exact.{done_cause, done_touches, refused_cause}
+use Rattle.keep_run.proofs.Exact.{done_cause, refused_cause}
 use Rattle.keep_run.proofs.Whole.{back, complete, exact, usage}
 use Rattle.keep_run.proofs.top.run_keep.Goals as goal
 
