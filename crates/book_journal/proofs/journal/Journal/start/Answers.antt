@@ -1,4 +1,4 @@
-use Rattle.std.proofs.Common.{List, ℕ, IfSome, subst, sym}
+use Rattle.std.proofs.Common.{IfSome, subst, sym}
 use Rattle.s57_types.specs.declared.cell.Cell.{Cell}
 use Rattle.commit_book.specs.Books.{history_of}
 use Rattle.book_journal.specs.Keeping.{IsStanding}
