@@ -1,6 +1,6 @@
 //! The real disk of a journal.
 
-ghost use Rattle.std.specs.Prelude.{◌≡◌, None, Unit};
+ghost use Rattle.std.specs.Prelude.{◌≡◌, None};
 
 use crash_disk::{Disk, DiskFailed};
 use std::fs::{File, OpenOptions};
