@@ -49,16 +49,13 @@ impl<'a, R: Files<File = File>> FileDisk<'a, R> {
         }
     }
 
-    /// The file, opened.
-    fn opened(&mut self) -> io::Result<&File>
+    /// The file, opened. A call that fails lets go of it, and the next one opens it again.
+    fn take_file(&mut self) -> io::Result<File>
         ensures { self.new.faults ≡ self.old.faults }
     {
-        if self.file.is_none() {
-            self.file = Some(open_or_make(self.rt, self.name)?);
-        }
-        match &self.file {
+        match self.file.take() {
             Some(file) => Ok(file),
-            None => unreachable!(),
+            None => open_or_make(self.rt, self.name),
         }
     }
 
@@ -66,13 +63,40 @@ impl<'a, R: Files<File = File>> FileDisk<'a, R> {
     fn measure(&mut self) -> io::Result<u64>
         ensures { self.new.faults ≡ self.old.faults }
     {
-        Ok(self.opened()?.metadata()?.len())
+        let file = self.take_file()?;
+        let length = file.metadata()?.len();
+        self.file = Some(file);
+        Ok(length)
     }
 
-    /// A call that failed.
-    fn failed(&mut self) -> DiskFailed {
-        self.faults = self.faults.saturating_add(1);
-        DiskFailed
+    /// Reads bytes from a place on.
+    fn read(&mut self, at: u64, into: &mut [u8]) -> io::Result<()>
+        ensures { self.new.faults ≡ self.old.faults }
+    {
+        let file = self.take_file()?;
+        file.read_exact_at(into, at)?;
+        self.file = Some(file);
+        Ok(())
+    }
+
+    /// Writes bytes from a place on.
+    fn write(&mut self, at: u64, bytes: &[u8]) -> io::Result<()>
+        ensures { self.new.faults ≡ self.old.faults }
+    {
+        let file = self.take_file()?;
+        file.write_all_at(bytes, at)?;
+        self.file = Some(file);
+        Ok(())
+    }
+
+    /// Has all that was written last.
+    fn keep(&mut self) -> io::Result<()>
+        ensures { self.new.faults ≡ self.old.faults }
+    {
+        let file = self.take_file()?;
+        file.sync_all()?;
+        self.file = Some(file);
+        Ok(())
     }
 }
 
@@ -96,28 +120,40 @@ impl<R: Files<File = File>> Disk for FileDisk<'_, R> {
     fn length(&mut self) -> Result<u64, DiskFailed> {
         match self.measure() {
             Ok(length) => Ok(length),
-            Err(_) => Err(self.failed()),
+            Err(_) => {
+                self.faults = self.faults.saturating_add(1);
+                Err(DiskFailed)
+            }
         }
     }
 
     fn read_at(&mut self, at: u64, into: &mut [u8]) -> Result<(), DiskFailed> {
-        match self.opened().and_then(|file| file.read_exact_at(into, at)) {
+        match self.read(at, into) {
             Ok(()) => Ok(()),
-            Err(_) => Err(self.failed()),
+            Err(_) => {
+                self.faults = self.faults.saturating_add(1);
+                Err(DiskFailed)
+            }
         }
     }
 
     fn write_at(&mut self, at: u64, bytes: &[u8]) -> Result<(), DiskFailed> {
-        match self.opened().and_then(|file| file.write_all_at(bytes, at)) {
+        match self.write(at, bytes) {
             Ok(()) => Ok(()),
-            Err(_) => Err(self.failed()),
+            Err(_) => {
+                self.faults = self.faults.saturating_add(1);
+                Err(DiskFailed)
+            }
         }
     }
 
     fn sync(&mut self) -> Result<(), DiskFailed> {
-        match self.opened().and_then(|file| file.sync_all()) {
+        match self.keep() {
             Ok(()) => Ok(()),
-            Err(_) => Err(self.failed()),
+            Err(_) => {
+                self.faults = self.faults.saturating_add(1);
+                Err(DiskFailed)
+            }
         }
     }
 }
