@@ -42,39 +42,60 @@ pub fn head(alloc: Global, comment: Text) -> Result<Head, AllocError> {
     })
 }
 
+/// Whether a head with this comment can be written.
+fn comment_fits(alloc: Global, comment: Text) -> Result<bool, AllocError> {
+    Ok(head_fits(&head(alloc, comment)?))
+}
+
+/// Whether a head with these levels and this date of issue can be written.
+fn levels_fit(alloc: Global, aall: u8, nall: u8, isdt: [u8; 8]) -> Result<bool, AllocError> {
+    let mut head = head(alloc, Text::make(alloc))?;
+    head.aall = aall;
+    head.nall = nall;
+    head.isdt = isdt;
+    Ok(head_fits(&head))
+}
+
 // 45 bytes of leader and directory, and fields of 3 and 26 bytes beside the comment
 #[test]
 fn heads_that_can_be_written(rt: HostRuntime) -> Result<(), Fail> {
     let alloc = rt.alloc();
-    assert!(rt; head_fits(&head(alloc, long_text(alloc, 99_925)?)?));
-    assert!(rt; !head_fits(&head(alloc, long_text(alloc, 99_926)?)?));
-    assert!(rt; !head_fits(&head(alloc, text(alloc, b"\x1F")?)?));
-    let mut other = head(alloc, Text::make(alloc))?;
-    other.aall = 2;
-    assert!(rt; !head_fits(&other));
-    other.aall = 0;
-    other.nall = 3;
-    assert!(rt; !head_fits(&other));
-    other.nall = 0;
-    other.isdt = *b"2024010\x1E";
-    assert!(rt; !head_fits(&other));
+    assert!(rt; comment_fits(alloc, long_text(alloc, 99_925)?)?);
+    assert!(rt; !comment_fits(alloc, long_text(alloc, 99_926)?)?);
+    assert!(rt; !comment_fits(alloc, text(alloc, b"\x1F")?)?);
+    for (aall, nall, isdt, answer) in [
+        (1, 2, *b"20240101", true),
+        (0, 0, *b"20240101", true),
+        (2, 2, *b"20240101", false),
+        (0, 3, *b"20240101", false),
+        (0, 0, *b"2024010\x1E", false),
+    ] {
+        assert_eq!(rt; levels_fit(alloc, aall, nall, isdt)?, answer);
+    }
     Ok(())
+}
+
+/// How long the first record of a head with this edition number is, and whether the head can be written.
+fn length_with(alloc: Global, edtn: Text) -> Result<(usize, bool), AllocError> {
+    let mut head = head(alloc, Text::make(alloc))?;
+    head.edtn = edtn;
+    Ok((identification_record_length(&head), head_fits(&head)))
 }
 
 // 49 bytes of leader and directory, and fields of 3, 51 and 36 bytes; with long texts 67 bytes, and 73 where a length has six digits
 #[test]
 fn the_first_head_record_has_its_length(rt: HostRuntime) -> Result<(), Fail> {
     let alloc = rt.alloc();
-    let mut head = head(alloc, Text::make(alloc))?;
-    assert_eq!(rt; identification_record_length(&head), 139);
+    assert_eq!(rt; length_with(alloc, text(alloc, b"1")?)?, (139, true));
     for (length, bytes, answer) in [
         (99_843, 99_999, true),
         (99_844, 100_000, false),
         (99_999, 100_161, false),
     ] {
-        head.edtn = long_text(alloc, length)?;
-        assert_eq!(rt; identification_record_length(&head), bytes);
-        assert_eq!(rt; head_fits(&head), answer);
+        assert_eq!(rt;
+            length_with(alloc, long_text(alloc, length)?)?,
+            (bytes, answer)
+        );
     }
     Ok(())
 }
@@ -93,20 +114,51 @@ fn edit(alloc: Global, texts: [&[u8]; 3], dates: [[u8; 8]; 2]) -> Result<HeadEdi
     })
 }
 
+/// Whether no text of such an edit holds a control byte.
+fn is_plain(alloc: Global, texts: [&[u8]; 3], dates: [[u8; 8]; 2]) -> Result<bool, AllocError> {
+    Ok(has_plain_texts(&edit(alloc, texts, dates)?))
+}
+
 #[test]
 fn no_text_of_an_edit_holds_a_control_byte(rt: HostRuntime) -> Result<(), Fail> {
     let alloc = rt.alloc();
     let dates = [*b"20240101", *b"\x1d\x20\0\xff2024"];
-    assert!(rt; has_plain_texts(&edit(alloc, [b"2", b"", b"\xe4\x1d"], dates)?));
-    assert!(rt; !has_plain_texts(&edit(alloc, [b"2\x1e", b"", b""], dates)?));
-    assert!(rt; !has_plain_texts(&edit(alloc, [b"2", b"\x1f", b""], dates)?));
-    assert!(rt; !has_plain_texts(&edit(alloc, [b"2", b"", b"a\x1eb"], dates)?));
+    let table: [([&[u8]; 3], bool); 4] = [
+        ([b"2", b"", b"\xe4\x1d"], true),
+        ([b"2\x1e", b"", b""], false),
+        ([b"2", b"\x1f", b""], false),
+        ([b"2", b"", b"a\x1eb"], false),
+    ];
+    for (texts, answer) in table {
+        assert_eq!(rt; is_plain(alloc, texts, dates)?, answer);
+    }
     let [good, _] = dates;
     for bad in [*b"\x1e0240101", *b"2024010\x1f"] {
-        assert!(rt; !has_plain_texts(&edit(alloc, [b"2", b"", b""], [bad, good])?));
-        assert!(rt; !has_plain_texts(&edit(alloc, [b"2", b"", b""], [good, bad])?));
+        assert!(rt; !is_plain(alloc, [b"2", b"", b""], [bad, good])?);
+        assert!(rt; !is_plain(alloc, [b"2", b"", b""], [good, bad])?);
     }
     Ok(())
+}
+
+/// The record of general information with this comment and no other long text.
+fn general_information(alloc: Global, comt: Text) -> Dsid {
+    Dsid {
+        rcid: 1,
+        expp: 1,
+        intu: 5,
+        dsnm: Text::make(alloc),
+        edtn: Text::make(alloc),
+        updn: Text::make(alloc),
+        uadt: *b"20240101",
+        isdt: *b"20240101",
+        sted: *b"03.1",
+        prsp: 1,
+        psdn: Text::make(alloc),
+        pred: Text::make(alloc),
+        prof: 1,
+        agen: 1,
+        comt,
+    }
 }
 
 // 67 bytes of leader and directory, and fields of 3, 38 and 36 bytes beside the comment
@@ -120,23 +172,7 @@ fn general_information_has_at_most_99_999_bytes(rt: HostRuntime) -> Result<(), F
         counts: [0; 8],
     };
     for (length, answer) in [(99_855, true), (99_856, false)] {
-        let dsid = Dsid {
-            rcid: 1,
-            expp: 1,
-            intu: 5,
-            dsnm: Text::make(alloc),
-            edtn: Text::make(alloc),
-            updn: Text::make(alloc),
-            uadt: *b"20240101",
-            isdt: *b"20240101",
-            sted: *b"03.1",
-            prsp: 1,
-            psdn: Text::make(alloc),
-            pred: Text::make(alloc),
-            prof: 1,
-            agen: 1,
-            comt: long_text(alloc, length)?,
-        };
+        let dsid = general_information(alloc, long_text(alloc, length)?);
         assert_eq!(rt; is_general_information_short(&dsid, dssi), answer);
     }
     Ok(())

@@ -114,6 +114,16 @@ fn area_at(alloc: Global, kind: Kind) -> Result<Rec, AllocError> {
     Ok(Rec::F(area))
 }
 
+/// What is told of an edge with such a pointer.
+fn edge_fits(alloc: Global, kind: Kind) -> Result<Result<(), Unfit>, AllocError> {
+    Ok(fits(&edge_to(alloc, kind)?, 0))
+}
+
+/// What is told of an area with such a pointer.
+fn places_fit(alloc: Global, kind: Kind) -> Result<Result<(), Unfit>, AllocError> {
+    Ok(fits(&area_at(alloc, kind)?, 0))
+}
+
 #[test]
 fn a_pointer_names_a_vector_record(rt: HostRuntime) -> Result<(), Fail> {
     let alloc = rt.alloc();
@@ -122,8 +132,8 @@ fn a_pointer_names_a_vector_record(rt: HostRuntime) -> Result<(), Fail> {
         (Kind::Fe, Err(Unfit::BadName)),
         (Kind::Head, Err(Unfit::BadName)),
     ] {
-        assert_eq!(rt; fits(&edge_to(alloc, kind)?, 0), answer);
-        assert_eq!(rt; fits(&area_at(alloc, kind)?, 0), answer);
+        assert_eq!(rt; edge_fits(alloc, kind)?, answer);
+        assert_eq!(rt; places_fit(alloc, kind)?, answer);
     }
     Ok(())
 }
