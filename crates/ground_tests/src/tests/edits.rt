@@ -1,5 +1,7 @@
 //! Edit sets and the faults of their form.
 
+ghost use Rattle.std.specs.Prelude.{◌<◌, ◌^◌, length};
+
 use cell_spec::Edit;
 use edit_sets::{EditSet, FormFault, FormRefusal};
 use s57_types::{
@@ -7,6 +9,7 @@ use s57_types::{
     Vector,
 };
 use std::alloc::{AllocError, Global};
+use std::process::Abort;
 use std::test::Fail;
 
 fn name(id: u32) -> RecName {
@@ -57,59 +60,109 @@ fn fault(alloc: Global, edits: &[Edit], guards: &[RecName]) -> Option<FormFault>
     }
 }
 
-#[test]
-fn a_set_has_its_edits_and_finds_them_by_name(rt: HostRuntime) -> Result<(), Fail> {
-    let alloc = rt.alloc();
-    let edits = [
+/// A copy of a set, which the set does not outlive.
+fn twin_of(
+    alloc: Global,
+    edits: &[Edit],
+    guards: &[RecName],
+    nall: u8,
+) -> Result<EditSet, FormRefusal>
+    requires edits_are_counted { length edits.now < 2 ^ 32 }
+    requires guards_are_counted { length guards.now < 2 ^ 32 }
+{
+    Ok(EditSet::make(alloc, edits, guards, nall)?.copy(alloc)?)
+}
+
+/// The name of the edit that a set finds by a name, and whether it leaves a record.
+fn found(set: &EditSet, name: RecName) -> Option<(RecName, bool)> {
+    let edit = set.find(name)?;
+    Some((edit.name(), edit.record().is_some()))
+}
+
+/// A deletion, an edit of the head, an addition and a deletion.
+fn four_edits(alloc: Global) -> [Edit; 4] {
+    [
         Edit::Del(name(7)),
         head_edit(alloc, [48; 8]),
         Edit::Add(node(alloc, 1, Attrs::make(alloc))),
         Edit::Del(name(3)),
-    ];
-    let set = EditSet::make(alloc, &edits, &[], 2)?;
-    let twin = set.copy(alloc)?;
-    drop(set);
-    assert_eq!(rt; twin.nall(), 2);
-    assert_eq!(rt; twin.edits().len(), 4);
-    for edit in &edits {
-        let found = twin.find(edit.name()).ok_or("no edit")?;
-        assert_eq!(rt; found.name(), edit.name());
-        assert_eq!(rt; found.record().is_some(), edit.record().is_some());
+    ]
+}
+
+/// Checks that a set finds each of these edits by its name.
+fn check_found(rt: &impl Abort, set: &EditSet, edits: &[Edit]) {
+    for edit in edits {
+        let has_record = edit.record().is_some();
+        assert_eq!(rt; found(set, edit.name()), Some((edit.name(), has_record)));
     }
-    assert!(rt; twin.find(name(2)).is_none());
-    assert!(rt; twin.find(name(9)).is_none());
+}
+
+#[test]
+fn a_set_has_its_edits_and_finds_them_by_name(rt: HostRuntime) -> Result<(), Fail> {
+    let edits = four_edits(rt.alloc());
+    let twin = twin_of(rt.alloc(), &edits, &[], 2)?;
+    assert_eq!(rt; (twin.nall(), twin.edits().len()), (2, 4));
+    check_found(&rt, &twin, &edits);
+    assert_eq!(rt;
+        [found(&twin, name(2)), found(&twin, name(9))],
+        [None, None]
+    );
     Ok(())
+}
+
+/// Checks a set of deletions of the records 7 and 3 with these guards: of the head and of the records 5, 3 and 5.
+fn check_guards(rt: &impl Abort, twin: &EditSet, guards: [RecName; 4]) {
+    let [head, five, three, _] = guards;
+    let seven = name(7);
+    assert_eq!(rt; twin.guards(), guards.as_slice());
+    assert_eq!(rt; twin.names(), [three, seven].as_slice());
+    assert_eq!(rt; twin.claims(), [three, five, seven, head].as_slice());
+    assert!(rt; twin.find(five).is_none());
 }
 
 #[test]
 fn guards_stand_beside_the_edits(rt: HostRuntime) -> Result<(), Fail> {
-    let alloc = rt.alloc();
     let edits = [Edit::Del(name(7)), Edit::Del(name(3))];
     let guards = [RecName::of_head(), name(5), name(3), name(5)];
-    let twin = EditSet::make(alloc, &edits, &guards, 0)?.copy(alloc)?;
-    assert_eq!(rt; twin.guards(), guards.as_slice());
-    assert_eq!(rt; twin.names(), [name(3), name(7)].as_slice());
-    assert_eq!(rt;
-        twin.claims(),
-        [name(3), name(5), name(7), RecName::of_head()].as_slice()
-    );
-    assert!(rt; twin.find(name(5)).is_none());
+    let twin = twin_of(rt.alloc(), &edits, &guards, 0)?;
+    check_guards(&rt, &twin, guards);
     Ok(())
+}
+
+/// The fault of deletions of these records, and of one edit behind them that sets a record with a text that doesn't fit.
+fn fault_with_unfit(alloc: Global, deleted: &[u32]) -> Result<Option<FormFault>, AllocError> {
+    let mut edits = Vec::new(alloc);
+    for id in deleted {
+        edits.push(Edit::Del(name(*id)))?;
+    }
+    let unfit = node(alloc, 1, unfit_attributes(alloc)?);
+    edits.push(Edit::Set(unfit))?;
+    Ok(fault(alloc, &edits, &[]))
 }
 
 #[test]
 fn a_name_is_looked_at_before_its_record(rt: HostRuntime) -> Result<(), Fail> {
     let alloc = rt.alloc();
-    let edits = [
-        Edit::Del(name(1)),
-        Edit::Set(node(alloc, 1, unfit_attributes(alloc)?)),
-    ];
-    assert_eq!(rt; fault(alloc, &edits, &[]), Some(FormFault::Twice(2)));
-    let edits = [Edit::Set(node(alloc, 1, unfit_attributes(alloc)?))];
+    assert_eq!(rt; fault_with_unfit(alloc, &[1])?, Some(FormFault::Twice(2)));
     assert_eq!(rt;
-        fault(alloc, &edits, &[]),
+        fault_with_unfit(alloc, &[])?,
         Some(FormFault::Unfit(1, Unfit::BadText))
     );
+    Ok(())
+}
+
+/// The fault of two deletions of one record with these guards.
+fn fault_of_two(alloc: Global, guards: &[RecName]) -> Option<FormFault> {
+    fault(alloc, &[Edit::Del(name(1)), Edit::Del(name(1))], guards)
+}
+
+/// Checks a set of one edit with as many guards as a set may have, all of one record.
+fn check_most_guards(rt: &impl Abort, alloc: Global, guards: &[RecName]) -> Result<(), FormRefusal>
+    requires { length guards.now < 2 ^ 32 }
+{
+    let set = EditSet::make(alloc, &[Edit::Del(name(2))], guards, 0)?;
+    assert_eq!(rt; set.guards().len(), 4_096);
+    assert_eq!(rt; set.claims(), [name(1), name(2)].as_slice());
     Ok(())
 }
 
@@ -118,16 +171,18 @@ fn the_numbers_are_looked_at_before_the_edits(rt: HostRuntime) -> Result<(), Fai
     let alloc = rt.alloc();
     let guards = vec![in alloc; name(1); 4_097]?;
     let most = guards.split_at(4_096).0;
-    let twice = [Edit::Del(name(1)), Edit::Del(name(1))];
-    assert_eq!(rt; fault(alloc, &[], &guards), Some(FormFault::Empty));
-    assert_eq!(rt;
-        fault(alloc, &twice, &guards),
-        Some(FormFault::TooManyGuards(4_097))
-    );
-    assert_eq!(rt; fault(alloc, &twice, most), Some(FormFault::Twice(2)));
-    let set = EditSet::make(alloc, &[Edit::Del(name(2))], most, 0)?;
-    assert_eq!(rt; set.guards().len(), 4_096);
-    assert_eq!(rt; set.claims(), [name(1), name(2)].as_slice());
+    let faults = [
+        fault(alloc, &[], &guards),
+        fault_of_two(alloc, &guards),
+        fault_of_two(alloc, most),
+    ];
+    let answers = [
+        Some(FormFault::Empty),
+        Some(FormFault::TooManyGuards(4_097)),
+        Some(FormFault::Twice(2)),
+    ];
+    assert_eq!(rt; faults, answers);
+    check_most_guards(&rt, alloc, most)?;
     Ok(())
 }
 

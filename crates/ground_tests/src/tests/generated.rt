@@ -5,7 +5,8 @@ ghost use Rattle.std.specs.Prelude.{◌≤◌};
 use cell_make::{make_cell, make_scripts};
 use cell_spec::Edit;
 use cell_write::write_cell;
-use s57_types::{Kind, Rec, RecName};
+use s57_types::{Kind, Rec, RecName, Vector};
+use std::process::Abort;
 use std::test::Fail;
 use text_spec::Command;
 
@@ -26,32 +27,44 @@ fn cells_have_their_sizes(rt: HostRuntime) -> Result<(), Fail> {
     Ok(())
 }
 
-#[test]
-fn rounds_move_and_delete(rt: HostRuntime) -> Result<(), Fail> {
-    let scripts = make_scripts(rt.alloc(), 2, 3)?;
-    assert_eq!(rt; scripts.len(), 3);
-    let commands = scripts[0].commands();
-    assert_eq!(rt; commands.len(), 30);
-    assert!(rt; matches!(commands.first(), Some(Command::View)));
-    if let Some(Command::Push(Edit::Set(Rec::V(node)))) = commands.get(1) {
-        assert_eq!(rt;
-            node.name,
-            RecName {
-                kind: Kind::Vc,
-                id: 4
-            }
-        );
-        assert_eq!(rt; node.rver, 2);
-        assert_eq!(rt; node.plane.as_slice(), [(40_001, 1)].as_slice());
-        assert_eq!(rt; node.attrs.len() + node.ends.len() + node.deep.len(), 0);
-    } else {
-        assert!(rt; false, "no node is set");
-    }
-    assert!(rt; matches!(commands.get(2), Some(Command::Commit)));
+/// Checks that the node 4 is set at its new position, without anything beside it.
+fn check_moved(rt: &impl Abort, node: &Vector) {
+    let name = RecName {
+        kind: Kind::Vc,
+        id: 4,
+    };
+    let beside = [node.attrs.len(), node.ends.len(), node.deep.len()];
+    assert_eq!(rt; (node.name, node.rver), (name, 2));
+    assert_eq!(rt; beside, [0; 3]);
+    assert_eq!(rt; node.plane.as_slice(), [(40_001, 1)].as_slice());
+}
+
+/// Whether a command deletes the area 4.
+fn deletes_area(command: &Command) -> bool {
     let area = RecName {
         kind: Kind::Fe,
         id: 4,
     };
-    assert!(rt; matches!(commands.get(4), Some(Command::Push(Edit::Del(name))) if *name == area));
+    matches!(command, Command::Push(Edit::Del(name)) if *name == area)
+}
+
+/// Checks the commands of the first round.
+fn check_round(rt: &impl Abort, commands: &[Command]) {
+    assert_eq!(rt; commands.len(), 30);
+    assert!(rt; matches!(commands[0], Command::View));
+    if let Command::Push(Edit::Set(Rec::V(node))) = &commands[1] {
+        check_moved(rt, node);
+    } else {
+        assert!(rt; false, "no node is set");
+    }
+    assert!(rt; matches!(commands[2], Command::Commit));
+    assert!(rt; deletes_area(&commands[4]));
+}
+
+#[test]
+fn rounds_move_and_delete(rt: HostRuntime) -> Result<(), Fail> {
+    let scripts = make_scripts(rt.alloc(), 2, 3)?;
+    assert_eq!(rt; scripts.len(), 3);
+    check_round(&rt, scripts[0].commands());
     Ok(())
 }
