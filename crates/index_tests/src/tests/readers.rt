@@ -44,8 +44,8 @@ const READERS: [(Key, &[Subject], &[Subject]); 4] = [
 
 fn rows_of(alloc: Global) -> Result<Vec<(Subject, Keys)>, AllocError> {
     let mut rows = Vec::new(alloc);
-    for (subject, keys) in ROWS {
-        rows.push((subject, Keys::of_vec(keys.to_vec(alloc)?)))?;
+    for (subject, keys) in &ROWS {
+        rows.push((*subject, Keys::of_vec(keys.to_vec(alloc)?)))?;
     }
     Ok(rows)
 }
@@ -70,14 +70,19 @@ fn without_edge(alloc: Global, map: &DependMap) -> Result<DependMap, AllocError>
     Ok(map)
 }
 
+/// Whether these subjects read a key, and no others.
+fn are_readers(map: &DependMap, key: Key, wanted: &[Subject]) -> bool {
+    map.readers(key).eq(wanted.iter().copied())
+}
+
 #[test]
 fn subjects_are_found_by_what_they_read(rt: HostRuntime) -> Result<(), Fail> {
     maps_cross_threads();
     let map = map_of(&rt, rt.alloc())?;
     let after = without_edge(rt.alloc(), &map)?;
-    for (key, readers, left) in READERS {
-        assert!(rt; map.readers(key).eq(readers.iter().copied()));
-        assert!(rt; after.readers(key).eq(left.iter().copied()));
+    for (key, readers, left) in &READERS {
+        assert!(rt; are_readers(&map, *key, readers));
+        assert!(rt; are_readers(&after, *key, left));
     }
     assert!(rt; after.reads(&Subject::Rec(EDGE)).is_none());
     Ok(())

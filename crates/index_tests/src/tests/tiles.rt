@@ -2,7 +2,6 @@
 
 use s57_types::{Kind, Plane, RecName};
 use std::alloc::{AllocError, Global};
-use std::process::Abort;
 use std::test::Fail;
 use tile_index::{TileChange, TileIndex, indexes_cross_threads};
 
@@ -105,33 +104,26 @@ fn index_of(alloc: Global, lines: &[Line]) -> Result<TileIndex, AllocError> {
     Ok(index)
 }
 
-/// Checks what is near the first of some lines.
-fn check_case(
-    rt: &impl Abort,
-    alloc: Global,
-    lines: &[Line],
-    near: &[u32],
-) -> Result<(), AllocError> {
+/// Whether names have these numbers, one by one.
+fn are_numbered(names: &[RecName], numbers: &[u32]) -> bool {
+    names.iter().map(|name| name.id).eq(numbers.iter().copied())
+}
+
+/// Whether these, and no others, are near the first of some lines.
+fn are_near(alloc: Global, lines: &[Line], near: &[u32]) -> Result<bool, AllocError> {
     let Some(line) = lines.first() else {
-        return Ok(());
+        return Ok(false);
     };
     let index = index_of(alloc, lines)?;
     let mates = index.mates(alloc, name_of(line, 0))?;
-    assert!(rt;
-        mates
-            .as_slice()
-            .iter()
-            .map(|name| name.id)
-            .eq(near.iter().copied())
-    );
-    Ok(())
+    Ok(are_numbered(mates.as_slice(), near))
 }
 
 #[test]
 fn lines_are_near_where_they_share_a_tile(rt: HostRuntime) -> Result<(), Fail> {
     indexes_cross_threads();
-    for (lines, near) in CASES {
-        check_case(&rt, rt.alloc(), lines, near)?;
+    for (lines, near) in &CASES {
+        assert!(rt; are_near(rt.alloc(), lines, near)?);
     }
     Ok(())
 }
