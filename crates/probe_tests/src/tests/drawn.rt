@@ -4,6 +4,7 @@ ghost use Rattle.std.specs.Prelude.{◌≡◌, ◌<◌};
 
 use super::benches::{bench_with, check_point};
 use super::north;
+use cell_bench::Bench;
 use chain_topo::Steps;
 use check_words::segments_of;
 use geo_exact::Point;
@@ -69,7 +70,26 @@ fn excess(orientations: &[u8]) -> i64 {
     excess
 }
 
-/// Checks all points of the square in which the line lies, but those on it.
+/// Checks all points of the square in which the line lies, but those on it, where the area goes so often along it.
+fn check_square<L: Ledger>(
+    rt: &impl Abort,
+    alloc: Global,
+    bench: &Bench,
+    segments: &[(Point, Point)],
+    excess: i64,
+    steps: &mut Steps<L>,
+) -> Result<(), AllocError> {
+    for k in 0..SIDE * SIDE {
+        let at = ((k / SIDE) as i32 - 10, (k % SIDE) as i32 - 10);
+        if !north::is_on(at, segments) {
+            let wanted = north::winding(at, segments).wrapping_mul(excess);
+            check_point(rt, alloc, bench, at, wanted, steps)?;
+        }
+    }
+    Ok(())
+}
+
+/// Checks one drawn line.
 fn check_line<L: Ledger>(
     rt: &impl Abort,
     alloc: Global,
@@ -80,14 +100,7 @@ fn check_line<L: Ledger>(
     let orientations = drawn_orientations(alloc, state)?;
     let bench = bench_with(rt, alloc, &points, &orientations, steps)?;
     let segments = segments_of(alloc, &points)?;
-    for k in 0..SIDE * SIDE {
-        let at = ((k / SIDE) as i32 - 10, (k % SIDE) as i32 - 10);
-        if !north::is_on(at, &segments) {
-            let wanted = north::winding(at, &segments).wrapping_mul(excess(&orientations));
-            check_point(rt, alloc, &bench, at, wanted, steps)?;
-        }
-    }
-    Ok(())
+    check_square(rt, alloc, &bench, &segments, excess(&orientations), steps)
 }
 
 fn check_lines<L: Ledger>(rt: &impl Abort, alloc: Global, blank: Blank) -> Result<(), AllocError>
