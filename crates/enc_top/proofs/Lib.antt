@@ -15,3 +15,4 @@ mod Coordinates
 mod EdgeWork
 mod ProbedWork
 mod UpdateWork
+mod Ended
