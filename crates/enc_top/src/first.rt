@@ -1,7 +1,9 @@
 //! Edits as the first commit of a cell's history, and the cell that it leaves.
 
-ghost use Rattle.std.specs.Prelude.{◌≡◌, ◌<◌, [], IfErr, IfOk, Ok, true};
+ghost use Rattle.std.specs.Prelude.{◌≡◌, ◌≤◌, [], IfErr, IfOk, Ok, length, true};
 ghost use Rattle.cell_spec.specs.Edits.{find_their_records};
+ghost use Rattle.commit_book.specs.Books.{IsEntered, history_of};
+ghost use Rattle.commit_book.specs.Prepared.{AreRight};
 ghost use Rattle.file_spec.specs.DecodedCell.{decoded_cell};
 ghost use Rattle.file_spec.specs.EncodedCell.{encoded_cell};
 ghost use Rattle.enc_top.specs.Commits.{IsCommitStatus, committed, refusal_told};
@@ -12,9 +14,10 @@ use crate::work::{Export, Work};
 use cell_bench::Bench;
 use cell_write::write_cell;
 use chain_topo::Steps;
-use commit_book::{Book, BookRefusal, Reply, StateRefusal};
+use commit_book::{Book, BookRefusal, Prepared, Reply, StateRefusal};
 use edit_sets::EditSet;
 use file_spec::writable_cell_is_read_back;
+use history_spec::Asked;
 use recheck::prepare;
 use report_text::{Status, print_findings};
 use std::alloc::{AllocError, Global};
@@ -40,14 +43,30 @@ pub(crate) fn commit<R: Threads + Sync, L: Ledger>(
 {
     let prepared = prepare(rt, alloc, &bench, 0, set)?;
     let mut book = Book::of_bench(alloc, bench);
-    let told = match book.commit(alloc, DESK, &prepared, steps) {
-        Ok(told) => told,
-        Err(BookRefusal::NoMemory) => return Err(Status::NoMemory),
-        Err(BookRefusal::LogFull) => unreachable!(),
-    };
-    match refusal_of(&told.reply) {
+    let reply = enter(alloc, &mut book, prepared, steps)?;
+    match refusal_of(&reply) {
         Some(refusal) => Err(Status::Refused(refusal)),
         None => Ok(book.into_bench()),
+    }
+}
+
+/// Enters what was prepared as the first commit of a log, and tells the log's answer.
+fn enter<L: Ledger>(
+    alloc: Global,
+    book: &mut Book,
+    prepared: Prepared,
+    steps: &mut Steps<L>,
+) -> Result<Reply, AllocError>
+    requires none { book.old.entries ≡ [] }
+    requires base { prepared.base ≤ length (history_of book.old).commits }
+    requires level { prepared.edits.nall ≡ book.old.opening.head.nall }
+    requires rows { AreRight book.old.opening book.old.entries prepared }
+    ensures { IfOk result (λ reply. IsEntered book.old 1 (Asked.Commit prepared.base prepared.edits) book.new reply) }
+{
+    match book.commit(alloc, DESK, &prepared, steps) {
+        Ok(told) => Ok(told.reply),
+        Err(BookRefusal::NoMemory) => Err(AllocError),
+        Err(BookRefusal::LogFull) => unreachable!(),
     }
 }
 
