@@ -8,3 +8,4 @@ pub mod Answers
 pub mod Exact
 pub mod Whole
 pub mod Opened
+pub mod Ended

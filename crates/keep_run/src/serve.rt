@@ -50,12 +50,12 @@ fn serve<R: Threads + Sync, L: Ledger, D: Disk>(
     match command {
         Command::View => {
             let reply = see(alloc, journal)?;
-            session.transcript.push_reply(&reply)?;
+            session.tell(reply)?;
         }
         Command::Commit => {
             let reply = commit(rt, alloc, journal, session, steps)?;
             session.clear(alloc);
-            session.transcript.push_reply(&reply)?;
+            session.tell(reply)?;
         }
         Command::Drop => {
             session.clear(alloc);

@@ -1,11 +1,12 @@
 //! A session's draft and its lines, and the commands that ask nothing of the log.
 
 ghost use Rattle.std.specs.Prelude.{◌≡◌, ◌++◌, ◌+◌, ◌<◌, ◌^◌, ◌∷◌, [], OnOk, length};
-ghost use Rattle.history_spec.specs.ReportText.{draft_line};
+ghost use Rattle.history_spec.specs.ReportText.{draft_line, reply_line};
 ghost use Rattle.history_spec.specs.Served.{no_draft};
 ghost use Rattle.keep_run.specs.Sessions.{draft_of};
 
 use cell_spec::Edit;
+use history_spec::Reply;
 use report_text::Transcript;
 use s57_types::{Duplicate, RecName};
 use std::alloc::{AllocError, Global};
@@ -62,6 +63,15 @@ impl Session {
     {
         self.guards.push(name)?;
         self.transcript.push_draft(self.edits.len() as u32)
+    }
+
+    /// Writes the line of an answer.
+    pub(crate) fn tell(&mut self, reply: Reply) -> Result<(), AllocError>
+        ensures edits { self.new.edits ≡ self.old.edits }
+        ensures guards { self.new.guards ≡ self.old.guards }
+        ensures lines { OnOk result (self.new.transcript ≡ self.old.transcript ++ reply_line reply) }
+    {
+        self.transcript.push_reply(&reply)
     }
 
     /// Empties the draft.
