@@ -1,7 +1,10 @@
 //! The work of the measure cases `versions_*` in plain Rust, with `BTreeMap`.
 //!
 //! `versions WORK SIZE` prints what the work computed to standard output and its time to standard error. What it computes is what
-//! `measure versions_WORK SIZE` computes; the older versions are not made, but by `clone_put` and `clone_five_puts`, which make fewer.
+//! `measure versions_WORK SIZE` computes; the older versions are not made, but by `clone_put` and `clone_five_puts`, which make fewer, and by the works
+//! `pieces_..`, which have a table whose copies share pieces.
+
+mod pieces;
 
 use std::collections::BTreeMap;
 use std::sync::Arc;
@@ -65,6 +68,9 @@ fn sum_of_puts(size: u32, puts: u32, rounds: u32, keep_last: bool) -> u64 {
 }
 
 fn outcome(work: &str, size: u32) -> u64 {
+    if let Some(work) = work.strip_prefix("pieces_") {
+        return pieces::outcome(work, size);
+    }
     match work {
         "ascending" => sum_of_rows(numbers(size).into_iter()),
         "gets" => sum_of_gets(size),
