@@ -1,47 +1,11 @@
 -- The cause of each status, from what the files ask for and what was put.
-use Rattle.std.proofs.Common.{◌≡◌, ◌⊎◌, inl, inr, ℕ, List, Option, Some, Result, Ok, Err, refl, sym, ◌∙◌, subst}
-use Rattle.std.specs.Prelude.{IfSome}
-use Rattle.enc_outside.specs.Count.{Rose}
-use Rattle.enc_outside.specs.Files.{Files, Told}
+use Rattle.std.proofs.Common.{◌≡◌, ◌⊎◌, inl, inr, ℕ, List, Option, Some, Result, Ok, Err, refl, sym, subst}
+use Rattle.enc_outside.specs.Files.{Files}
 use Rattle.enc_top.specs.Inputs.{IsInputOf, OutputIs}
-use Rattle.whole_files.specs.Output.{Adds, AddsFront}
-use Rattle.enc_top.specs.Outcome.{
-  AreBegun,
-  AreWritten,
-  Asks,
-  IsAsked,
-  IsAskedBy,
-  IsBuilt,
-  IsBuiltFor,
-  IsCause,
-  IsCauseOf,
-  IsCut,
-  IsCutFile,
-  IsCutText,
-  IsDoneWork,
-  IsExact,
-  IsExpected,
-  IsFinished,
-  IsOutput,
-  IsSilent,
-  IsSmooth,
-  IsStuckAt,
-  Outside,
-}
-use Rattle.enc_top.specs.Task.{Task, task_of}
-use Rattle.enc_top.specs.Words.{
-  Form,
-  apply_form,
-  check_form,
-  drill_form,
-  edge_form,
-  form_of,
-  make_form,
-  no_form,
-  probe_form,
-  replay_form,
-  room_form,
-}
+use Rattle.call_files.specs.Outside.{IsCut, IsDoneWork, IsSilent, IsSmooth, Outside}
+use Rattle.enc_top.specs.Outcome.{Asks, IsAsked, IsAskedBy, IsBuilt, IsBuiltFor, IsCause, IsCauseOf, IsExact, IsExpected, IsOutput, IsStuckAt}
+use Rattle.call_files.specs.Task.{Task, task_of}
+use Rattle.enc_top.specs.Words.{Form, apply_form, check_form, drill_form, edge_form, form_of, make_form, no_form, probe_form, replay_form, room_form}
 use Rattle.report_text.specs.declared.status.Status.{Status}
 use Rattle.report_text.specs.declared.status.Status.TheVariants.{
   Done,
@@ -63,7 +27,8 @@ use Rattle.report_text.specs.declared.status.Status.TheVariants.{
   OpRefused,
   JournalFull,
 }
-use Rattle.enc_top.specs.declared.work.Work.{Work}
+use Rattle.call_files.specs.declared.work.Work.{Work}
+use Rattle.call_files.proofs.DoneWork.{of_told}
 
 pub work_cause : (sticks : Type 0) (form : Form) (before after : Outside) (work : Work) (status : Status)
     → IsOutput form before.files (task_of work) → IsAsked before after form (Ok (task_of work)) → IsDoneWork (task_of work) before after status
@@ -93,36 +58,6 @@ pub asked_still : (form : Form) (before mid after : Outside) (answer : Result Ta
 asked_still form before mid after answer same asked =
     subst (λ (reads : ℕ). Asks form before.files before.read_faults reads answer) (sym same) asked
 
--- the same of what was done before the reading of the input and after it
-module _ (before mid after : Outside) (same_files : mid.files ≡ before.files) (same_faults : mid.write_faults ≡ before.write_faults)
-    (same_written : mid.written ≡ before.written) (same_puts : mid.put_faults ≡ before.put_faults) where
-  finished_still : (task : Task) → IsFinished task mid after → IsFinished task before after
-  finished_still task done = record {
-    written = subst (λ (w : Option (List ℕ)). Told (Adds task.text) w after.written) same_written done.written;
-    files = subst (λ (fs : Option Files). AreWritten task.file fs after.files) same_files done.files;
-  }
-
-  cut_text_still : (task : Task) → IsCutText task mid after → IsCutText task before after
-  cut_text_still task cut = record {
-    rose = subst (λ n. Rose n after.put_faults) same_puts cut.rose;
-    written = subst (λ (w : Option (List ℕ)). Told (AddsFront task.text) w after.written) same_written cut.written;
-    files = cut.files ∙ same_files;
-    write_faults = cut.write_faults ∙ same_faults;
-  }
-
-  cut_file_still : (task : Task) → IsCutFile task mid after → IsCutFile task before after
-  cut_file_still task cut = record {
-    rose = subst (λ n. Rose n after.write_faults) same_faults cut.rose;
-    written = subst (λ (w : Option (List ℕ)). Told (Adds task.text) w after.written) same_written cut.written;
-    files = subst (λ (fs : Option Files). AreBegun task.file fs after.files) same_files cut.files;
-  }
-
-  pub done_still : (task : Task) (status : Status) → IsDoneWork task mid after status → IsDoneWork task before after status
-  done_still task Done done = finished_still task done
-  done_still task WriteFault (inl cut) = inl (cut_text_still task cut)
-  done_still task WriteFault (inr cut) = inr (cut_file_still task cut)
-  done_still task other done = absurd done
-
 pub refused_cause : (sticks : Type 0) (form : Form) (before after : Outside) (status : Status) → IsSilent before after
     → IsAskedBy sticks form before.files before.read_faults after.read_faults (Err status) → IsCauseOf sticks form before after status
 refused_cause sticks form before after Done silent asked = absurd asked
@@ -145,9 +80,6 @@ refused_cause sticks form before after (OpRefused cause) silent asked = (asked.0
 refused_cause sticks form before after (JournalFull count) silent asked = absurd asked
 
 -- ---- where no device failed
-pub of_told : (told : Option Files) (files : Files) (P : Files → Type 0) → told ≡ Some files → IfSome told P → P files
-of_told told files P is holds = subst (λ (t : Option Files). IfSome t P) is holds
-
 told_of_asks : (form : Form) (told : Option Files) (files : Files) (before after : ℕ) (answer : Result Task Status) → told ≡ Some files
     → Asks form told before after answer → OutputIs form files answer
 told_of_asks (check_form cell) told files before after answer is asks = of_told told files (λ fs. OutputIs (check_form cell) fs answer) is asks

@@ -6,7 +6,6 @@ use Rattle.std.proofs.Common.{
   inl,
   inr,
   ℕ,
-  ◌+◌,
   ◌<◌,
   ◌≤◌,
   ◌^◌,
@@ -26,12 +25,11 @@ use Rattle.std.proofs.Common.{
   cond,
   refl,
   sym,
-  ap,
   subst,
   ℤ,
   arith,
 }
-use Rattle.std.specs.Prelude.{count_by, nat_lt, slice_index_or}
+use Rattle.std.specs.Prelude.{count_by}
 use Rattle.std.proofs.lemmas.Bool.Decides.{nat_tests}
 use Rattle.std.proofs.lemmas.List.{length-map}
 use Rattle.cell_make.specs.GeneratedCell.{generated_cell}
@@ -43,69 +41,23 @@ use Rattle.rule_spec.specs.Findings.{finding_total}
 use Rattle.text_spec.specs.OrderLine.{order_line}
 use Rattle.text_spec.specs.ScriptLines.{is_shared}
 use Rattle.text_spec.specs.declared.command.Command.{Command}
-use Rattle.order_text.proofs.OrderLines.{order_of-line}
 use Rattle.cell_spec.specs.Edits.{apply_edits}
 use Rattle.s57_types.specs.declared.cell.Cell.{Cell}
 use Rattle.enc_top.specs.declared.operation.Operation.{Operation}
-use Rattle.enc_top.specs.Complete.{AreGood, AreGoodScripts, IsComplete, IsGoodCell, IsGoodOperation, IsGoodOrder, IsGoodScript, IsGoodUpdate, IsThere}
+use Rattle.enc_top.specs.Complete.{AreGood, IsComplete, IsGoodOperation, IsGoodUpdate}
 use Rattle.enc_top.specs.Operations.{operated, operation_edits}
 use Rattle.enc_top.specs.Updates.{left_by_update, updated}
 use Rattle.room_laws.specs.Orders.{quotas_of}
-use Rattle.enc_top.specs.Inputs.{CellIs, FileIs, OrderIs, OutputIs, RoomIs, ScriptIs, ScriptsAre, cell_limit, drill_answer, order_in, order_limit, script_limit}
-use Rattle.enc_top.specs.Outcome.{
-  AreWritten,
-  IsCause,
-  IsCauseOf,
-  IsEdgeReadBack,
-  IsEdgeWorkOf,
-  IsExact,
-  IsExpected,
-  IsFormReadBack,
-  IsMadeReadBack,
-  IsMakeOf,
-  IsOutReadBack,
-  IsReadBackFrom,
-  IsReplayOf,
-  IsRoomOf,
-  IsRoomReadBack,
-  IsUpdateReadBack,
-  IsUpdateWorkOf,
-  Outside,
-}
+use Rattle.call_files.specs.Inputs.{cell_limit}
+use Rattle.enc_top.specs.Inputs.{OutputIs, RoomIs, drill_answer}
+use Rattle.call_files.specs.Outside.{AreWritten, Outside}
+use Rattle.enc_top.specs.Outcome.{IsCause, IsCauseOf, IsEdgeReadBack, IsEdgeWorkOf, IsExact, IsExpected, IsFormReadBack, IsMadeReadBack, IsMakeOf, IsOutReadBack, IsReadBackFrom, IsReplayOf, IsRoomOf, IsRoomReadBack, IsUpdateReadBack, IsUpdateWorkOf}
 use Rattle.whole_files.specs.Output.{Adds}
 use Rattle.enc_top.specs.Output.{AddsFrom}
-use Rattle.enc_top.specs.Task.{Task, check_task, drill_task, left_task, make_task, probe_task, run_task}
-use Rattle.enc_top.specs.Words.{
-  Form,
-  apply_among,
-  apply_form,
-  check_among,
-  check_form,
-  coordinate_of,
-  drill_among,
-  drill_form,
-  drill_of,
-  edge_among,
-  edge_form,
-  edge_of,
-  form_of,
-  is_between,
-  is_word,
-  join_in,
-  make_among,
-  make_form,
-  make_of,
-  no_form,
-  number_up_to,
-  probe_among,
-  probe_form,
-  probe_of,
-  replay_among,
-  replay_form,
-  room_among,
-  room_form,
-  split_in,
-}
+use Rattle.call_files.specs.Task.{Task}
+use Rattle.enc_top.specs.Task.{check_task, drill_task, left_task, make_task, probe_task, run_task}
+use Rattle.enc_top.specs.Words.{Form, apply_among, apply_form, check_among, check_form, coordinate_of, drill_among, drill_form, drill_of, edge_among, edge_form, edge_of, form_of, is_between, join_in, make_among, make_form, make_of, no_form, number_up_to, probe_among, probe_form, probe_of, replay_among, replay_form, room_among, room_form, split_in}
+use Rattle.call_files.specs.Words.{is_word}
 use Rattle.report_text.specs.declared.status.Status.{Status}
 use Rattle.report_text.specs.declared.status.Status.TheVariants.{
   Done,
@@ -127,42 +79,9 @@ use Rattle.report_text.specs.declared.status.Status.TheVariants.{
   OpRefused,
   JournalFull,
 }
-use Rattle.enc_top.proofs.OneAnswer.{apart, ok_not_err, one_cell, one_output, one_scripts}
-
-not_above : (limit n : ℕ) → n ≤ limit → nat_lt limit n ≡ false
-not_above limit n within = grind (arith, nat_tests)
-
-content_is : (limit : ℕ) (name bytes : List ℕ) (files : Files) → IsThere limit name bytes files → FileIs limit name files (Ok bytes)
-content_is limit name bytes files file = rw file.there (rw (not_above limit (length bytes) file.within) refl)
-
-pub cell_is : (name : List ℕ) (files : Files) (good : IsGoodCell name files) → CellIs name files (Ok good.start)
-cell_is name files good = inl (
-  good.bytes,
-  content_is cell_limit name good.bytes files good.file,
-  rw good.decoded (rw (not_above finding_limit (finding_total good.start) good.few) refl),
-)
-
-pub script_is : (session : ℕ) (name : List ℕ) (files : Files) (commands : List Command) → IsGoodScript name files commands
-    → ScriptIs session name files (Ok commands)
-script_is session name files commands good = inl (good.bytes, content_is script_limit name good.bytes files good.file, good.script)
-
-scripts_are : (names : List (List ℕ)) (files : Files) (commands : List (List Command)) → AreGoodScripts names files commands
-    → ScriptsAre names files (Ok commands)
-scripts_are names files commands good = (
-  good.many,
-  record {
-    each = λ k below. let many = good.many in
-        script_is (k + 1) (slice_index_or names k []) files (slice_index_or commands k []) (good.each k (omega (arith, below, many)));
-  },
-)
-
-order_is : (quotas name : List ℕ) (files : Files) (good : IsGoodOrder quotas name files) → length quotas < 2 ^ 32 → OrderIs quotas name files (Ok good.sessions)
-order_is quotas name files good few =
-    inl (
-      order_line good.sessions,
-      content_is order_limit name (order_line good.sessions) files good.file,
-      ap order_in (order_of-line quotas good.sessions few good.order),
-    )
+use Rattle.enc_top.proofs.OneAnswer.{apart, one_output}
+use Rattle.call_files.proofs.OneAnswer.{ok_not_err, one_cell, one_scripts}
+use Rattle.call_files.proofs.GoodFiles.{cell_is, content_is, not_above, order_is, scripts_are}
 
 -- ---- the words name few scripts
 abbrev FewScripts : Form → Type 0

@@ -14,24 +14,18 @@ use Rattle.topo_ops.specs.declared.refusal.OpRefusal.TheVariants as op
 use Rattle.enc_top.specs.declared.operation.Operation.{Operation}
 use Rattle.enc_top.specs.declared.operation.Operation.TheVariants.{Split, Join}
 use Rattle.enc_top.specs.Commits.{IsCommitStatus, committed}
-use Rattle.enc_top.specs.Inputs.{CellIs, IsFile, IsInputOf, IsInputStatus, IsJudged, IsNotOfText, IsReached, OutputIs, Tells}
-use Rattle.enc_top.specs.Operations.{
-  IsOperation,
-  IsOperationEnd,
-  IsOperationStatus,
-  OperationKeeps,
-  operated,
-  operation_edits,
-  operation_refusal,
-  refused_operation,
-}
+use Rattle.call_files.specs.Inputs.{CellIs, IsFile, IsInputStatus, IsJudged, IsNotOfText, Tells}
+use Rattle.enc_top.specs.Inputs.{IsInputOf, IsReached, OutputIs}
+use Rattle.enc_top.specs.Operations.{IsOperation, IsOperationEnd, IsOperationStatus, OperationKeeps, operated, operation_edits, operation_refusal, refused_operation}
 use Rattle.enc_top.specs.Outcome.{IsAskedBy}
-use Rattle.enc_top.specs.Task.{left_task, task_of}
+use Rattle.enc_top.specs.Task.{left_task}
+use Rattle.call_files.specs.Task.{task_of}
 use Rattle.enc_top.specs.Words.{Form, edge_form}
-use Rattle.enc_top.specs.declared.work.Work.{Work}
+use Rattle.call_files.specs.declared.work.Work.{Work}
 use Rattle.report_text.specs.declared.status.Status.{Status}
 use Rattle.report_text.specs.declared.status.Status.TheVariants.{NoMemory, OpRefused, Refused}
-use Rattle.enc_top.proofs.Answered.{asked_status, both_told, fits_no_text, status_of_more, tells_first}
+use Rattle.enc_top.proofs.Answered.{asked_status, fits_no_text}
+use Rattle.call_files.proofs.Answered.{both_told, status_of_more, tells_first}
 use Rattle.enc_top.proofs.CommitWork.{left_is}
 
 -- ---- the edits of an operation

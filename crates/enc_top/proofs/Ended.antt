@@ -3,11 +3,13 @@ use Rattle.std.proofs.Common.{◌≡◌, ℕ, List, Option, Ok, Err, refl}
 use Rattle.enc_outside.specs.Files.{Files}
 use Rattle.report_text.specs.declared.status.Status.{Status}
 use Rattle.enc_top.specs.Complete.{IsComplete}
-use Rattle.enc_top.specs.Outcome.{IsAskedBy, IsCause, IsDoneWork, IsExact, IsReadBackFrom, Outside, outside}
-use Rattle.enc_top.specs.Task.{task_of}
+use Rattle.enc_top.specs.Outcome.{IsAskedBy, IsCause, IsExact, IsReadBackFrom}
+use Rattle.call_files.specs.Outside.{IsDoneWork, Outside, outside}
+use Rattle.call_files.specs.Task.{task_of}
 use Rattle.enc_top.specs.Words.{form_of}
-use Rattle.enc_top.specs.declared.work.Work.{Work}
-use Rattle.enc_top.proofs.Causes.{asked_still, done_still, exact_from_cause, refused_cause, work_cause}
+use Rattle.call_files.specs.declared.work.Work.{Work}
+use Rattle.enc_top.proofs.Causes.{asked_still, exact_from_cause, refused_cause, work_cause}
+use Rattle.call_files.proofs.DoneWork.{done_still}
 use Rattle.enc_top.proofs.Completed.{complete_from_exact, read_back_from_cause}
 
 -- what a status tells of the words and of the outside before and after

@@ -32,32 +32,8 @@ use Rattle.std.proofs.Common.{
 use Rattle.std.specs.Prelude.{codes, nat_le}
 use Rattle.std.proofs.lemmas.Bool.Decides.{nat_tests}
 use Rattle.std.proofs.lemmas.List.{length-drop, length-map}
-use Rattle.enc_top.specs.Words.{
-  apply_among,
-  apply_form,
-  begins_with_room,
-  check_among,
-  check_form,
-  coordinate_of,
-  drill_among,
-  drill_of,
-  edge_among,
-  edge_of,
-  form_of,
-  is_between,
-  is_word,
-  join_in,
-  make_among,
-  make_of,
-  no_form,
-  number_up_to,
-  probe_among,
-  probe_of,
-  replay_among,
-  replay_form,
-  room_form,
-  split_in,
-}
+use Rattle.enc_top.specs.Words.{apply_among, apply_form, begins_with_room, check_among, check_form, coordinate_of, drill_among, drill_of, edge_among, edge_of, form_of, is_between, join_in, make_among, make_of, no_form, number_up_to, probe_among, probe_of, replay_among, replay_form, room_form, split_in}
+use Rattle.call_files.specs.Words.{is_word}
 use Rattle.enc_top.specs.declared.operation.Operation.{Operation}
 use Rattle.enc_top.proofs.WordLists.{three_words, two_words}
 

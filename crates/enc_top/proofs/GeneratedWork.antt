@@ -36,11 +36,13 @@ use Rattle.file_spec.specs.EncodedCell.{encoded_cell}
 use Rattle.history_spec.specs.Steps.{finding_limit}
 use Rattle.rule_spec.specs.Findings.{finding_total}
 use Rattle.s57_types.specs.declared.cell.Cell.{Cell}
-use Rattle.enc_top.specs.Inputs.{IsJudged, drill_answer}
+use Rattle.call_files.specs.Inputs.{IsJudged}
+use Rattle.enc_top.specs.Inputs.{drill_answer}
 use Rattle.enc_top.specs.Outcome.{IsAskedBy, IsMakeOf}
-use Rattle.enc_top.specs.Task.{Task, drill_task, make_task, task_of}
+use Rattle.call_files.specs.Task.{Task, task_of}
+use Rattle.enc_top.specs.Task.{drill_task, make_task}
 use Rattle.enc_top.specs.Words.{Form, drill_form, make_form}
-use Rattle.enc_top.specs.declared.work.Work.{Work}
+use Rattle.call_files.specs.declared.work.Work.{Work}
 use Rattle.report_text.specs.declared.status.Status.{Status}
 use Rattle.report_text.specs.declared.status.Status.TheVariants.{NoMemory, TooManyFindings}
 use Rattle.enc_top.proofs.Completed.{drilled}

@@ -1,6 +1,5 @@
 pub mod Ranges
 pub mod WordLists
-pub mod FileWrites
 pub mod Answered
 pub mod Causes
 pub mod FormWords

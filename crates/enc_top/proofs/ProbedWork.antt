@@ -9,13 +9,15 @@ use Rattle.skin_probe.specs.Sheet.{sheet_of}
 use Rattle.skin_probe.specs.WindingLaws.{AreSumsByEdges}
 use Rattle.skin_probe.specs.declared.sheet.ProbeSheet.{ProbeSheet}
 use Rattle.enc_outside.specs.Files.{Files}
-use Rattle.enc_top.specs.Inputs.{CellIs, IsFile, IsInputStatus, IsNotOfText, IsReached, OutputIs, Tells}
+use Rattle.call_files.specs.Inputs.{CellIs, IsFile, IsInputStatus, IsNotOfText, Tells}
+use Rattle.enc_top.specs.Inputs.{IsReached, OutputIs}
 use Rattle.enc_top.specs.Outcome.{IsAskedBy, IsProbeIn}
-use Rattle.enc_top.specs.Task.{Task, task_of}
+use Rattle.call_files.specs.Task.{Task, task_of}
 use Rattle.enc_top.specs.Words.{Form, probe_form}
-use Rattle.enc_top.specs.declared.work.Work.{Work}
+use Rattle.call_files.specs.declared.work.Work.{Work}
 use Rattle.report_text.specs.declared.status.Status.{Status}
-use Rattle.enc_top.proofs.Answered.{asked_status, both_told, fits_no_text, tells_first}
+use Rattle.enc_top.proofs.Answered.{asked_status, fits_no_text}
+use Rattle.call_files.proofs.Answered.{both_told, tells_first}
 
 abbrev pub text_alone : List ℕ → Task
 text_alone text = record { text = text; file = None }

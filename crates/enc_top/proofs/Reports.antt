@@ -12,8 +12,9 @@ use Rattle.room_laws.specs.Orders.{quotas_of}
 use Rattle.room_run.specs.Rooms.{IsHeld}
 use Rattle.room_run.specs.declared.run.Held.{Held}
 use Rattle.enc_top.specs.Inputs.{IsRunInRoom}
-use Rattle.enc_top.specs.Task.{Task, run_task, task_of}
-use Rattle.enc_top.specs.declared.work.Work.{Work}
+use Rattle.call_files.specs.Task.{Task, task_of}
+use Rattle.enc_top.specs.Task.{run_task}
+use Rattle.call_files.specs.declared.work.Work.{Work}
 
 first_part : (a b c d : List ℕ) → IsPrefix a (a ++ b ++ c ++ d)
 first_part [] b c d = (b ++ c ++ d, refl)

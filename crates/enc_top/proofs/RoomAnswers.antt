@@ -10,14 +10,16 @@ use Rattle.room_run.specs.declared.run.RunEnd.TheVariants as end
 use Rattle.enc_outside.specs.declared.meet.Stuck.{Stuck as Place}
 use Rattle.report_text.specs.declared.status.Status.{Status}
 use Rattle.report_text.specs.declared.status.Status.TheVariants.{Stuck}
-use Rattle.enc_top.specs.Inputs.{CellIs, IsAmong, IsFile, IsInputOf, IsInputStatus, IsNotOfOrder, IsNotOfText, IsReached, IsReachedScript, IsRunInRoom}
+use Rattle.call_files.specs.Inputs.{CellIs, IsAmong, IsFile, IsInputStatus, IsNotOfOrder, IsNotOfText, IsReachedScript}
+use Rattle.enc_top.specs.Inputs.{IsInputOf, IsReached, IsRunInRoom}
 use Rattle.enc_top.specs.Inputs.{OutputIs}
-use Rattle.enc_top.specs.Inputs.{ScriptsAre, Tells}
+use Rattle.call_files.specs.Inputs.{ScriptsAre, Tells}
 use Rattle.enc_top.specs.Outcome.{IsAskedBy}
-use Rattle.enc_top.specs.Task.{task_of}
+use Rattle.call_files.specs.Task.{task_of}
 use Rattle.enc_top.specs.Words.{room_form}
-use Rattle.enc_top.specs.declared.work.Work.{Work}
-use Rattle.enc_top.proofs.Answered.{asked_status, both_told, fits_no_order, fits_no_text, status_of_more, tells_first, tells_later}
+use Rattle.call_files.specs.declared.work.Work.{Work}
+use Rattle.enc_top.proofs.Answered.{asked_status, fits_no_order, fits_no_text}
+use Rattle.call_files.proofs.Answered.{both_told, status_of_more, tells_first, tells_later}
 
 module _ (sticks : Type 0) (cell out : List ℕ) (names : List (List ℕ)) (files : Option Files) where
   -- the cell's file ends the call

@@ -10,15 +10,18 @@ use Rattle.s57_types.specs.declared.fault.CellFault.{CellFault}
 use Rattle.update_apply.specs.Gives.{IsUpdate}
 use Rattle.update_spec.specs.UpdatedCell.{updated_cell}
 use Rattle.enc_top.specs.Commits.{IsCommitStatus, committed}
-use Rattle.enc_top.specs.Inputs.{CellIs, FileIs, IsFile, IsInputOf, IsInputStatus, IsJudged, IsNotOfText, IsReached, OutputIs, Tells, cell_limit}
+use Rattle.call_files.specs.Inputs.{CellIs, FileIs, IsFile, IsInputStatus, IsJudged, IsNotOfText, Tells, cell_limit}
+use Rattle.enc_top.specs.Inputs.{IsInputOf, IsReached, OutputIs}
 use Rattle.enc_top.specs.Outcome.{IsAskedBy}
-use Rattle.enc_top.specs.Task.{left_task, task_of}
+use Rattle.enc_top.specs.Task.{left_task}
+use Rattle.call_files.specs.Task.{task_of}
 use Rattle.enc_top.specs.Updates.{IsUpdateEnd, left_by_update, refusal_of_edits, update_refusal, updated}
 use Rattle.enc_top.specs.Words.{Form, apply_form}
-use Rattle.enc_top.specs.declared.work.Work.{Work}
+use Rattle.call_files.specs.declared.work.Work.{Work}
 use Rattle.report_text.specs.declared.status.Status.{Status}
 use Rattle.report_text.specs.declared.status.Status.TheVariants.{BadUpdate, NoMemory, Refused}
-use Rattle.enc_top.proofs.Answered.{asked_status, both_told, fits_no_text, status_of_more, tells_first, tells_later}
+use Rattle.enc_top.proofs.Answered.{asked_status, fits_no_text}
+use Rattle.call_files.proofs.Answered.{both_told, status_of_more, tells_first, tells_later}
 use Rattle.enc_top.proofs.CommitWork.{left_is}
 
 -- ---- an update

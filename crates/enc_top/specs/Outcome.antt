@@ -1,7 +1,7 @@
 -- What each status of a call tells of the words, and of the outside before and after.
-use Rattle.std.specs.Prelude.{◌≡◌, ◌⊎◌, ℕ, ◌≤◌, List, length, count_by, Option, None, Some, Result, Ok, Err, IfSome}
+use Rattle.std.specs.Prelude.{◌≡◌, ◌⊎◌, ℕ, ◌≤◌, List, length, count_by, Option, Some, Result, Ok, Err, IfSome}
 use Rattle.enc_outside.specs.Count.{Rose}
-use Rattle.enc_outside.specs.Files.{Files, Told, Writes}
+use Rattle.enc_outside.specs.Files.{Files, Told}
 use Rattle.cell_make.specs.GeneratedCell.{generated_cell}
 use Rattle.file_spec.specs.DecodedCell.{decoded_cell}
 use Rattle.file_spec.specs.EncodedCell.{encoded_cell}
@@ -11,7 +11,6 @@ use Rattle.s57_types.specs.declared.cell.Cell.{Cell}
 use Rattle.history_spec.specs.Sessions.{script_of}
 use Rattle.skin_probe.specs.Sheet.{sheet_of}
 use Rattle.skin_probe.specs.WindingLaws.{AreSumsByEdges}
-use Rattle.skin_probe.specs.declared.sheet.ProbeSheet.{ProbeSheet}
 use Rattle.text_spec.specs.OrderLine.{IsOrder, order_line}
 use Rattle.text_spec.specs.ScriptLines.{is_shared}
 use Rattle.text_spec.specs.declared.command.Command.{Command}
@@ -21,10 +20,11 @@ use Rattle.enc_top.specs.Commits.{IsTooLarge}
 use Rattle.enc_top.specs.Operations.{OperationKeeps, operated}
 use Rattle.enc_top.specs.Updates.{updated}
 use Rattle.update_spec.specs.UpdatedCell.{updated_cell}
-use Rattle.enc_top.specs.Inputs.{CellIs, FileIs, IsInputOf, IsReached, IsRoomRun, IsRunOf, OrderIs, OutputIs, ScriptsAre, cell_limit, drill_answer}
-use Rattle.enc_top.specs.Output.{AddsFrom, IsBegun}
-use Rattle.whole_files.specs.Output.{Adds, AddsFront}
-use Rattle.enc_top.specs.Task.{Task, check_task, left_task, make_task, probe_task, task_of}
+use Rattle.call_files.specs.Inputs.{CellIs, FileIs, OrderIs, ScriptsAre, cell_limit}
+use Rattle.enc_top.specs.Inputs.{IsInputOf, IsReached, IsRoomRun, IsRunOf, OutputIs, drill_answer}
+use Rattle.enc_top.specs.Output.{AddsFrom}
+use Rattle.call_files.specs.Task.{Task, task_of}
+use Rattle.enc_top.specs.Task.{check_task, left_task, make_task, probe_task}
 use Rattle.enc_top.specs.Words.{Form, check_form, replay_form, room_form, make_form, drill_form, edge_form, probe_form, apply_form, no_form, form_of}
 use Rattle.report_text.specs.declared.status.Status.{Status}
 use Rattle.report_text.specs.declared.status.Status.TheVariants.{
@@ -47,19 +47,7 @@ use Rattle.report_text.specs.declared.status.Status.TheVariants.{
   OpRefused,
   JournalFull,
 }
-use Rattle.enc_top.specs.declared.work.Work.{Work}
-
--- what the outside shows, at one moment: the files, how often reads and writes of files failed, what was put, and how often puts failed
-pub record Outside : Type 0 where
-  pub files : Option Files
-  pub read_faults : ℕ
-  pub write_faults : ℕ
-  pub written : Option (List ℕ)
-  pub put_faults : ℕ
-
-abbrev pub outside : Option Files → ℕ → ℕ → Option (List ℕ) → ℕ → Outside
-outside files read_faults write_faults written put_faults =
-    record { files = files; read_faults = read_faults; write_faults = write_faults; written = written; put_faults = put_faults }
+use Rattle.call_files.specs.declared.work.Work.{Work}
 
 -- the words are in one of the forms
 abbrev pub IsBuilt : Form → Type 0
@@ -167,47 +155,9 @@ Asks form files before after answer = IfSome files (λ fs. OutputIs form fs answ
 abbrev pub IsAsked : Outside → Outside → Form → Result Task Status → Type 0
 IsAsked before after form answer = Asks form before.files before.read_faults after.read_faults answer
 
--- nothing was put or tried to be put, and no file changed or was tried to be changed
-pub record IsSilent (before after : Outside) : Type 0 where
-  pub written : after.written ≡ before.written
-  pub put_faults : after.put_faults ≡ before.put_faults
-  pub files : after.files ≡ before.files
-  pub write_faults : after.write_faults ≡ before.write_faults
-
 -- a form whose files end the call so, before anything is written
 abbrev pub IsRefused : Form → Outside → Outside → Status → Type 0
 IsRefused form before after status = IsBuilt form × IsSilent before after × IsAsked before after form (Err status)
-
--- a file has its bytes now and the others stay, or all stay where there is none to write
-abbrev pub AreWritten : Option (List ℕ × List ℕ) → Option Files → Option Files → Type 0
-AreWritten None old new = new ≡ old
-AreWritten (Some file) old new = Told (Writes file.0 file.1) old new
-
--- writing a file failed, and the others stay
-abbrev pub AreBegun : Option (List ℕ × List ℕ) → Option Files → Option Files → Type 0
-AreBegun None old new = ⊥
-AreBegun (Some file) old new = Told (IsBegun file.0 file.1) old new
-
--- the text was put, and then the file was written
-pub record IsFinished (task : Task) (before after : Outside) : Type 0 where
-  pub written : Told (Adds task.text) before.written after.written
-  pub files : AreWritten task.file before.files after.files
-
--- a put failed: a beginning of the text was put, and no file changed or was tried to be changed
-pub record IsCutText (task : Task) (before after : Outside) : Type 0 where
-  pub rose : Rose before.put_faults after.put_faults
-  pub written : Told (AddsFront task.text) before.written after.written
-  pub files : after.files ≡ before.files
-  pub write_faults : after.write_faults ≡ before.write_faults
-
--- a write of the file failed, after the text was put whole
-pub record IsCutFile (task : Task) (before after : Outside) : Type 0 where
-  pub rose : Rose before.write_faults after.write_faults
-  pub written : Told (Adds task.text) before.written after.written
-  pub files : AreBegun task.file before.files after.files
-
-abbrev pub IsCut : Task → Outside → Outside → Type 0
-IsCut task before after = IsCutText task before after ⊎ IsCutFile task before after
 
 -- a session of a room was stuck before one of its views and commits, after nothing was put: where the files are told, these are of the script of
 -- that session
@@ -276,13 +226,6 @@ IsCauseOf sticks form before after (Stuck desk serial) = sticks × IsSilent befo
 
 abbrev pub IsCause : Type 0 → List (List ℕ) → Outside → Outside → Status → Type 0
 IsCause sticks words = IsCauseOf sticks (form_of words)
-
--- where the files are told, no device failed and no rendezvous may give up, the status is the one that words and files ask for, unless memory ran out
-pub record IsSmooth (before after : Outside) (files : Files) : Type 0 where
-  pub told : before.files ≡ Some files
-  pub reads : ¬ (Rose before.read_faults after.read_faults)
-  pub writes : ¬ (Rose before.write_faults after.write_faults)
-  pub puts : ¬ (Rose before.put_faults after.put_faults)
 
 abbrev pub IsExpected : Form → Files → Status → Type 0
 IsExpected form files Done = (task : Task) × OutputIs form files (Ok task)
@@ -379,9 +322,3 @@ IsAskedBy sticks form files before after (Err (Refused refusal)) =
 IsAskedBy sticks form files before after (Err (OpRefused cause)) =
     IsOnEdges form × IsBuilt form × Asks form files before after (Err (OpRefused cause))
 IsAskedBy sticks form files before after (Err other) = ⊥
-
--- the work was done whole, or a device failed in its course
-abbrev pub IsDoneWork : Task → Outside → Outside → Status → Type 0
-IsDoneWork task before after Done = IsFinished task before after
-IsDoneWork task before after WriteFault = IsCut task before after
-IsDoneWork task before after other = ⊥

@@ -1,6 +1,5 @@
--- What a call does once its input is read. This project's own.
-use Rattle.std.specs.Prelude.{ℕ, List, length, Option, None, Some, string_bytes}
-use Rattle.std.specs.Option.{option_map}
+-- What the forms of words do once their input is read. This project's own.
+use Rattle.std.specs.Prelude.{ℕ, List, length, None, Some}
 use Rattle.cell_make.specs.GeneratedCell.{generated_cell}
 use Rattle.drill_run.specs.Drills.{drill_counts}
 use Rattle.drill_run.specs.DrillText.{drill_line, made_line}
@@ -12,13 +11,6 @@ use Rattle.skin_probe.specs.ProbeText.{probe_text}
 use Rattle.skin_probe.specs.Sheet.{sheet_of}
 use Rattle.text_spec.specs.CellText.{cell_text}
 use Rattle.text_spec.specs.declared.command.Command.{Command}
-use Rattle.enc_top.specs.declared.work.Export.{Export}
-use Rattle.enc_top.specs.declared.work.Work.{Work}
-
--- the text that is put, and the file that is made then: its name and its bytes
-pub record Task : Type 0 where
-  pub text : List ℕ
-  pub file : Option (List ℕ × List ℕ)
 
 -- the text of a cell is put
 abbrev pub check_task : Cell → Task
@@ -46,9 +38,3 @@ left_task d out = record { text = cell_text d; file = Some (out, encoded_cell d)
 -- what is told of the areas of a cell round a point is put
 abbrev pub probe_task : Cell → Point → Task
 probe_task c at = record { text = probe_text at (sheet_of c at); file = None }
-
-abbrev pub file_of : Export → List ℕ × List ℕ
-file_of export = (string_bytes export.name, export.bytes.items)
-
-abbrev pub task_of : Work → Task
-task_of work = record { text = work.text.items; file = option_map file_of work.export }

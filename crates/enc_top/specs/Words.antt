@@ -34,9 +34,6 @@ use Rattle.geometry_spec.specs.Points.{Point}
 use Rattle.enc_top.specs.declared.operation.Operation.{Operation}
 use Rattle.enc_top.specs.declared.operation.Operation.TheVariants.{Split, Join}
 
-abbrev pub is_word : List ℕ → List ℕ → Bool
-is_word word text = pointwise nat_eq text word
-
 -- the text is that of a number
 abbrev pub is_written_as : List ℕ → ℕ → Bool
 is_written_as text n = pointwise nat_eq (decimal n) text

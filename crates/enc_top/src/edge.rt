@@ -3,15 +3,14 @@
 ghost use Rattle.std.specs.Prelude.{◌≡◌, ◌<◌, ◌≤◌, IfErr, IfOk, MatchResult, Option, map, string_bytes};
 ghost use Rattle.topo_ops.specs.Refusals.{IsRefusal};
 ghost use Rattle.topo_ops.specs.declared.refusal.OpRefusal.{OpRefusal as SpecRefusal};
-ghost use Rattle.enc_top.specs.Inputs.{IsJudged};
+ghost use Rattle.call_files.specs.Inputs.{IsJudged};
 ghost use Rattle.enc_top.specs.Operations.{IsOperation, IsOperationEnd, IsOperationStatus, OperationKeeps, operated, operation_refusal};
 ghost use Rattle.enc_top.specs.Outcome.{IsAskedBy};
 ghost use Rattle.enc_top.specs.Words.{edge_among, edge_form, join_in, split_in};
 
 use crate::first::{commit, left_work};
-use crate::inputs::read_bench;
 use crate::operation::{Operation, join_in_words, split_in_words};
-use crate::work::Work;
+use call_files::{Work, read_bench};
 use cell_bench::Bench;
 use chain_topo::Steps;
 use edit_sets::EditSet;

@@ -7,10 +7,11 @@ ghost use Rattle.commit_book.specs.Prepared.{AreRight};
 ghost use Rattle.file_spec.specs.DecodedCell.{decoded_cell};
 ghost use Rattle.file_spec.specs.EncodedCell.{encoded_cell};
 ghost use Rattle.enc_top.specs.Commits.{IsCommitStatus, committed, refusal_told};
-ghost use Rattle.enc_top.specs.Inputs.{IsJudged};
-ghost use Rattle.enc_top.specs.Task.{left_task, task_of};
+ghost use Rattle.call_files.specs.Inputs.{IsJudged};
+ghost use Rattle.enc_top.specs.Task.{left_task};
+ghost use Rattle.call_files.specs.Task.{task_of};
 
-use crate::work::{Export, Work};
+use call_files::{Export, Work};
 use cell_bench::Bench;
 use cell_write::write_cell;
 use chain_topo::Steps;

@@ -3,11 +3,9 @@
 
 mod edge;
 mod first;
-mod inputs;
 mod law;
 mod made;
 mod operation;
-mod output;
 mod probed;
 mod room;
 mod top;
@@ -15,9 +13,6 @@ mod update;
 mod words;
 mod work;
 
-pub use inputs::{Checked, read_cell, read_session};
 pub use law::one_answer_is_asked;
-pub use output::finish;
 pub use report_text::{Status, print_status};
 pub use top::{run, run_plain, run_room};
-pub use work::{Export, Work};

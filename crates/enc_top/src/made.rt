@@ -2,13 +2,14 @@
 
 ghost use Rattle.std.specs.Prelude.{◌≡◌, ◌≤◌, ◌∷◌, IfOk, List, Ok, Option, map, string_bytes, ℕ};
 ghost use Rattle.enc_outside.specs.Files.{Files};
-ghost use Rattle.enc_top.specs.Inputs.{IsJudged, drill_answer};
+ghost use Rattle.call_files.specs.Inputs.{IsJudged};
+ghost use Rattle.enc_top.specs.Inputs.{drill_answer};
 ghost use Rattle.enc_top.specs.Outcome.{IsAskedBy, IsMakeOf};
-ghost use Rattle.enc_top.specs.Task.{task_of};
+ghost use Rattle.call_files.specs.Task.{task_of};
 ghost use Rattle.enc_top.specs.Words.{drill_among, make_among};
 
 use crate::words::number_up_to;
-use crate::work::{Export, Work};
+use call_files::{Export, Work};
 use cell_make::make_cell;
 use cell_write::write_cell;
 use drill_run::{DrillRefusal, push_drill, push_made};

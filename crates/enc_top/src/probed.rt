@@ -2,12 +2,11 @@
 
 ghost use Rattle.std.specs.Prelude.{◌≡◌, ◌<◌, ◌≤◌, IfOk, map, string_bytes};
 ghost use Rattle.enc_top.specs.Outcome.{IsAskedBy, IsProbeIn};
-ghost use Rattle.enc_top.specs.Task.{task_of};
+ghost use Rattle.call_files.specs.Task.{task_of};
 ghost use Rattle.enc_top.specs.Words.{probe_among, probe_form};
 
-use crate::inputs::read_bench;
 use crate::words::coordinate;
-use crate::work::Work;
+use call_files::{Work, read_bench};
 use cell_bench::Bench;
 use enc_outside::Shelf;
 use look_counter::start_counter;

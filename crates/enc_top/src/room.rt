@@ -2,15 +2,16 @@
 
 ghost use Rattle.std.specs.Prelude.{◌≡◌, ◌≤◌, true, All, IfErr, IfOk, length, map, string_bytes};
 ghost use Rattle.export_laws.specs.ExportedCells.{IsScriptOfText};
-ghost use Rattle.enc_top.specs.Inputs.{IsCellOfFile, IsRunInRoom};
+ghost use Rattle.call_files.specs.Inputs.{IsCellOfFile};
+ghost use Rattle.enc_top.specs.Inputs.{IsRunInRoom};
 ghost use Rattle.enc_top.specs.Outcome.{IsAskedBy};
-ghost use Rattle.enc_top.specs.Task.{task_of};
+ghost use Rattle.call_files.specs.Task.{task_of};
 ghost use Rattle.enc_top.specs.Words.{begins_with_room, form_of};
 ghost use Rattle.room_run.specs.Rooms.{IsRunEnd};
 ghost use Rattle.sessions.specs.Replays.{IsShortScript, session_limit};
 
-use crate::inputs::{read_bench, read_scripts};
-use crate::work::{Work, work_of};
+use crate::work::work_of;
+use call_files::{Work, read_bench, read_scripts};
 use cell_bench::Bench;
 use enc_outside::{Meet, Shelf};
 use export_laws::exports_are_read_back;

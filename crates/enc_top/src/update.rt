@@ -3,14 +3,13 @@
 ghost use Rattle.std.specs.Prelude.{◌≡◌, ◌<◌, ◌≤◌, IfErr, IfOk, MatchResult, Ok, length, map, string_bytes};
 ghost use Rattle.update_apply.specs.Gives.{IsUpdate, IsUpdateRefusal};
 ghost use Rattle.update_spec.specs.UpdatedCell.{updated_cell};
-ghost use Rattle.enc_top.specs.Inputs.{IsJudged};
+ghost use Rattle.call_files.specs.Inputs.{IsJudged};
 ghost use Rattle.enc_top.specs.Outcome.{IsAskedBy};
 ghost use Rattle.enc_top.specs.Updates.{IsUpdateEnd, updated};
 ghost use Rattle.enc_top.specs.Words.{apply_among, apply_form};
 
 use crate::first::{commit, left_work};
-use crate::inputs::{read_bench, read_update};
-use crate::work::Work;
+use call_files::{Work, read_bench, read_update};
 use cell_bench::Bench;
 use edit_sets::EditSet;
 use enc_outside::Shelf;

@@ -1,42 +1,18 @@
-//! What a call does once its input is read.
+//! The work of a run of scripts.
 
 ghost use Rattle.std.specs.Prelude.{◌≡◌, IfOk, List};
-ghost use Rattle.enc_top.specs.Task.{run_task, task_of};
+ghost use Rattle.enc_top.specs.Task.{run_task};
+ghost use Rattle.call_files.specs.Task.{task_of};
 ghost use Rattle.history_spec.specs.Entries.{AreInterleaved, order_of_entries};
 ghost use Rattle.history_spec.specs.EntriesReport.{AreTranscripts};
 ghost use Rattle.text_spec.specs.declared.command.Command.{Command};
 
+use call_files::{Export, Work};
 use cell_write::write_cell;
 use commit_book::Book;
 use report_text::{Transcript, print_report};
 use room_laws::a_history_has_the_report_of_its_order;
 use std::alloc::{AllocError, Global};
-
-/// A file that is to be made: its name and its bytes.
-#[derive(Debug)]
-pub struct Export {
-    pub name: String,
-    pub bytes: Vec<u8>,
-}
-
-impl Drop for Export {
-    fn drop(self) {
-        let Export { name: _, bytes: _ } = self;
-    }
-}
-
-/// The text that is put, and the file that is made then.
-#[derive(Debug)]
-pub struct Work {
-    pub text: Vec<u8>,
-    pub export: Option<Export>,
-}
-
-impl Drop for Work {
-    fn drop(self) {
-        let Work { text: _, export: _ } = self;
-    }
-}
 
 /// The report of a log and of the lines of its sessions, and the file of the cell that is left: those of one thread that runs the sessions'
 /// scripts in the order of the log's entries.

@@ -28,11 +28,11 @@ use Rattle.report_text.specs.declared.status.Status.TheVariants.{
   OpRefused,
   JournalFull,
 }
-use Rattle.enc_top.specs.Inputs.{CellIs, IsFile, IsInputStatus, IsNotOfOrder, ScriptIs, Tells}
-use Rattle.enc_top.specs.declared.inputs.Checked.{Checked}
-use Rattle.enc_top.specs.declared.work.Work.{Work}
-use Rattle.enc_top.specs.Task.{task_of}
-use Rattle.enc_top.proofs.Answered.{status_of_more, tells_first, tells_later}
+use Rattle.call_files.specs.Inputs.{CellIs, IsFile, IsInputStatus, IsNotOfOrder, ScriptIs, Tells}
+use Rattle.call_files.specs.declared.inputs.Checked.{Checked}
+use Rattle.call_files.specs.declared.work.Work.{Work}
+use Rattle.call_files.specs.Task.{task_of}
+use Rattle.call_files.proofs.Answered.{status_of_more, tells_first, tells_later}
 use Rattle.keep_run.specs.Causes.{
   AreGiven,
   InputIs,

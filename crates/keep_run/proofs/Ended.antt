@@ -3,10 +3,10 @@ use Rattle.std.proofs.Common.{◌≡◌, ◌↔◌, ℕ, List, Option, None, Ok,
 use Rattle.enc_outside.specs.Files.{Files}
 use Rattle.report_text.specs.declared.status.Status.{Status}
 use Rattle.report_text.specs.declared.status.Status.TheVariants.{Usage}
-use Rattle.enc_top.specs.Outcome.{IsDoneWork, Outside, outside}
-use Rattle.enc_top.specs.Task.{task_of}
-use Rattle.enc_top.specs.declared.work.Work.{Work}
-use Rattle.enc_top.proofs.Causes.{done_still}
+use Rattle.call_files.specs.Outside.{IsDoneWork, Outside, outside}
+use Rattle.call_files.specs.Task.{task_of}
+use Rattle.call_files.specs.declared.work.Work.{Work}
+use Rattle.call_files.proofs.DoneWork.{done_still}
 use Rattle.keep_run.specs.Causes.{IsAskedIn, IsCause, IsExact, IsReadBackFrom}
 use Rattle.keep_run.specs.Complete.{IsComplete}
 use Rattle.keep_run.specs.Words.{form_of}

@@ -29,13 +29,13 @@ use Rattle.report_text.specs.declared.status.Status.TheVariants.{
   OpRefused,
   JournalFull,
 }
-use Rattle.enc_top.specs.Inputs.{AndThen, CellIs, ScriptIs}
-use Rattle.enc_top.specs.Outcome.{IsCut, IsDoneWork, IsFinished, IsSilent, IsSmooth, Outside}
-use Rattle.enc_top.specs.Task.{Task, task_of}
-use Rattle.enc_top.specs.declared.work.Work.{Work}
-use Rattle.enc_top.proofs.Causes.{of_told}
-use Rattle.enc_top.proofs.Completed.{cell_is, script_is}
-use Rattle.enc_top.proofs.OneAnswer.{IsOne, ok_not_err, one_cell, one_script, one_then}
+use Rattle.call_files.specs.Inputs.{AndThen, CellIs, ScriptIs}
+use Rattle.call_files.specs.Outside.{IsCut, IsDoneWork, IsFinished, IsSilent, IsSmooth, Outside}
+use Rattle.call_files.specs.Task.{Task, task_of}
+use Rattle.call_files.specs.declared.work.Work.{Work}
+use Rattle.call_files.proofs.DoneWork.{of_told}
+use Rattle.call_files.proofs.GoodFiles.{cell_is, script_is}
+use Rattle.call_files.proofs.OneAnswer.{IsOne, ok_not_err, one_cell, one_script, one_then}
 use Rattle.keep_run.specs.Causes.{
   AreGiven,
   InputIs,

@@ -13,7 +13,7 @@ use Rattle.text_spec.specs.declared.command.Command.{Command}
 use Rattle.text_spec.specs.declared.command.Command.TheVariants.{Push}
 use Rattle.history_spec.specs.Served.{Draft, no_draft}
 use Rattle.book_journal.specs.Entries.{edit_lines, text_limit}
-use Rattle.enc_top.specs.Inputs.{IsScriptWithin}
+use Rattle.call_files.specs.Inputs.{IsScriptWithin}
 use Rattle.keep_run.specs.Sessions.{IsFit}
 
 line_more : (command : Command) (rest : List Command) → length (flat_map command_line (command ∷ rest))

@@ -19,7 +19,7 @@ use Rattle.book_journal.specs.Journals.{IsJournalOf, state_after}
 use Rattle.book_journal.specs.Keeping.{commit_limit}
 use Rattle.book_journal.proofs.Committing.{cell_of_all}
 use Rattle.keep_run.specs.Runs.{IsKeptTo, kept_at, kept_history, kept_lines, kept_replies, left_behind, replies_behind}
-use Rattle.enc_top.specs.Inputs.{IsScriptWithin}
+use Rattle.call_files.specs.Inputs.{IsScriptWithin}
 use Rattle.keep_run.specs.Sessions.{IsAnswered, IsAround, IsDone, IsDoneAlone, IsEntered, IsFit, IsRun, IsRunTo, commits_left, draft_of, event_by}
 use Rattle.keep_run.specs.declared.session.Session.{Session}
 use Rattle.keep_run.proofs.Fits.{fit_edit, fit_guard, fit_none, fit_same, fit_script}

@@ -2,7 +2,7 @@
 use Rattle.std.proofs.Common.{◌≡◌, inl, inr, false, ℕ, ◌≤◌, List, Option, None, Some, Result, Ok, Err, IfOk, OnOk, refl, subst, arith}
 use Rattle.std.specs.Prelude.{IfSome, IsSome}
 use Rattle.std.proofs.lemmas.Bool.{false≢true}
-use Rattle.enc_top.proofs.Answered.{rose_earlier}
+use Rattle.call_files.proofs.Answered.{rose_earlier}
 use Rattle.s57_types.specs.declared.cell.Cell.{Cell}
 use Rattle.rule_spec.specs.Findings.{finding_total}
 use Rattle.text_spec.specs.declared.command.Command.{Command}

@@ -2,7 +2,7 @@
 use Rattle.std.proofs.Common.{◌≡◌, ◌↔◌, ℕ, List, Option, None}
 use Rattle.report_text.specs.declared.status.Status.{Status}
 use Rattle.report_text.specs.declared.status.Status.TheVariants.{Usage}
-use Rattle.enc_top.specs.Outcome.{Outside}
+use Rattle.call_files.specs.Outside.{Outside}
 use Rattle.keep_run.specs.Causes.{IsCause, IsExact, IsReadBackFrom}
 use Rattle.keep_run.specs.Complete.{IsComplete}
 use Rattle.keep_run.specs.Words.{form_of}

@@ -1,7 +1,7 @@
 -- The form of the words of a session over a journal.
 use Rattle.std.proofs.Common.{◌≡◌, ◌<◌, ◌≤◌, Bool, true, false, List, [], ◌∷◌, Option, None, Some, String, Global, length, map, get_or, codes, cond}
 use Rattle.std.proofs.Common.{refl, sym, ap, ◌∙◌, string_bytes, arith}
-use Rattle.enc_top.specs.Words.{is_word}
+use Rattle.call_files.specs.Words.{is_word}
 use Rattle.keep_run.specs.Words.{KeepForm, form_of, keep_form}
 
 pub fewer : (words : List (String Global)) → length words < 5 → form_of (map string_bytes words) ≡ None

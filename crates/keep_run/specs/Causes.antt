@@ -9,10 +9,10 @@ use Rattle.text_spec.specs.declared.command.Command.{Command}
 use Rattle.history_spec.specs.Steps.{AcceptedCommit}
 use Rattle.book_journal.specs.Journals.{IsDamagedAt, IsJournalOf}
 use Rattle.book_journal.specs.Keeping.{commit_limit}
-use Rattle.enc_top.specs.Inputs.{AndThen, CellIs, ScriptIs}
-use Rattle.enc_top.specs.Outcome.{IsCut, IsFinished, IsSilent, IsSmooth, Outside}
-use Rattle.enc_top.specs.Task.{Task, task_of}
-use Rattle.enc_top.specs.declared.work.Work.{Work}
+use Rattle.call_files.specs.Inputs.{AndThen, CellIs, ScriptIs}
+use Rattle.call_files.specs.Outside.{IsCut, IsFinished, IsSilent, IsSmooth, Outside}
+use Rattle.call_files.specs.Task.{Task, task_of}
+use Rattle.call_files.specs.declared.work.Work.{Work}
 use Rattle.report_text.specs.declared.status.Status.{Status}
 use Rattle.report_text.specs.declared.status.Status.TheVariants.{
   Done,

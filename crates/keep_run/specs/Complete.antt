@@ -6,8 +6,8 @@ use Rattle.text_spec.specs.declared.command.Command.{Command}
 use Rattle.history_spec.specs.Steps.{AcceptedCommit}
 use Rattle.book_journal.specs.Journals.{IsJournalOf}
 use Rattle.book_journal.specs.Keeping.{commit_limit}
-use Rattle.enc_top.specs.Complete.{IsGoodCell, IsGoodScript}
-use Rattle.enc_top.specs.Outcome.{IsSmooth, Outside}
+use Rattle.call_files.specs.GoodFiles.{IsGoodCell, IsGoodScript}
+use Rattle.call_files.specs.Outside.{IsSmooth, Outside}
 use Rattle.report_text.specs.declared.status.Status.{Status}
 use Rattle.report_text.specs.declared.status.Status.TheVariants.{Done, NoMemory}
 use Rattle.keep_run.specs.Words.{KeepForm, form_of}

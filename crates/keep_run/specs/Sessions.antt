@@ -16,7 +16,7 @@ use Rattle.history_spec.specs.Steps.{AcceptedCommit, Event, History, answer, lef
 use Rattle.commit_book.specs.Books.{BookState, IsEntered as IsEnteredBy, entry_limit, history_of}
 use Rattle.book_journal.specs.Entries.{HaveLines, edit_lines}
 use Rattle.book_journal.specs.Journals.{IsJournalOf}
-use Rattle.enc_top.specs.Inputs.{script_limit}
+use Rattle.call_files.specs.Inputs.{script_limit}
 use Rattle.keep_run.specs.Runs.{kept_at, kept_history, kept_lines, left_behind, replies_behind}
 use Rattle.keep_run.specs.declared.session.Session.{Session}
 

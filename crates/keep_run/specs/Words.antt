@@ -1,6 +1,6 @@
 -- The form of the words of a session over a journal.
 use Rattle.std.specs.Prelude.{ℕ, List, [], ◌∷◌, Option, None, Some, codes, if◌then◌else◌}
-use Rattle.enc_top.specs.Words.{is_word}
+use Rattle.call_files.specs.Words.{is_word}
 
 -- the names of the files: of the cell, of the cell that is left, and of the script. The file of the journal is behind the disk
 pub record KeepForm : Type 0 where

@@ -6,7 +6,7 @@ ghost use Rattle.book_journal.specs.Standing.{IsStill};
 ghost use Rattle.cell_spec.specs.Writable.{IsWritable};
 ghost use Rattle.commit_book.specs.Books.{history_of};
 ghost use Rattle.crash_disk.specs.Disk.{LeavesOnly};
-ghost use Rattle.enc_top.specs.Inputs.{IsScriptWithin};
+ghost use Rattle.call_files.specs.Inputs.{IsScriptWithin};
 ghost use Rattle.history_spec.specs.Steps.{finding_limit};
 ghost use Rattle.rule_spec.specs.Findings.{finding_total};
 ghost use Rattle.keep_run.specs.Keeps.{IsKeepEnd, IsKept, IsKeptImage, IsKeptOn, IsKeptRun, IsOpenEnd, status_of as status_of_lem, stop_status};

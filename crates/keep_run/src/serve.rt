@@ -5,7 +5,7 @@ ghost use Rattle.book_journal.specs.Keeping.{commit_limit};
 ghost use Rattle.book_journal.specs.Standing.{IsStill};
 ghost use Rattle.commit_book.specs.Books.{entry_limit, history_of};
 ghost use Rattle.crash_disk.specs.Disk.{LeavesOnly};
-ghost use Rattle.enc_top.specs.Inputs.{IsScriptWithin};
+ghost use Rattle.call_files.specs.Inputs.{IsScriptWithin};
 ghost use Rattle.keep_run.specs.Runs.{IsKeptTo};
 ghost use Rattle.keep_run.specs.Sessions.{IsAround, IsDone, IsFit, IsRun, IsRunTo, draft_of, event_by};
 ghost use Rattle.keep_run.specs.Stops.{IsStop};

@@ -2,7 +2,7 @@ use Rattle.std.proofs.Common.{SFits, w32, rules, subst}
 use Rattle.std.proofs.lemmas.Result.{err_from_is_err_and}
 use Rattle.geometry_spec.specs.Points.{Point}
 use Rattle.enc_top.specs.Outcome.{IsProbeIn}
-use Rattle.enc_top.specs.Task.{task_of}
+use Rattle.call_files.specs.Task.{task_of}
 use Rattle.enc_top.proofs.ProbedWork.{passed_is, probe_done, probe_ends}
 use Rattle.enc_top.proofs.probed.probe_at.Goals as goal
 

@@ -5,7 +5,7 @@ use Rattle.std.proofs.lemmas.List.{length-map}
 use Rattle.script_text.specs.declared.script.Script.{Script}
 use Rattle.report_text.specs.declared.status.Status.TheVariants.{NoMemory, Stuck}
 use Rattle.room_run.specs.Rooms.{IsRunEnd}
-use Rattle.enc_top.specs.Inputs.{IsReachedScript, ScriptsAre, Tells}
+use Rattle.call_files.specs.Inputs.{IsReachedScript, ScriptsAre, Tells}
 use Rattle.enc_top.specs.Outcome.{IsAskedBy}
 use Rattle.enc_top.specs.Words.{form_of, room_form}
 use Rattle.enc_top.proofs.FormWords.{behind, few_room_words, room_words, wrong_room_count}

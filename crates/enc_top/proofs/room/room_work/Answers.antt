@@ -8,7 +8,7 @@ use Rattle.history_spec.specs.Entries.{AreInterleaved, order_of_entries}
 use Rattle.history_spec.specs.EntriesReport.{AreTranscripts}
 use Rattle.room_laws.specs.Orders.{quotas_of}
 use Rattle.room_run.specs.Rooms.{IsHeld}
-use Rattle.enc_top.specs.Task.{task_of}
+use Rattle.call_files.specs.Task.{task_of}
 use Rattle.enc_top.proofs.Reports.{held_task, run_in_room}
 use Rattle.enc_top.proofs.room.room_work.Goals as goal
 

@@ -1,7 +1,7 @@
 use Rattle.std.proofs.Common.{◌-◌, length, take, drop, refl, sym, ap, ◌∙◌, subst}
 use Rattle.std.specs.Prelude.{codes}
 use Rattle.enc_top.specs.Outcome.{IsAskedBy}
-use Rattle.enc_top.specs.Words.{is_word}
+use Rattle.call_files.specs.Words.{is_word}
 use Rattle.enc_top.proofs.FormWords.{applied_words, behind, check_words, drilled_words, join_words, made_words, no_words, other_words, probed_words}
 use Rattle.enc_top.proofs.FormWords.{run_words, split_words}
 use Rattle.enc_top.proofs.top.asked_work.Goals as goal

@@ -3,12 +3,15 @@ use Rattle.std.proofs.lemmas.Result.{err_from_is_err_and}
 use Rattle.rule_spec.specs.Findings.{all_findings}
 use Rattle.text_spec.specs.CellText.{cell_text, text_with}
 use Rattle.report_text.specs.declared.status.Status.TheVariants.{NoMemory}
-use Rattle.enc_top.specs.declared.inputs.Checked.{Checked}
-use Rattle.enc_top.specs.Inputs.{CellIs, IsFile, IsInputOf, IsReached, OutputIs}
+use Rattle.call_files.specs.declared.inputs.Checked.{Checked}
+use Rattle.call_files.specs.Inputs.{CellIs, IsFile}
+use Rattle.enc_top.specs.Inputs.{IsInputOf, IsReached, OutputIs}
 use Rattle.enc_top.specs.Outcome.{IsAskedBy}
-use Rattle.enc_top.specs.Task.{check_task, task_of}
+use Rattle.enc_top.specs.Task.{check_task}
+use Rattle.call_files.specs.Task.{task_of}
 use Rattle.enc_top.specs.Words.{check_among, check_form}
-use Rattle.enc_top.proofs.Answered.{asked_status, both_told, fits_no_text, status_of_more, tells_first}
+use Rattle.enc_top.proofs.Answered.{asked_status, fits_no_text}
+use Rattle.call_files.proofs.Answered.{both_told, status_of_more, tells_first}
 use Rattle.enc_top.proofs.FormWords.{one_word}
 use Rattle.enc_top.proofs.top.check.Goals as goal
 

@@ -1,5 +1,5 @@
 use Rattle.std.proofs.Common.{map, string_bytes}
-use Rattle.enc_top.specs.Outcome.{outside}
+use Rattle.call_files.specs.Outside.{outside}
 use Rattle.enc_top.specs.Words.{form_of}
 use Rattle.enc_top.proofs.Causes.{with_sticks}
 use Rattle.enc_top.proofs.top.run.Goals as goal

@@ -1,10 +1,12 @@
 use Rattle.std.proofs.Common.{◌≡◌, IfSome, Ok, Err, inr, refl, sym, ap, ◌∙◌, subst}
-use Rattle.enc_top.specs.Task.{run_task, task_of}
-use Rattle.enc_top.specs.declared.work.Work.{Work}
+use Rattle.enc_top.specs.Task.{run_task}
+use Rattle.call_files.specs.Task.{task_of}
+use Rattle.call_files.specs.declared.work.Work.{Work}
 use Rattle.text_spec.specs.OrderLine.{IsOrder}
 use Rattle.room_laws.specs.Orders.{quotas_of}
-use Rattle.enc_top.specs.Inputs.{IsFile, IsOrderedRun, OrderIs, OrderedRunIs}
-use Rattle.enc_top.proofs.Answered.{if_ok_more, tells_first}
+use Rattle.call_files.specs.Inputs.{IsFile, OrderIs}
+use Rattle.enc_top.specs.Inputs.{IsOrderedRun, OrderedRunIs}
+use Rattle.call_files.proofs.Answered.{if_ok_more, tells_first}
 use Rattle.enc_top.proofs.top.run_in_order_of.Goals as goal
 
 pub returns-in-Err-clause-tells : goal.returns-in-Err-clause-tells

@@ -1,10 +1,11 @@
 use Rattle.std.proofs.Common.{◌≡◌, ◌⊎◌, inl, inr, Ok, Global, map, string_bytes, refl, subst}
 use Rattle.std.specs.Prelude.{Vec}
-use Rattle.enc_top.specs.Task.{task_of}
+use Rattle.call_files.specs.Task.{task_of}
 use Rattle.script_text.specs.declared.script.Script.{Script}
-use Rattle.enc_top.specs.Inputs.{IsAmong, IsFile, IsOrderedRun, IsReachedInRun, IsReachedScript, IsRunOf, OrderedRunIs, RunIs, ScriptsAre, Tells}
-use Rattle.enc_top.specs.declared.work.Work.{Work}
-use Rattle.enc_top.proofs.Answered.{if_err_more, if_ok_more, status_of_more, tells_first, tells_last}
+use Rattle.call_files.specs.Inputs.{IsAmong, IsFile, IsReachedScript, ScriptsAre, Tells}
+use Rattle.enc_top.specs.Inputs.{IsOrderedRun, IsReachedInRun, IsRunOf, OrderedRunIs, RunIs}
+use Rattle.call_files.specs.declared.work.Work.{Work}
+use Rattle.call_files.proofs.Answered.{if_err_more, if_ok_more, status_of_more, tells_first, tells_last}
 use Rattle.enc_top.proofs.top.run_on.Goals as goal
 
 pub returns-in-Err-clause-tells : goal.returns-in-Err-clause-tells

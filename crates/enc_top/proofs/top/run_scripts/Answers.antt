@@ -1,12 +1,14 @@
 use Rattle.std.proofs.Common.{◌≡◌, ◌⊎◌, ◌-◌, ◌≤◌, take, Ok, Err, inl, inr, length, map, drop, string_bytes, refl, sym, ap, ◌∙◌, subst, arith}
-use Rattle.enc_top.specs.Task.{task_of}
-use Rattle.enc_top.specs.declared.work.Work.{Work}
+use Rattle.call_files.specs.Task.{task_of}
+use Rattle.call_files.specs.declared.work.Work.{Work}
 use Rattle.std.proofs.lemmas.Bool.Decides.{nat_tests}
-use Rattle.enc_top.specs.Inputs.{CellIs, IsAmong, IsFile, IsInputOf, IsReached, IsReachedInRun, IsRunOf, OutputIs, RunIs, Tells}
+use Rattle.call_files.specs.Inputs.{CellIs, IsAmong, IsFile, Tells}
+use Rattle.enc_top.specs.Inputs.{IsInputOf, IsReached, IsReachedInRun, IsRunOf, OutputIs, RunIs}
 use Rattle.enc_top.specs.Outcome.{IsAskedBy, IsOutput}
 use Rattle.enc_top.specs.Words.{Form, replay_among, replay_form}
 use Rattle.s57_types.specs.declared.cell.Cell.{Cell}
-use Rattle.enc_top.proofs.Answered.{asked_answer, asked_status, fits_replay, if_err_more, if_ok_more, status_of_more, tells_first, tells_last}
+use Rattle.enc_top.proofs.Answered.{asked_answer, asked_status, fits_replay}
+use Rattle.call_files.proofs.Answered.{if_err_more, if_ok_more, status_of_more, tells_first, tells_last}
 use Rattle.enc_top.proofs.FormWords.{behind, replay_words}
 use Rattle.enc_top.proofs.top.run_scripts.Goals as goal
 

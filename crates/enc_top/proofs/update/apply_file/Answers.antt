@@ -2,7 +2,7 @@ use Rattle.std.proofs.Common.{◌≡◌, ◌⊎◌, ℕ, List, Option, Ok, Err, 
 use Rattle.std.specs.Prelude.{IfSome}
 use Rattle.enc_outside.specs.Files.{Files}
 use Rattle.update_spec.specs.UpdatedCell.{updated_cell}
-use Rattle.enc_top.specs.Inputs.{FileIs, cell_limit}
+use Rattle.call_files.specs.Inputs.{FileIs, cell_limit}
 use Rattle.enc_top.specs.Updates.{updated}
 use Rattle.report_text.specs.declared.status.Status.TheVariants.{NoMemory}
 use Rattle.enc_top.proofs.UpdateWork.{update_done, update_ends}

@@ -2,7 +2,7 @@ use Rattle.std.proofs.Common.{◌≡◌, Option, None, Some, Err, length, map, r
 use Rattle.std.specs.Prelude.{IfSome, codes}
 use Rattle.crash_disk.specs.Disk.{LeavesOnly}
 use Rattle.report_text.specs.declared.status.Status.TheVariants.{Usage}
-use Rattle.enc_top.specs.Words.{is_word}
+use Rattle.call_files.specs.Words.{is_word}
 use Rattle.keep_run.specs.Causes.{IsAskedIn, IsImageIn}
 use Rattle.keep_run.specs.Words.{KeepForm, form_of, keep_form}
 use Rattle.keep_run.proofs.Answers.{not_asked}

@@ -4,7 +4,7 @@ use Rattle.s57_types.specs.declared.cell.Cell.{Cell}
 use Rattle.cell_spec.specs.Writable.{IsWritable}
 use Rattle.enc_outside.specs.Files.{Files}
 use Rattle.script_text.specs.declared.script.Script.{Script}
-use Rattle.enc_top.specs.Inputs.{CellIs, IsFile, ScriptIs, Tells}
+use Rattle.call_files.specs.Inputs.{CellIs, IsFile, ScriptIs, Tells}
 use Rattle.keep_run.specs.Words.{keep_form}
 use Rattle.keep_run.proofs.Answers.{cell_ends, keep_ends, kept_done, kept_meanwhile, not_asked, script_ends}
 use Rattle.keep_run.proofs.top.kept_work.Goals as goal

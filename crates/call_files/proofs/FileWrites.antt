@@ -3,7 +3,7 @@ use Rattle.std.proofs.Common.{◌≡◌, inl, inr, ℕ, List, [], ◌++◌, take
 use Rattle.std.specs.Prelude.{IfSome, IsSome}
 use Rattle.std.proofs.lemmas.Bool.{false≢true}
 use Rattle.enc_outside.specs.Files.{AppendsTo, Files, MayEmpty, SameFiles, StaysUntold, Told, Writes}
-use Rattle.enc_top.specs.Output.{HasFront, IsBegun}
+use Rattle.call_files.specs.Output.{HasFront, IsBegun}
 
 -- what holds of two changes, one after the other, holds of both where it does where all is told
 told_both : (P Q R : Files → Files → Type 0) (a b c : Option Files) → ((x y z : Files) → P x y → Q y z → R x z) → Told P a b

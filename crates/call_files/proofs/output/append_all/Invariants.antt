@@ -1,6 +1,6 @@
 use Rattle.std.proofs.Common.{length, take, ◌-◌, ◌≤◌, ◌≡◌}
 use Rattle.enc_outside.specs.Files.{Told, StaysUntold, Writes}
-use Rattle.enc_top.proofs.output.append_all.Given as goal
+use Rattle.call_files.proofs.output.append_all.Given as goal
 
 abbrev pub invariant-loop-done : goal.invariant-loop-done
 invariant-loop-done g l = record {

@@ -1,8 +1,8 @@
 use Rattle.std.proofs.Common.{arith, take, drop, ◌∙◌}
 use Rattle.std.proofs.Math.Seq.{take-add}
 use Rattle.std.proofs.lemmas.List.{take_rest, length-take, length-drop}
-use Rattle.enc_top.proofs.FileWrites.{appended_more}
-use Rattle.enc_top.proofs.output.append_all.Goals as goal
+use Rattle.call_files.proofs.FileWrites.{appended_more}
+use Rattle.call_files.proofs.output.append_all.Goals as goal
 
 pub loop-done-preserved : goal.loop-done-preserved
 loop-done-preserved g c = let bytes = c.args.bytes.now in let done = c.loop-done.done in let n = c.in_ok-done.field-0 in

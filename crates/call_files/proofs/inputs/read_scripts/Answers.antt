@@ -6,9 +6,9 @@ use Rattle.std.proofs.lemmas.List.{length-map}
 use Rattle.std.proofs.lemmas.List.Elements.{All-push}
 use Rattle.export_laws.specs.ExportedCells.{IsScriptOfText}
 use Rattle.sessions.specs.Replays.{IsShortScript}
-use Rattle.enc_top.specs.Inputs.{AreScripts, IsAmong, IsFile, IsReachedScript, ScriptIs, ScriptsAre, Tells}
-use Rattle.enc_top.proofs.Answered.{both_told, first_bad, name_there, reached_script, scripts_more, status_of_more, tells_later}
-use Rattle.enc_top.proofs.inputs.read_scripts.Goals as goal
+use Rattle.call_files.specs.Inputs.{AreScripts, IsAmong, IsFile, IsReachedScript, ScriptIs, ScriptsAre, Tells}
+use Rattle.call_files.proofs.Answered.{both_told, first_bad, name_there, reached_script, scripts_more, status_of_more, tells_later}
+use Rattle.call_files.proofs.inputs.read_scripts.Goals as goal
 
 pub returns-in-Err-clause-tells : goal.returns-in-Err-clause-tells
 returns-in-Err-clause-tells g c =

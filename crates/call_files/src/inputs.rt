@@ -9,10 +9,10 @@ ghost use Rattle.history_spec.specs.Steps.{finding_limit};
 ghost use Rattle.sessions.specs.Replays.{IsShortScript};
 ghost use Rattle.text_spec.specs.OrderLine.{IsOrder, order_of};
 ghost use Rattle.room_laws.specs.Orders.{quotas_of as quotas_of_lem};
-ghost use Rattle.enc_top.specs.Inputs.{CellIs, FileIs, IsAmong, IsCellOfFile, IsFile, IsInputStatus, IsJudged, IsJudgedScript};
-ghost use Rattle.enc_top.specs.Inputs.{IsReachedScript, IsScriptWithin, OrderIs, ScriptIs, ScriptsAre, Tells, cell_in, cell_limit, order_in};
-ghost use Rattle.enc_top.specs.Inputs.{IsNotOfOrder, IsNotOfText, script_limit};
-ghost use Rattle.enc_top.specs.Refused.{IsRefusal};
+ghost use Rattle.call_files.specs.Inputs.{CellIs, FileIs, IsAmong, IsCellOfFile, IsFile, IsInputStatus, IsJudged, IsJudgedScript};
+ghost use Rattle.call_files.specs.Inputs.{IsReachedScript, IsScriptWithin, OrderIs, ScriptIs, ScriptsAre, Tells, cell_in, cell_limit, order_in};
+ghost use Rattle.call_files.specs.Inputs.{IsNotOfOrder, IsNotOfText, script_limit};
+ghost use Rattle.call_files.specs.Refused.{IsRefusal};
 
 use cell_bench::{Bench, FINDING_LIMIT, LoadRefusal};
 use cell_findings::{FindingRefusal, Findings, find_all_in_threads};

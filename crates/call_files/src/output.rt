@@ -3,9 +3,9 @@
 ghost use Rattle.std.specs.Prelude.{[], ◌≡◌, ◌≤◌, IfSome, OnOk, OnErr, string_bytes, Some};
 ghost use Rattle.enc_outside.specs.Count.{Rose};
 ghost use Rattle.enc_outside.specs.Files.{Told, StaysUntold, Writes};
-ghost use Rattle.enc_top.specs.Output.{HasFront, IsBegun};
-ghost use Rattle.enc_top.specs.Outcome.{IsDoneWork, outside};
-ghost use Rattle.enc_top.specs.Task.{task_of};
+ghost use Rattle.call_files.specs.Output.{HasFront, IsBegun};
+ghost use Rattle.call_files.specs.Outside.{IsDoneWork, outside};
+ghost use Rattle.call_files.specs.Task.{task_of};
 
 use crate::work::{Export, Work};
 use enc_outside::{Failed, Shelf, Sink};

@@ -1,0 +1,12 @@
+-- Writing a file.
+use Rattle.std.specs.Prelude.{◌≡◌, ◌≢◌, ◌⊎◌, ℕ, List, Some, take}
+use Rattle.enc_outside.specs.Files.{Files, MayEmpty}
+
+-- a file has some first bytes now, and the others stay
+pub record HasFront (name bytes : List ℕ) (old new : Files) : Type 0 where
+  pub left : (n : ℕ) × (new name ≡ Some (take n bytes))
+  pub others : (other : List ℕ) → other ≢ name → new other ≡ old other
+
+-- writing a file failed: it wasn't made, and is as it was or empty, or it was made, and has some first bytes now
+abbrev pub IsBegun : List ℕ → List ℕ → Files → Files → Type 0
+IsBegun name bytes old new = MayEmpty name old new ⊎ HasFront name bytes old new

@@ -1,0 +1,13 @@
+//! The files of a call: its input files, each read and judged before the next, and the text and the file that are left when its work is done.
+#![tactic(auto)]
+
+mod inputs;
+mod output;
+mod work;
+
+pub use inputs::{
+    Checked, quotas_of, read_bench, read_cell, read_scripts, read_session, read_sessions,
+    read_update,
+};
+pub use output::finish;
+pub use work::{Export, Work};
