@@ -12,8 +12,8 @@ use Rattle.cell_spec.specs.declared.key.Key.{Key}
 use Rattle.cell_spec.specs.declared.key.Key.TheVariants.{Name, Refs, Foid}
 use Rattle.cell_spec.specs.Names.{identity_order, same_key}
 use Rattle.cell_spec.proofs.Orders.{exact_identities, total_identities}
-use Rattle.row_table.specs.Rows.{value_of, with_row}
-use Rattle.row_table.proofs.Changes.{value_of-with_row}
+use Rattle.row_spec.specs.Rows.{value_of, with_row}
+use Rattle.row_spec.proofs.Changes.{value_of-with_row}
 use Rattle.edit_answers.proofs.Ties.{identities_flip, or_none}
 use Rattle.affected_subjects.specs.EditedCells.{KnowsBearers, is_borne_after}
 

@@ -19,7 +19,7 @@ use Rattle.cell_spec.specs.Names.{identity_order, same_key, subject_order}
 use Rattle.rule_spec.specs.Affected.{is_single}
 use Rattle.rule_spec.specs.Findings.{is_subject}
 use Rattle.rule_spec.specs.Reads.{read_set}
-use Rattle.row_table.specs.Rows.{value_of}
+use Rattle.row_spec.specs.Rows.{value_of}
 use Rattle.answer_laws.specs.EditedAnswers.{EditedAnswers, UntouchedKeysKeepAnswers}
 use Rattle.edit_answers.specs.Named.{EditsLeaveTheirRecords, listed_by}
 use Rattle.affected_subjects.specs.EditedCells.{IsEdited, is_borne_after, is_listed_after}

@@ -24,7 +24,7 @@ use Rattle.rule_spec.specs.Findings.{is_below}
 use Rattle.rule_spec.specs.EdgePoints.{edge_line_of, edge_points_of, line_of, segments_of}
 use Rattle.rule_spec.specs.declared.line.EdgeLine.{EdgeLine}
 use Rattle.rule_spec.specs.Records.{edge_named, is_edge_name, node_named, the_only}
-use Rattle.row_table.specs.Rows.{value_of}
+use Rattle.row_spec.specs.Rows.{value_of}
 use Rattle.answer_laws.specs.EditedAnswers.{FindTheirRecords}
 use Rattle.answer_laws.proofs.Among.{Among, among_append, mapped}
 use Rattle.finding_laws.specs.Tables.{Covering, IsCoveringsOf, ReadersAreListed, covering_in}

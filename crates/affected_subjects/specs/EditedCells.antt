@@ -18,7 +18,7 @@ use Rattle.cell_spec.specs.Names.{identity_order, is_of_kind, same_key}
 use Rattle.geometry_spec.specs.Points.{Point}
 use Rattle.rule_spec.specs.EdgePoints.{edge_points_of}
 use Rattle.rule_spec.specs.Records.{node_named}
-use Rattle.row_table.specs.Rows.{value_of}
+use Rattle.row_spec.specs.Rows.{value_of}
 use Rattle.finding_laws.specs.Tables.{IsReadsOf}
 use Rattle.answer_laws.specs.EditedAnswers.{FindTheirRecords, bearers_after}
 use Rattle.tile_index.specs.declared.change.TileChange.{TileChange}

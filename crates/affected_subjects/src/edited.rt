@@ -11,7 +11,7 @@ ghost use Rattle.rule_spec.specs.declared.line.EdgeLine.{EdgeLine as SpecLine};
 ghost use Rattle.rule_spec.specs.EdgePoints.{edge_points_of, line_of, node_position};
 ghost use Rattle.rule_spec.specs.Findings.{is_subject};
 ghost use Rattle.rule_spec.specs.Records.{edge_named, is_chain_part, node_named, the_only};
-ghost use Rattle.row_table.specs.Rows.{value_of};
+ghost use Rattle.row_spec.specs.Rows.{value_of};
 ghost use Rattle.finding_laws.specs.Tables.{IsReadsOf};
 ghost use Rattle.record_store.specs.Stores.{course_in, vector_of};
 ghost use Rattle.affected_subjects.specs.EditedCells.{is_chain_name as spec_is_chain_name, is_listed_after as spec_is_listed, points_in};

@@ -43,9 +43,9 @@ use Rattle.cell_spec.proofs.SubjectOrder.{exact_subjects, total_subjects}
 use Rattle.rule_spec.specs.Affected.{affected_list, change_by, considered, each_once, exact_row, is_affected, is_single}
 use Rattle.rule_spec.specs.Findings.{findings_of_subject, is_subject}
 use Rattle.rule_spec.specs.Reads.{read_set}
-use Rattle.row_table.specs.Rows.{IsAscending, value_of, with_row, without_key}
-use Rattle.row_table.proofs.Ascending.{IsAscending-with_row, IsAscending-without_key}
-use Rattle.row_table.proofs.Changes.{value_of-with_row, value_of-without_key}
+use Rattle.row_spec.specs.Rows.{IsAscending, value_of, with_row, without_key}
+use Rattle.row_spec.proofs.Ascending.{IsAscending-with_row, IsAscending-without_key}
+use Rattle.row_spec.proofs.Changes.{value_of-with_row, value_of-without_key}
 use Rattle.answer_laws.specs.EditedAnswers.{FindTheirRecords}
 use Rattle.finding_laws.specs.Tables.{IsReadsOf, IsVerdictTable, reads_in, verdict_in}
 use Rattle.finding_laws.specs.Unaffected.{AffectedAreConsidered, UnaffectedSinglesKeepReads, UnaffectedSubjectsKeepFindings}

@@ -40,7 +40,7 @@ use Rattle.cell_spec.specs.Names.{same_subject, subject_order}
 use Rattle.cell_spec.proofs.EachItem.{each_weaker}
 use Rattle.cell_spec.proofs.SubjectOrder.{total_subjects}
 use Rattle.rule_spec.specs.Findings.{all_findings, findings_of_subject, subjects}
-use Rattle.row_table.specs.Rows.{IsAscending}
+use Rattle.row_spec.specs.Rows.{IsAscending}
 use Rattle.cell_findings.specs.declared.list.SubjectFinding.{SubjectFinding}
 use Rattle.cell_findings.specs.Rows.{findings_of_rows, with_subject}
 use Rattle.cell_findings.proofs.Ascending.{ties_itself}

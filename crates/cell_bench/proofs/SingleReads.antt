@@ -50,7 +50,7 @@ use Rattle.rule_spec.specs.Affected.{is_single}
 use Rattle.rule_spec.specs.Findings.{is_subject}
 use Rattle.rule_spec.specs.Reads.{read_set}
 use Rattle.rule_spec.specs.Records.{edge_named, is_edge_name, vector_of}
-use Rattle.row_table.specs.Rows.{IsAscending}
+use Rattle.row_spec.specs.Rows.{IsAscending}
 use Rattle.answer_laws.proofs.Among.{Among, among_append, among_map, each_among, found, found_only, in_back, in_front, mapped, one_of_name}
 use Rattle.finding_laws.specs.Tables.{IsReadsOf}
 use Rattle.finding_laws.proofs.Identities.{borne_is}

@@ -10,9 +10,9 @@ use Rattle.cell_spec.specs.declared.finding.Finding.{Finding}
 use Rattle.cell_spec.specs.declared.key.Subject.{Subject}
 use Rattle.cell_spec.specs.Names.{subject_order}
 use Rattle.cell_spec.proofs.SubjectOrder.{total_subjects}
-use Rattle.row_table.specs.Rows.{IsAscending, value_of, with_row, without_key}
+use Rattle.row_spec.specs.Rows.{IsAscending, value_of, with_row, without_key}
 use Rattle.cell_bench.specs.Verdicts.{count_at, total_of, with_findings}
-use Rattle.row_table.proofs.Place.{above_greater, value_of-above}
+use Rattle.row_spec.proofs.Place.{above_greater, value_of-above}
 
 pub total_cons : (row : Subject × List Finding) (rows : List (Subject × List Finding)) → total_of (row ∷ rows) ≡ length row.1 + total_of rows
 total_cons row rows = sum_by-cons (λ (r : Subject × List Finding). length r.1) row rows

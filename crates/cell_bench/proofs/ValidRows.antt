@@ -13,8 +13,8 @@ use Rattle.cell_spec.specs.Names.{key_order, same_key, same_subject, subject_ord
 use Rattle.cell_spec.proofs.Orders.{total_keys}
 use Rattle.cell_spec.proofs.SubjectOrder.{exact_subjects, total_subjects}
 use Rattle.rule_spec.specs.Affected.{exact_row, has_valid_row, is_still_valid}
-use Rattle.row_table.specs.Rows.{value_of, with_row}
-use Rattle.row_table.proofs.Changes.{value_of-with_row}
+use Rattle.row_spec.specs.Rows.{value_of, with_row}
+use Rattle.row_spec.proofs.Changes.{value_of-with_row}
 use Rattle.answer_laws.proofs.Tests.{any_same}
 use Rattle.finding_laws.proofs.Tests.{any_either}
 use Rattle.cell_bench.specs.Ready.{AreExact, ArePlaces, Ready, IsSetOf, IsValidAt, is_in}

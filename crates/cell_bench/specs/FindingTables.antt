@@ -4,7 +4,7 @@ use Rattle.std.specs.List.{AllByRecursion, prefix_len}
 use Rattle.cell_spec.specs.declared.finding.Finding.{Finding}
 use Rattle.cell_spec.specs.declared.key.Subject.{Subject}
 use Rattle.cell_spec.specs.Names.{same_subject, subject_order}
-use Rattle.row_table.specs.Rows.{IsAscending}
+use Rattle.row_spec.specs.Rows.{IsAscending}
 use Rattle.cell_findings.specs.declared.list.SubjectFinding.{SubjectFinding}
 use Rattle.cell_findings.specs.Rows.{findings_of_rows}
 

@@ -7,7 +7,7 @@ use Rattle.cell_spec.specs.declared.key.Key.{Key}
 use Rattle.cell_spec.specs.declared.key.Subject.{Subject}
 use Rattle.cell_spec.specs.Names.{key_order, same_key, subject_order}
 use Rattle.rule_spec.specs.Affected.{exact_row, has_valid_row, is_still_valid}
-use Rattle.row_table.specs.Rows.{value_of}
+use Rattle.row_spec.specs.Rows.{value_of}
 
 -- rows, and the keys that were invalidated since they were made
 pub record Ready : Type 0 where

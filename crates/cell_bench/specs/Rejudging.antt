@@ -12,7 +12,7 @@ use Rattle.cell_spec.specs.Names.{same_subject, subject_order}
 use Rattle.rule_spec.specs.Affected.{affected_list, change_by, exact_row, has_valid_row, is_single}
 use Rattle.rule_spec.specs.Findings.{findings_of_subject}
 use Rattle.rule_spec.specs.Reads.{read_set}
-use Rattle.row_table.specs.Rows.{IsAscending, value_of}
+use Rattle.row_spec.specs.Rows.{IsAscending, value_of}
 use Rattle.finding_laws.specs.Tables.{IsReadsOf, IsVerdictTable, reads_in, verdict_in}
 use Rattle.depend_map.specs.declared.change.ReadChange.{ReadChange}
 use Rattle.depend_map.specs.Changes.{after_changes, reads_after}

@@ -4,7 +4,7 @@ use Rattle.std.specs.Option.{option_map_or}
 use Rattle.cell_spec.specs.declared.finding.Finding.{Finding}
 use Rattle.cell_spec.specs.declared.key.Subject.{Subject}
 use Rattle.cell_spec.specs.Names.{subject_order}
-use Rattle.row_table.specs.Rows.{with_row, without_key}
+use Rattle.row_spec.specs.Rows.{with_row, without_key}
 
 -- how many findings rows have
 abbrev pub total_of : List (Subject × List Finding) → ℕ

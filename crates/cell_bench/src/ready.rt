@@ -5,7 +5,7 @@ ghost use Rattle.std.specs.List.{list_any};
 ghost use Rattle.cell_spec.specs.declared.key.Key.{Key as SpecKey};
 ghost use Rattle.cell_spec.specs.Names.{subject_order};
 ghost use Rattle.rule_spec.specs.Affected.{has_valid_row};
-ghost use Rattle.row_table.specs.Rows.{value_of};
+ghost use Rattle.row_spec.specs.Rows.{value_of};
 ghost use Rattle.cell_bench.specs.Ready.{ArePlaces, IsSetOf, IsValidRowOf, is_in};
 
 use cell_spec::{Key, Row, Rows, Subject, orders_are_by_parts};

@@ -2,7 +2,7 @@
 
 ghost use Rattle.std.specs.Prelude.{◌≡◌, ◌+◌, ◌≤◌, ◌<◌, ◌^◌, IfOk, OnErr, OnOk, length};
 ghost use Rattle.cell_spec.specs.Names.{subject_order};
-ghost use Rattle.row_table.specs.Rows.{IsAscending, value_of};
+ghost use Rattle.row_spec.specs.Rows.{IsAscending, value_of};
 ghost use Rattle.cell_bench.specs.Verdicts.{count_at, total_of, with_findings};
 
 use crate::table::{FindingRow, FindingTable};

@@ -40,7 +40,7 @@ use Rattle.cell_spec.specs.Names.{kind_rank, name_order, same_name}
 use Rattle.cell_spec.proofs.Ascending.{holds}
 use Rattle.cell_spec.proofs.Orders.{exact_names, names_tie, one_when_same, same_from_either, total_names}
 use Rattle.rule_spec.specs.Findings.{record_names}
-use Rattle.row_table.specs.Rows.{IsAscending}
+use Rattle.row_spec.specs.Rows.{IsAscending}
 use Rattle.finding_laws.specs.Tables.{Covering, IsCoveringsOf, covering_in}
 use Rattle.finding_laws.proofs.Listed.{named_in, no_segments}
 use Rattle.finding_laws.proofs.Lists.{held_among, into_ascending}

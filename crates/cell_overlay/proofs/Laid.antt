@@ -48,8 +48,8 @@ use Rattle.cell_spec.specs.Edits.{apply_edits, edit_of, keys_of_edit, name_of_ed
 use Rattle.cell_spec.specs.Lookup.{lookup_identity, lookup_pointers, lookup_record}
 use Rattle.cell_spec.specs.Names.{identity_order, key_order, name_order, same_key, same_name}
 use Rattle.cell_spec.proofs.Orders.{exact_identities, exact_keys, exact_names, total_identities, total_keys, total_names, one_when_same}
-use Rattle.row_table.specs.Rows.{value_of, with_row}
-use Rattle.row_table.proofs.Changes.{value_of-with_row}
+use Rattle.row_spec.specs.Rows.{value_of, with_row}
+use Rattle.row_spec.proofs.Changes.{value_of-with_row}
 use Rattle.answer_laws.specs.EditedAnswers.{EditedAnswers, UntouchedKeysKeepAnswers, bearers_after, pointers_after}
 use Rattle.answer_laws.proofs.Among.{found}
 use Rattle.edit_answers.proofs.Ties.{identities_flip, names_flip, or_none}

@@ -17,7 +17,7 @@ use Rattle.cell_spec.specs.Edits.{apply_edits, edit_of, touched_keys}
 use Rattle.cell_spec.specs.Lookup.{lookup_identity, lookup_pointers}
 use Rattle.cell_spec.specs.Names.{identity_order, name_order, same_key}
 use Rattle.cell_spec.specs.Readable.{IsReadable}
-use Rattle.row_table.specs.Rows.{value_of}
+use Rattle.row_spec.specs.Rows.{value_of}
 use Rattle.answer_laws.specs.EditedAnswers.{FindTheirRecords, bearers_after, pointers_after}
 
 -- the head with the values that an edit of it gives, if this is one

@@ -41,9 +41,9 @@ use Rattle.cell_spec.specs.declared.key.Subject.{Subject}
 use Rattle.cell_spec.specs.Names.{same_key, same_subject, subject_order}
 use Rattle.cell_spec.proofs.SubjectOrder.{exact_subjects, total_subjects}
 use Rattle.rule_spec.specs.Affected.{is_single}
-use Rattle.row_table.specs.Rows.{IsAscending, value_of, with_row, without_key}
-use Rattle.row_table.proofs.Changes.{value_of-with_row, value_of-without_key}
-use Rattle.row_table.proofs.Place.{above_greater, above_tied, value_of-above}
+use Rattle.row_spec.specs.Rows.{IsAscending, value_of, with_row, without_key}
+use Rattle.row_spec.proofs.Changes.{value_of-with_row, value_of-without_key}
+use Rattle.row_spec.proofs.Place.{above_greater, above_tied, value_of-above}
 use Rattle.depend_map.specs.Changes.{kept_of}
 use Rattle.depend_map.specs.Readers.{AreReadersOf, has_pair, holds_key, is_reader, same_pair}
 use Rattle.depend_map.proofs.Pairs.{either_key}

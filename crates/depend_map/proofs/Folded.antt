@@ -6,9 +6,9 @@ use Rattle.cell_spec.specs.declared.key.Subject.{Subject}
 use Rattle.cell_spec.specs.Names.{same_subject, subject_order}
 use Rattle.cell_spec.proofs.SubjectOrder.{total_subjects}
 use Rattle.rule_spec.specs.Affected.{is_single}
-use Rattle.row_table.specs.Rows.{IsAscending, value_of, with_row, without_key}
-use Rattle.row_table.proofs.Ascending.{IsAscending-with_row, IsAscending-without_key}
-use Rattle.row_table.proofs.Changes.{value_of-with_row, value_of-without_key}
+use Rattle.row_spec.specs.Rows.{IsAscending, value_of, with_row, without_key}
+use Rattle.row_spec.proofs.Ascending.{IsAscending-with_row, IsAscending-without_key}
+use Rattle.row_spec.proofs.Changes.{value_of-with_row, value_of-without_key}
 use Rattle.depend_map.specs.declared.change.ReadChange.{ReadChange}
 use Rattle.depend_map.specs.Changes.{after_change, after_changes, is_change_of, reads_after}
 

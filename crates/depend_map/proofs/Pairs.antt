@@ -14,8 +14,8 @@ use Rattle.cell_spec.specs.Ascending.{ascending}
 use Rattle.cell_spec.proofs.Ascending.{sorted-ascending}
 use Rattle.cell_spec.proofs.Orders.{both_tie, exact_keys, total_keys}
 use Rattle.cell_spec.proofs.SubjectOrder.{exact_subjects, total_subjects}
-use Rattle.row_table.specs.Rows.{IsAscending, value_of, with_row, without_key}
-use Rattle.row_table.proofs.Changes.{value_of-with_row, value_of-without_key}
+use Rattle.row_spec.specs.Rows.{IsAscending, value_of, with_row, without_key}
+use Rattle.row_spec.proofs.Changes.{value_of-with_row, value_of-without_key}
 use Rattle.depend_map.specs.Readers.{has_pair, reader_order, rows_with, same_pair}
 
 pub total_readers : IsTotalOrder reader_order

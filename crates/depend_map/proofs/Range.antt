@@ -49,8 +49,8 @@ use Rattle.cell_spec.specs.Names.{key_order, kind_rank, same_key, subject_order}
 use Rattle.cell_spec.proofs.Ascending.{holds, same_when_sorted}
 use Rattle.cell_spec.proofs.Orders.{total_keys}
 use Rattle.cell_spec.proofs.SubjectOrder.{exact_subjects, total_subjects}
-use Rattle.row_table.specs.Rows.{IsAscending, lower_bound, value_of}
-use Rattle.row_table.proofs.Place.{above_greater, above_tied, value_of-above}
+use Rattle.row_spec.specs.Rows.{IsAscending, lower_bound, value_of}
+use Rattle.row_spec.proofs.Place.{above_greater, above_tied, value_of-above}
 use Rattle.finding_laws.specs.Tables.{readers_in}
 use Rattle.depend_map.specs.Readers.{AreReadersOf, has_pair, holds_key, is_reader, reader_order, subjects_under}
 use Rattle.depend_map.proofs.Pairs.{either_subject, total_readers}

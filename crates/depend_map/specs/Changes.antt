@@ -5,7 +5,7 @@ use Rattle.cell_spec.specs.declared.key.Key.{Key}
 use Rattle.cell_spec.specs.declared.key.Subject.{Subject}
 use Rattle.cell_spec.specs.Names.{same_subject, subject_order}
 use Rattle.rule_spec.specs.Affected.{is_single}
-use Rattle.row_table.specs.Rows.{IsAscending, value_of, with_row, without_key}
+use Rattle.row_spec.specs.Rows.{IsAscending, value_of, with_row, without_key}
 use Rattle.depend_map.specs.declared.change.ReadChange.{ReadChange}
 
 -- a subject gets new reads, or goes with those that it has

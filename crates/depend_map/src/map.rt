@@ -5,7 +5,7 @@ ghost use Rattle.std.specs.Option.{option_copied, option_map_or};
 ghost use Rattle.std.specs.declared.cmp.Ordering.TheVariants.{Equal};
 ghost use Rattle.cell_spec.specs.Names.{subject_order};
 ghost use Rattle.rule_spec.specs.Affected.{is_single};
-ghost use Rattle.row_table.specs.Rows.{IsAscending, value_of, with_row, without_key};
+ghost use Rattle.row_spec.specs.Rows.{IsAscending, value_of, with_row, without_key};
 ghost use Rattle.finding_laws.specs.Tables.{readers_in};
 ghost use Rattle.depend_map.specs.Changes.{after_change, after_changes, kept_of};
 

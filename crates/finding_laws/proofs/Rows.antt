@@ -12,7 +12,7 @@ use Rattle.std.specs.Cmp.{Equal-is, IsTotalOrder, eq_by_cmp_equiv}
 use Rattle.std.proofs.lemmas.List.Kept.{IsStrictlySortedBy-filter}
 use Rattle.std.proofs.lemmas.Map.Lookups.{CmpEqualImpliesEq}
 use Rattle.cell_spec.proofs.Ascending.{holds}
-use Rattle.row_table.specs.Rows.{IsAscending, value_of}
+use Rattle.row_spec.specs.Rows.{IsAscending, value_of}
 
 pub none_left : {V : Type 0} (v : V) (h : Bool) → cond (h && false) (Some v) None ≡ None
 none_left v true = refl

@@ -19,7 +19,7 @@ use Rattle.rule_spec.specs.Candidates.{candidates_of, have_common_tile, segments
 use Rattle.rule_spec.specs.EdgePoints.{Segment}
 use Rattle.rule_spec.specs.Findings.{all_findings, findings_of_subject, is_subject, record_names, subjects}
 use Rattle.rule_spec.specs.Reads.{read_set}
-use Rattle.row_table.specs.Rows.{IsAscending, value_of}
+use Rattle.row_spec.specs.Rows.{IsAscending, value_of}
 use Rattle.finding_laws.specs.Pairs.{box_around}
 
 -- ---- verdicts

@@ -3,7 +3,7 @@ use Rattle.std.proofs.Common.{◌≡◌, subst, Bool, Option, List, ◌≤◌, �
 use Rattle.std.specs.Prelude.{◌==◌, nat_le, if◌then◌else◌, IsTrue}
 use Rattle.std.specs.Borrow.{Bor}
 use Rattle.std.specs.Option.{option_copied}
-use Rattle.row_table.proofs.Runs.{is_some-copied}
+use Rattle.row_spec.proofs.Runs.{is_some-copied}
 use Rattle.std.proofs.lemmas.Bool.Decides.{nat_tests}
 use Rattle.s57_types.specs.declared.name.Kind.TheVariants.{Fe}
 use Rattle.s57_types.specs.declared.name.RecName.{RecName}

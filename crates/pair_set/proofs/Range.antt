@@ -37,8 +37,8 @@ use Rattle.std.specs.Map.{keys_of}
 use Rattle.std.specs.Ordering.{ordering_reverse, ordering_then}
 use Rattle.std.proofs.lemmas.List.Sums.{take_while-cons}
 use Rattle.std.proofs.lemmas.Map.Keys.{sorted_head, sorted_tail}
-use Rattle.row_table.specs.Rows.{IsAscending, lower_bound, value_of}
-use Rattle.row_table.proofs.Place.{above_greater, value_of-above}
+use Rattle.row_spec.specs.Rows.{IsAscending, lower_bound, value_of}
+use Rattle.row_spec.proofs.Place.{above_greater, value_of-above}
 use Rattle.pair_set.specs.Pairs.{has_pair, is_among, pair_order, seconds_under}
 use Rattle.pair_set.proofs.Pairs.{total_pairs}
 

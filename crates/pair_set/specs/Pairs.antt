@@ -4,7 +4,7 @@ use Rattle.std.specs.List.{list_any, take_while}
 use Rattle.std.specs.Option.{is_some}
 use Rattle.std.specs.declared.cmp.Ordering.{Ordering}
 use Rattle.std.specs.Ordering.{is_eq, ordering_then}
-use Rattle.row_table.specs.Rows.{value_of}
+use Rattle.row_spec.specs.Rows.{value_of}
 
 -- whether an item is among some
 abbrev pub is_among : {X : Type 0} → (X → X → Ordering) → List X → X → Bool

@@ -6,7 +6,7 @@ use Rattle.std.specs.Cmp.{nat_cmp_is}
 use Rattle.std.specs.Ordering.{nat_cmp}
 use Rattle.std.specs.declared.cmp.Ordering.TheVariants.{Less}
 use Rattle.std.proofs.lemmas.Cmp.{nat_cmp_total}
-use Rattle.row_table.specs.Rows.{EachKeyIs, IsAscending}
+use Rattle.row_spec.specs.Rows.{EachKeyIs, IsAscending}
 
 -- all numbers are below the one after the last
 pub below_last : {V : Type 0} (rows : List (ℕ × V)) (k : ℕ) (row : ℕ × V) → suc k ≡ length rows → slice_get rows k ≡ Some row → IsAscending nat_cmp rows

@@ -33,7 +33,7 @@ use Rattle.std.proofs.lemmas.List.{map-append}
 use Rattle.std.proofs.lemmas.List.Elements.{All-from_recursion, recursion_from_All}
 use Rattle.std.proofs.lemmas.Option.{none-some, same_Some}
 use Rattle.cell_spec.proofs.EachItem.{each_append, each_weaker}
-use Rattle.row_table.proofs.Place.{value_of-append_below}
+use Rattle.row_spec.proofs.Place.{value_of-append_below}
 use Rattle.std.specs.Cmp.{Equal-is, tied_itself}
 use Rattle.std.specs.FinMap.{nat_cmp-IsAntisymmetric}
 use Rattle.s57_types.specs.declared.name.Kind.{Kind}
@@ -65,8 +65,8 @@ use Rattle.cell_spec.specs.Lookup.{all_records, is_named, listed_record, name_of
 use Rattle.cell_spec.specs.Names.{is_of_kind, kind_rank, name_order, same_name}
 use Rattle.cell_spec.specs.Writable.{HaveDistinctNames}
 use Rattle.cell_spec.proofs.Orders.{exact_names, names_tie, one_kind, one_when_same, same_from_either, total_names}
-use Rattle.row_table.specs.Rows.{IsAscending, value_of, with_row, without_key}
-use Rattle.row_table.proofs.Changes.{value_of-with_row, value_of-without_key}
+use Rattle.row_spec.specs.Rows.{IsAscending, value_of, with_row, without_key}
+use Rattle.row_spec.proofs.Changes.{value_of-with_row, value_of-without_key}
 use Rattle.answer_laws.specs.EditedAnswers.{FindTheirRecords, has_a_list}
 use Rattle.answer_laws.proofs.Among.{each_passes, found, known_of}
 use Rattle.answer_laws.proofs.Distinct.{distinct_back, distinct_front}

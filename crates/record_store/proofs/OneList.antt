@@ -44,8 +44,8 @@ use Rattle.cell_spec.specs.Lookup.{name_of}
 use Rattle.cell_spec.specs.Names.{is_of_kind, kind_rank, same_name}
 use Rattle.cell_spec.specs.Writable.{HaveDistinctNames}
 use Rattle.cell_spec.proofs.Orders.{names_tie, same_from_either, total_names}
-use Rattle.row_table.specs.Rows.{EachKeyIs, IsAscending, value_of, with_row, without_key}
-use Rattle.row_table.proofs.Place.{above_greater, value_of-above}
+use Rattle.row_spec.specs.Rows.{EachKeyIs, IsAscending, value_of, with_row, without_key}
+use Rattle.row_spec.proofs.Place.{above_greater, value_of-above}
 use Rattle.answer_laws.proofs.EditedLists.{IsOfKind}
 use Rattle.record_store.specs.Lists.{records_in}
 

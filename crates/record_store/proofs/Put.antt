@@ -13,8 +13,8 @@ use Rattle.cell_spec.specs.declared.key.Ref.{Ref}
 use Rattle.cell_spec.specs.Names.{identity_order, name_order, same_key}
 use Rattle.cell_spec.proofs.Orders.{exact_identities, exact_names}
 use Rattle.edit_answers.proofs.Ties.{identities_flip, names_flip, or_none}
-use Rattle.row_table.specs.Rows.{IsAscending, value_of, with_row, without_key}
-use Rattle.row_table.proofs.Changes.{value_of-with_row, value_of-without_key}
+use Rattle.row_spec.specs.Rows.{IsAscending, value_of, with_row, without_key}
+use Rattle.row_spec.proofs.Changes.{value_of-with_row, value_of-without_key}
 use Rattle.record_store.specs.Stores.{ArePut, ListIsPut, list_in}
 
 module _ {K X : Type 0} (cmp : K → K → Ordering) (total : IsTotalOrder cmp) (rows : List (K × List X)) (key : K) (items : List X) where

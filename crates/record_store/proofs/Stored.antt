@@ -11,7 +11,7 @@ use Rattle.cell_spec.specs.Edits.{apply_edits, touched_keys}
 use Rattle.cell_spec.specs.Lookup.{lookup_identity, lookup_pointers}
 use Rattle.cell_spec.specs.Names.{identity_order, name_order, same_key}
 use Rattle.cell_spec.specs.Writable.{IsWritable}
-use Rattle.row_table.specs.Rows.{value_of}
+use Rattle.row_spec.specs.Rows.{value_of}
 use Rattle.answer_laws.specs.EditedAnswers.{EditedAnswers, FindTheirRecords, UntouchedKeysKeepAnswers, bearers_after, pointers_after}
 use Rattle.record_store.specs.Stores.{ArePut, IsStore, list_in, names_after, refs_after}
 

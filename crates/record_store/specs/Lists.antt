@@ -11,7 +11,7 @@ use Rattle.s57_types.specs.declared.cell.Cell.{Cell}
 use Rattle.cell_spec.specs.Lookup.{listed_record}
 use Rattle.cell_spec.specs.Names.{name_order}
 use Rattle.cell_spec.specs.Writable.{AreOfKind}
-use Rattle.row_table.specs.Rows.{EachKeyIs, value_of}
+use Rattle.row_spec.specs.Rows.{EachKeyIs, value_of}
 use Rattle.record_store.specs.declared.file_lists.FileLists.{FileLists}
 use Rattle.record_store.specs.declared.records.Held.{Held}
 

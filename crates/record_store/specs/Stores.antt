@@ -18,7 +18,7 @@ use Rattle.cell_spec.specs.declared.key.Ref.{Ref}
 use Rattle.cell_spec.specs.Lookup.{lookup_identity, lookup_pointers, lookup_record}
 use Rattle.cell_spec.specs.Names.{identity_order, is_of_kind, name_order, same_key}
 use Rattle.cell_spec.specs.Writable.{IsWritable}
-use Rattle.row_table.specs.Rows.{value_of}
+use Rattle.row_spec.specs.Rows.{value_of}
 use Rattle.answer_laws.specs.EditedAnswers.{bearers_after, pointers_after}
 
 -- the list that is kept, or the empty one

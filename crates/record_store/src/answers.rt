@@ -4,7 +4,7 @@ ghost use Rattle.std.specs.Prelude.{◌≡◌, ◌∷◌, ◌++◌, [], IfOk, Li
 ghost use Rattle.cell_spec.specs.declared.key.Key.{Key as SpecKey};
 ghost use Rattle.cell_spec.specs.Names.{identity_order, name_order};
 ghost use Rattle.chain_topo.specs.Listed.{values_at};
-ghost use Rattle.row_table.specs.Rows.{value_of};
+ghost use Rattle.row_spec.specs.Rows.{value_of};
 ghost use Rattle.record_store.specs.Stores.{ArePut, ListIsPut, list_in, names_after, refs_after};
 
 use cell_spec::{Key, Names, Ref, Refs, orders_are_by_parts};

@@ -3,7 +3,7 @@
 ghost use Rattle.std.specs.Prelude.{◌≡◌, ◌+◌, [], IfOk, OnOk, length};
 ghost use Rattle.std.specs.Ordering.{nat_cmp};
 ghost use Rattle.std.specs.declared.cmp.Ordering.TheVariants.{Less};
-ghost use Rattle.row_table.specs.Rows.{EachKeyIs, IsAscending, with_row, without_key};
+ghost use Rattle.row_spec.specs.Rows.{EachKeyIs, IsAscending, with_row, without_key};
 ghost use Rattle.s57_types.specs.declared.name.Kind.{Kind as SpecKind};
 ghost use Rattle.record_store.specs.Lists.{no_lists, rows_of, with_rows};
 

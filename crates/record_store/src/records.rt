@@ -6,7 +6,7 @@ ghost use Rattle.cell_spec.specs.declared.edit.Edit.TheVariants.{Add, Del, Head 
 ghost use Rattle.cell_spec.specs.Edits.{apply_edits, left_by, list_of_kind};
 ghost use Rattle.cell_spec.specs.Lookup.{all_records, lookup_record};
 ghost use Rattle.cell_spec.specs.Names.{name_order};
-ghost use Rattle.row_table.specs.Rows.{value_of};
+ghost use Rattle.row_spec.specs.Rows.{value_of};
 ghost use Rattle.cell_spec.specs.Writable.{IsWritable, record_limit};
 ghost use Rattle.record_store.specs.declared.records.Held.{Held as SpecHeld};
 ghost use Rattle.record_store.specs.Lists.{IsPlaceFor, empty_of, records_in, rows_of};

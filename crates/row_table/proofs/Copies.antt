@@ -4,8 +4,8 @@ use Rattle.std.specs.List.Sorted.{IsStrictlySortedBy}
 use Rattle.std.specs.Map.{keys_of}
 use Rattle.std.specs.List.{AllZip}
 use Rattle.std.proofs.lemmas.List.Elements.{All-cons, All-tail}
-use Rattle.row_table.specs.Rows.{Run, AreCopies, IsAscending}
-use Rattle.row_table.specs.Blocks.{joined, rows_of, rows_before, AreRunCopies, IsFilled, AreStarts}
+use Rattle.row_spec.specs.Rows.{Run, AreCopies, IsAscending}
+use Rattle.row_spec.specs.Blocks.{joined, rows_of, rows_before, AreRunCopies, IsFilled, AreStarts}
 
 module _ {K V : Type 0} (clones : V → V → Type 0) where
   -- copies have the keys of the rows

@@ -20,11 +20,11 @@ use Rattle.std.proofs.Common.{
   length-drop,
 }
 use Rattle.std.specs.Cmp.{IsTotalOrder}
-use Rattle.row_table.specs.Rows.{IsAscending, begins_by}
-use Rattle.row_table.specs.Blocks.{joined, block_at, halved, IsBlockFor}
-use Rattle.row_table.proofs.Ascending.{IsAscending-right}
-use Rattle.row_table.proofs.Found.{below_block, above_from_begin}
-use Rattle.row_table.proofs.Joined.{joined_parted, joined-halved, length-halved, take-halved, drop-halved, drop-halved_next, block_at-halved_next}
+use Rattle.row_spec.specs.Rows.{IsAscending, begins_by}
+use Rattle.row_spec.specs.Blocks.{joined, block_at, halved, IsBlockFor}
+use Rattle.row_spec.proofs.Ascending.{IsAscending-right}
+use Rattle.row_spec.proofs.Found.{below_block, above_from_begin}
+use Rattle.row_spec.proofs.Joined.{joined_parted, joined-halved, length-halved, take-halved, drop-halved, drop-halved_next, block_at-halved_next}
 
 module _ {K V : Type 0} (cmp : K → K → Ordering) (total : IsTotalOrder cmp) (blocks : List (List (K × V))) (key : K) (place : ℕ)
     (ascending : IsAscending cmp (joined blocks)) (found : IsBlockFor cmp blocks key place) (full : length (block_at blocks place) ≡ 256) where

@@ -1,10 +1,3 @@
-pub mod Ascending
-pub mod Changes
 pub mod Copies
-pub mod Found
 pub mod Halves
-pub mod Joined
-pub mod Place
-pub mod Runs
 pub mod Starts
-pub mod Whole

@@ -38,8 +38,8 @@ use Rattle.std.proofs.lemmas.List.Sorted.{IsPartitionedBy-leb, IsNonDecreasingBy
 use Rattle.std.specs.List.{SameBelow, ShiftedDown}
 use Rattle.std.proofs.lemmas.Bool.{cases_lt}
 use Rattle.std.proofs.lemmas.List.Edits.{length-insert, get_or-insert_below, get_or-insert_at, get_or-insert_above, length-remove}
-use Rattle.row_table.specs.Blocks.{joined, block_at, rows_before, halved, AreStarts, IsBlockAt}
-use Rattle.row_table.proofs.Joined.{
+use Rattle.row_spec.specs.Blocks.{joined, block_at, rows_before, halved, AreStarts, IsBlockAt}
+use Rattle.row_spec.proofs.Joined.{
   rows_before-set_low,
   rows_before-set_high,
   rows_before-remove_low,

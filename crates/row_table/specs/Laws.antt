@@ -2,7 +2,7 @@
 use Rattle.std.specs.Prelude.{◌≡◌, ℕ, ◌+◌, ◌<◌, ◌↔◌, List, length, Some, None, is_some, if◌then◌else◌, slice_get, IsTrue}
 use Rattle.std.specs.declared.cmp.Ordering.{Ordering}
 use Rattle.std.specs.Ordering.{is_eq, is_lt}
-use Rattle.row_table.specs.Rows.{IsAscending, value_of, with_row, without_key, lower_bound, AreCopies}
+use Rattle.row_spec.specs.Rows.{IsAscending, value_of, with_row, without_key, lower_bound, AreCopies}
 
 module _ (K V : Type 0) (cmp : K → K → Ordering) where
   -- a put changes the value of its key and of no other

@@ -1,8 +1,8 @@
 //! Rows in blocks of bounded size, and empty blocks held in reserve.
 ghost use Rattle.std.specs.Prelude.{◌≡◌, ℕ, ◌+◌, ◌*◌, ◌^◌, ◌<◌, ◌≤◌, [], ◌∷◌, length, All, insert, slice_get, slice_index_or, slice_set, Some, IfOk};
 ghost use Rattle.std.specs.Prelude.{IfNone, OnOk, is_some, if◌then◌else◌, vec_len, vec_capacity};
-ghost use Rattle.row_table.specs.Rows.{IsAscending, value_of, with_row, without_key, AreCopies};
-ghost use Rattle.row_table.specs.Blocks.{joined, block_at, rows_before, claim_of, replaced, halved, BlockList, IsEmptyRun, IsBlockFor, IsBlockAt};
+ghost use Rattle.row_spec.specs.Rows.{IsAscending, value_of, with_row, without_key, AreCopies};
+ghost use Rattle.row_spec.specs.Blocks.{joined, block_at, rows_before, claim_of, replaced, halved, BlockList, IsEmptyRun, IsBlockFor, IsBlockAt};
 
 use crate::run::SortedRun;
 use std::alloc::{AllocError, Global};
@@ -24,7 +24,7 @@ pub(crate) struct Blocks<K: Ord, V> {
 
 impl<K: Ord, V> Model for Blocks<K, V> {
     ghost use Rattle.std.specs.Prelude.{All, vec_capacity, vec_len};
-    ghost use Rattle.row_table.specs.Blocks.{BlockList, IsFilled, IsEmptyRun, AreStarts, HasRoom, rows_of};
+    ghost use Rattle.row_spec.specs.Blocks.{BlockList, IsFilled, IsEmptyRun, AreStarts, HasRoom, rows_of};
 
     ghost Value = { BlockList K V };
 

@@ -2,7 +2,7 @@
 ghost use Rattle.std.specs.Prelude.{◌≡◌, ◌+◌, ◌<◌, ◌≤◌, [], length, take, drop, slice_get, Some, IfOk, IfNone, MatchResult, OnOk, IsTrue, ◌↔◌};
 ghost use Rattle.std.specs.Prelude.{is_some, if◌then◌else◌, vec_len, vec_capacity};
 ghost use Rattle.std.specs.Option.{option_copied};
-ghost use Rattle.row_table.specs.Rows.{Run, IsAscending, value_of, with_row, without_key, lower_bound, begins_by, AreCopies, IsRowAt, IsGapAt};
+ghost use Rattle.row_spec.specs.Rows.{Run, IsAscending, value_of, with_row, without_key, lower_bound, begins_by, AreCopies, IsRowAt, IsGapAt};
 
 use std::alloc::{AllocError, Global};
 use std::marker::Model;
@@ -16,7 +16,7 @@ pub(crate) struct SortedRun<K: Ord, V> {
 
 impl<K: Ord, V> Model for SortedRun<K, V> {
     ghost use Rattle.std.specs.Prelude.{vec_capacity};
-    ghost use Rattle.row_table.specs.Rows.{Run, IsAscending};
+    ghost use Rattle.row_spec.specs.Rows.{Run, IsAscending};
 
     ghost Value = { Run K V };
 

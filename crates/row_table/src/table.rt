@@ -3,8 +3,8 @@ ghost use Rattle.std.specs.Prelude.{◌≡◌, false, ◌+◌, ◌-◌, ◌*◌,
 ghost use Rattle.std.specs.Prelude.{is_some, if◌then◌else◌};
 ghost use Rattle.std.specs.Option.{option_copied};
 ghost use Rattle.std.specs.Ordering.{is_gt};
-ghost use Rattle.row_table.specs.Rows.{Table, IsAscending, value_of, with_row, without_key, lower_bound, AreCopies};
-ghost use Rattle.row_table.specs.Blocks.{joined, block_at, claim_of, halved, IsBlockFor};
+ghost use Rattle.row_spec.specs.Rows.{Table, IsAscending, value_of, with_row, without_key, lower_bound, AreCopies};
+ghost use Rattle.row_spec.specs.Blocks.{joined, block_at, claim_of, halved, IsBlockFor};
 
 use crate::blocks::{BLOCK_ROWS, Blocks, HALF_ROWS};
 use std::alloc::{AllocError, Global};
@@ -20,8 +20,8 @@ pub struct RowTable<K: Ord, V> {
 
 impl<K: Ord, V> Model for RowTable<K, V> {
     ghost use Rattle.std.specs.Prelude.{◌≡◌, ◌+◌, ◌^◌, ◌<◌, length};
-    ghost use Rattle.row_table.specs.Rows.{Table, IsAscending};
-    ghost use Rattle.row_table.specs.Blocks.{joined, IsCovered};
+    ghost use Rattle.row_spec.specs.Rows.{Table, IsAscending};
+    ghost use Rattle.row_spec.specs.Blocks.{joined, IsCovered};
 
     ghost Value = { Table K V };
 

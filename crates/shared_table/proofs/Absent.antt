@@ -1,7 +1,7 @@
 -- A key that no row has.
 use Rattle.std.proofs.Common.{◌≡◌, List, [], ◌∷◌, Bor, Option, Some, None, is_some, refl, ap, Ordering, is_eq, true, false, cond, true≢false}
 use Rattle.std.specs.Option.{option_copied}
-use Rattle.row_table.specs.Rows.{value_of, without_key}
+use Rattle.row_spec.specs.Rows.{value_of, without_key}
 
 -- the rows without it are the rows
 pub without_absent : {K V : Type 0} (cmp : K → K → Ordering) (rows : List (K × V)) (key : K) → value_of cmp rows key ≡ None → without_key cmp rows key ≡ rows

@@ -5,8 +5,8 @@ use Rattle.std.specs.List.{AllByRecursion, HoldsAt}
 use Rattle.std.specs.Map.{keys_of}
 use Rattle.std.proofs.lemmas.Map.Keys.{sorted_head, sorted_tail}
 use Rattle.std.proofs.lemmas.List.{get_or_default}
-use Rattle.row_table.specs.Rows.{IsAscending, EachKeyIs, IsRowAt, IsGapAt}
-use Rattle.row_table.proofs.Place.{above_greater, row_at_from_same}
+use Rattle.row_spec.specs.Rows.{IsAscending, EachKeyIs, IsRowAt, IsGapAt}
+use Rattle.row_spec.proofs.Place.{above_greater, row_at_from_same}
 
 -- what holds of each element before a place, and of the one there
 pub each_next : {X : Type 0} (P : X → Type 0) (xs : List X) (i : ℕ) (x : X) → i < length xs → x ≡ get_or xs i x → P x

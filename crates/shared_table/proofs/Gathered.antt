@@ -31,8 +31,8 @@ use Rattle.std.proofs.Common.{
   true≢false,
 }
 use Rattle.std.proofs.lemmas.List.Elements.{All-cons, All-head, All-tail, All-nil}
-use Rattle.row_table.specs.Rows.{IsAscending}
-use Rattle.row_table.proofs.Ascending.{IsAscending-left, IsAscending-right}
+use Rattle.row_spec.specs.Rows.{IsAscending}
+use Rattle.row_spec.proofs.Ascending.{IsAscending-left, IsAscending-right}
 use Rattle.shared_table.specs.Pieces.{AllBegin, AreParts, BeginsWith, rows_of}
 use Rattle.shared_table.proofs.Parts.{Begins, rows_of-append}
 

@@ -46,14 +46,14 @@ use Rattle.std.specs.List.{HoldsAt}
 use Rattle.std.proofs.Common.{take_all, length-drop, add-one, Some, None, is_some, slice_get, true≢false}
 use Rattle.std.proofs.lemmas.List.{get_or-map, get_or-take, length-map, map-set, map-append, take-map, drop-map}
 use Rattle.std.proofs.lemmas.List.Elements.{All-nil, All-cons, All-set, All-append, All-take, All-drop}
-use Rattle.row_table.specs.Rows.{EachKeyIs, begins_by, with_row, without_key, value_of}
-use Rattle.row_table.specs.Blocks.{joined, block_at, rows_before, replaced, IsBlockFor}
-use Rattle.row_table.proofs.Ascending.{IsAscending-empty, IsAscending-left, IsAscending-right, IsAscending-with_row, IsAscending-without_key}
-use Rattle.row_table.proofs.Changes.{length-with_row, length-without_key}
-use Rattle.row_table.proofs.Found.{below_block, above_block}
-use Rattle.row_table.proofs.Joined.{joined-append, joined_parted, rows_before-suc, length-joined-set, length-joined-remove}
-use Rattle.row_table.proofs.Runs.{replaced_some, replaced_none}
-use Rattle.row_table.proofs.Whole.{value_of-block, with_row-block, without_key-block}
+use Rattle.row_spec.specs.Rows.{EachKeyIs, begins_by, with_row, without_key, value_of}
+use Rattle.row_spec.specs.Blocks.{joined, block_at, rows_before, replaced, IsBlockFor}
+use Rattle.row_spec.proofs.Ascending.{IsAscending-empty, IsAscending-left, IsAscending-right, IsAscending-with_row, IsAscending-without_key}
+use Rattle.row_spec.proofs.Changes.{length-with_row, length-without_key}
+use Rattle.row_spec.proofs.Found.{below_block, above_block}
+use Rattle.row_spec.proofs.Joined.{joined-append, joined_parted, rows_before-suc, length-joined-set, length-joined-remove}
+use Rattle.row_spec.proofs.Runs.{replaced_some, replaced_none}
+use Rattle.row_spec.proofs.Whole.{value_of-block, with_row-block, without_key-block}
 use Rattle.shared_table.specs.Pieces.{BeginsWith, AreHalves, AreParts, blocks_of, rows_of}
 
 -- an insert behind a place, and a write at it

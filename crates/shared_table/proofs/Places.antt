@@ -24,8 +24,8 @@ use Rattle.std.proofs.Common.{
 use Rattle.std.proofs.Math.Seq.{drop-append-add}
 use Rattle.std.proofs.lemmas.Bool.{cases_lt}
 use Rattle.std.proofs.lemmas.List.{drop-append-le}
-use Rattle.row_table.specs.Blocks.{joined, block_at, rows_before}
-use Rattle.row_table.proofs.Joined.{joined_parted, rows_before-length}
+use Rattle.row_spec.specs.Blocks.{joined, block_at, rows_before}
+use Rattle.row_spec.proofs.Joined.{joined_parted, rows_before-length}
 use Rattle.shared_table.specs.Pieces.{IsRunAt}
 
 module _ {X : Type 0} where

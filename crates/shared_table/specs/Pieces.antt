@@ -1,8 +1,8 @@
 -- Pieces of a table that stand one after another, each with its first key. This project's own rules.
 use Rattle.std.specs.Prelude.{◌≡◌, ◌<◌, ◌+◌, ◌++◌, ℕ, List, [], ◌∷◌, length, map, drop, All, Option, Some, None}
 use Rattle.std.specs.declared.cmp.Ordering.{Ordering}
-use Rattle.row_table.specs.Rows.{IsAscending}
-use Rattle.row_table.specs.Blocks.{joined}
+use Rattle.row_spec.specs.Rows.{IsAscending}
+use Rattle.row_spec.specs.Blocks.{joined}
 
 -- the rows of a piece, if there is one
 abbrev pub rows_at : {P X : Type 0} → (P → List X) → Option P → List X

@@ -2,7 +2,7 @@
 
 ghost use Rattle.std.specs.Prelude.{◌≡◌, ◌<◌, List, IfOk, IfSome, OnOk, OnErr, length};
 ghost use Rattle.std.specs.Arc.{arc_value};
-ghost use Rattle.row_table.specs.Rows.{with_row, without_key};
+ghost use Rattle.row_spec.specs.Rows.{with_row, without_key};
 ghost use Rattle.shared_table.specs.Pieces.{BeginsWith, AreHalves};
 
 use crate::piece::{ChangingPiece, Piece, put_shared, take_shared};

@@ -1,7 +1,7 @@
 //! Pieces of rows that ascend already, made level by level without a search.
 
 ghost use Rattle.std.specs.Prelude.{◌≡◌, ◌++◌, IfOk, OnOk, length};
-ghost use Rattle.row_table.specs.Rows.{IsAscending};
+ghost use Rattle.row_spec.specs.Rows.{IsAscending};
 ghost use Rattle.shared_table.specs.Pieces.{AllBegin, AreParts, rows_of};
 
 use crate::entry::Entry;

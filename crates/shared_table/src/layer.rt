@@ -2,8 +2,8 @@
 
 ghost use Rattle.std.specs.Prelude.{◌≡◌, ◌+◌, ◌^◌, ◌<◌, ◌≤◌, [], List, length, IfOk, IfSome, OnOk, OnErr, MatchOption};
 ghost use Rattle.std.specs.Option.{option_copied};
-ghost use Rattle.row_table.specs.Rows.{IsAscending, value_of, with_row, without_key, lower_bound};
-ghost use Rattle.row_table.specs.Blocks.{IsBlockFor, IsBlockAt, rows_before};
+ghost use Rattle.row_spec.specs.Rows.{IsAscending, value_of, with_row, without_key, lower_bound};
+ghost use Rattle.row_spec.specs.Blocks.{IsBlockFor, IsBlockAt, rows_before};
 ghost use Rattle.shared_table.specs.Pieces.{BeginsWith, AreHalves, AreParts, IsRunAt, blocks_of, rows_of};
 
 use crate::entry::Entry;

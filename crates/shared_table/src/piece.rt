@@ -3,7 +3,7 @@
 ghost use Rattle.std.specs.Prelude.{◌≡◌, ◌<◌, [], List, IfOk, IfSome, OnOk, OnErr, MatchOption, length};
 ghost use Rattle.std.specs.Option.{option_copied};
 ghost use Rattle.std.specs.Arc.{arc_value};
-ghost use Rattle.row_table.specs.Rows.{IsAscending, value_of, with_row, without_key, lower_bound};
+ghost use Rattle.row_spec.specs.Rows.{IsAscending, value_of, with_row, without_key, lower_bound};
 ghost use Rattle.shared_table.specs.Pieces.{IsRunAt, BeginsWith, AreHalves};
 
 use std::alloc::{AllocError, Global};

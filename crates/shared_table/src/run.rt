@@ -2,7 +2,7 @@
 
 ghost use Rattle.std.specs.Prelude.{◌≡◌, ◌<◌, [], List, IfOk, IfSome, OnOk, OnErr, MatchOption, MatchResult, length};
 ghost use Rattle.std.specs.Option.{option_copied};
-ghost use Rattle.row_table.specs.Rows.{IsAscending, value_of, with_row, without_key, lower_bound, IsRowAt, IsGapAt};
+ghost use Rattle.row_spec.specs.Rows.{IsAscending, value_of, with_row, without_key, lower_bound, IsRowAt, IsGapAt};
 ghost use Rattle.shared_table.specs.Pieces.{IsRunAt, BeginsWith, AreHalves};
 
 use crate::piece::{ChangingPiece, PIECE_ROWS, Piece};
@@ -19,7 +19,7 @@ pub(crate) struct Run<K: Ord, V> {
 
 impl<K: Ord, V> Model for Run<K, V> {
     ghost use Rattle.std.specs.Prelude.{List};
-    ghost use Rattle.row_table.specs.Rows.{IsAscending};
+    ghost use Rattle.row_spec.specs.Rows.{IsAscending};
 
     ghost Value = { List (K × V) };
 

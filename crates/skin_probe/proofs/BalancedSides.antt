@@ -58,7 +58,7 @@ use Rattle.rule_spec.specs.Records.{edge_named}
 use Rattle.rule_spec.specs.Rule.{Found, found_if}
 use Rattle.rule_spec.specs.Rules.{side_rules}
 use Rattle.rule_spec.specs.Sides.{is_balanced, numbers_of, orphan, side_counts, side_overlap, side_unbalanced, uses_of}
-use Rattle.row_table.specs.Rows.{value_of}
+use Rattle.row_spec.specs.Rows.{value_of}
 use Rattle.answer_laws.proofs.Among.{Among, among_map, in_back, in_front}
 use Rattle.finding_laws.specs.Tables.{ListedTablesAreRight}
 use Rattle.skin_probe.specs.Totals.{is_unbalanced, unbalanced_in, unbalanced_total, winding_total}

@@ -31,8 +31,8 @@ use Rattle.std.specs.Map.{keys_of}
 use Rattle.std.specs.Option.{option_map_or}
 use Rattle.std.proofs.lemmas.Map.Keys.{sorted_head, sorted_tail}
 use Rattle.std.proofs.lemmas.Map.Lookups.{CmpEqualImpliesEq}
-use Rattle.row_table.specs.Rows.{IsAscending, value_of}
-use Rattle.row_table.proofs.Place.{above_tied, value_of-above}
+use Rattle.row_spec.specs.Rows.{IsAscending, value_of}
+use Rattle.row_spec.proofs.Place.{above_tied, value_of-above}
 use Rattle.pair_set.specs.Pairs.{is_among}
 
 some_or : {V : Type 0} (b : Bool) (v : V) (o : Option V) → is_some (cond b (Some v) o) ≡ (b || is_some o)

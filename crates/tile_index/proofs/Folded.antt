@@ -4,9 +4,9 @@ use Rattle.std.specs.Option.{option_map_or}
 use Rattle.s57_types.specs.declared.name.RecName.{RecName}
 use Rattle.cell_spec.specs.Names.{name_order}
 use Rattle.cell_spec.proofs.Orders.{names_tie, same_from_either, total_names}
-use Rattle.row_table.specs.Rows.{IsAscending, value_of, with_row, without_key}
-use Rattle.row_table.proofs.Ascending.{IsAscending-with_row, IsAscending-without_key}
-use Rattle.row_table.proofs.Changes.{value_of-with_row, value_of-without_key}
+use Rattle.row_spec.specs.Rows.{IsAscending, value_of, with_row, without_key}
+use Rattle.row_spec.proofs.Ascending.{IsAscending-with_row, IsAscending-without_key}
+use Rattle.row_spec.proofs.Changes.{value_of-with_row, value_of-without_key}
 use Rattle.finding_laws.specs.Tables.{Covering}
 use Rattle.tile_index.specs.declared.change.TileChange.{TileChange}
 use Rattle.tile_index.specs.Changes.{after_change, after_changes, covering_after, covering_given}

@@ -12,8 +12,8 @@ use Rattle.s57_types.specs.declared.name.RecName.{RecName}
 use Rattle.cell_spec.specs.Names.{name_order, same_name}
 use Rattle.cell_spec.proofs.Orders.{exact_names, total_names}
 use Rattle.geometry_spec.specs.declared.tile.TileRange.{TileRange}
-use Rattle.row_table.specs.Rows.{IsAscending, value_of, with_row, without_key}
-use Rattle.row_table.proofs.Place.{above_greater, value_of-above}
+use Rattle.row_spec.specs.Rows.{IsAscending, value_of, with_row, without_key}
+use Rattle.row_spec.proofs.Place.{above_greater, value_of-above}
 use Rattle.finding_laws.specs.Tables.{Covering, do_ranges_meet, is_mate, is_oversized_range, mates_in}
 use Rattle.pair_set.specs.Pairs.{has_pair}
 use Rattle.tile_index.specs.Changes.{ranges_at, ranges_in}

@@ -9,7 +9,7 @@ use Rattle.cell_spec.specs.Names.{name_order}
 use Rattle.cell_spec.proofs.Ascending.{holds-ascending, same_when_sorted, sorted-ascending}
 use Rattle.cell_spec.proofs.Orders.{exact_names, names_tie, total_names}
 use Rattle.rule_spec.specs.Candidates.{have_common_tile}
-use Rattle.row_table.specs.Rows.{IsAscending, value_of}
+use Rattle.row_spec.specs.Rows.{IsAscending, value_of}
 use Rattle.answer_laws.proofs.Tests.{any_same}
 use Rattle.finding_laws.specs.Tables.{Covering, do_ranges_meet, is_mate, mates_in}
 use Rattle.pair_set.specs.Pairs.{has_pair, is_among}

@@ -5,8 +5,8 @@ use Rattle.std.specs.Option.{option_map_or}
 use Rattle.s57_types.specs.declared.name.RecName.{RecName}
 use Rattle.cell_spec.specs.Names.{name_order}
 use Rattle.cell_spec.proofs.Orders.{total_names}
-use Rattle.row_table.specs.Rows.{IsAscending, value_of, with_row, without_key}
-use Rattle.row_table.proofs.Changes.{value_of-with_row, value_of-without_key}
+use Rattle.row_spec.specs.Rows.{IsAscending, value_of, with_row, without_key}
+use Rattle.row_spec.proofs.Changes.{value_of-with_row, value_of-without_key}
 use Rattle.finding_laws.specs.Tables.{Covering}
 use Rattle.pair_set.specs.Pairs.{has_pair}
 use Rattle.tile_index.specs.Tilings.{IsTiling, Tile, covers, has_some_tile, is_oversized, tile_order}

@@ -8,7 +8,7 @@ use Rattle.geometry_spec.specs.Points.{Point}
 use Rattle.geometry_spec.specs.declared.tile.TileRange.{TileRange}
 use Rattle.rule_spec.specs.EdgePoints.{Segment, segments_of}
 use Rattle.rule_spec.specs.Records.{is_edge_name, the_only}
-use Rattle.row_table.specs.Rows.{IsAscending, value_of, with_row, without_key}
+use Rattle.row_spec.specs.Rows.{IsAscending, value_of, with_row, without_key}
 use Rattle.finding_laws.specs.Tables.{Covering, covering_of}
 use Rattle.tile_index.specs.declared.change.TileChange.{TileChange}
 

@@ -7,7 +7,7 @@ use Rattle.std.specs.Ordering.{int_cmp, ordering_then}
 use Rattle.s57_types.specs.declared.name.RecName.{RecName}
 use Rattle.cell_spec.specs.Names.{name_order}
 use Rattle.geometry_spec.specs.declared.tile.TileRange.{TileRange}
-use Rattle.row_table.specs.Rows.{value_of}
+use Rattle.row_spec.specs.Rows.{value_of}
 use Rattle.pair_set.specs.Pairs.{has_pair}
 use Rattle.finding_laws.specs.Tables.{Covering, do_ranges_meet, is_oversized_range}
 

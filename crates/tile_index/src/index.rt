@@ -4,7 +4,7 @@ ghost use Rattle.std.specs.Prelude.{◌≡◌, [], IfOk, IsOk, OnOk, Some, is_so
 ghost use Rattle.std.specs.Ordering.{is_eq};
 ghost use Rattle.s57_types.specs.declared.name.RecName.{RecName as SpecRecName};
 ghost use Rattle.cell_spec.specs.Names.{name_order};
-ghost use Rattle.row_table.specs.Rows.{value_of, with_row, without_key};
+ghost use Rattle.row_spec.specs.Rows.{value_of, with_row, without_key};
 ghost use Rattle.finding_laws.specs.Tables.{Covering, mates_in};
 ghost use Rattle.pair_set.specs.Pairs.{is_among};
 ghost use Rattle.tile_index.specs.Changes.{after_change, after_changes, covering_given as spec_given, ranges_at, ranges_in};

@@ -3,7 +3,7 @@ use Rattle.std.proofs.lemmas.Result.{on_ok_weaker}
 use Rattle.std.specs.declared.cmp.Ordering.{Ordering}
 use Rattle.s57_types.specs.declared.name.Lnam.{Lnam}
 use Rattle.cell_spec.specs.Names.{identity_order}
-use Rattle.row_table.specs.Rows.{with_row}
+use Rattle.row_spec.specs.Rows.{with_row}
 use Rattle.affected_subjects.specs.EditedCells.{KnowsBearers, is_borne_after}
 use Rattle.affected_subjects.proofs.Bearers.{with_foid}
 use Rattle.affected_subjects.proofs.borne.note.Goals as goal

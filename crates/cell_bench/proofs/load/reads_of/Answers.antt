@@ -3,7 +3,7 @@ use Rattle.std.specs.Prelude.{All, IsTrue}
 use Rattle.cell_spec.specs.Names.{subject_order}
 use Rattle.rule_spec.specs.Affected.{is_single}
 use Rattle.rule_spec.specs.Findings.{is_subject}
-use Rattle.row_table.specs.Rows.{IsAscending}
+use Rattle.row_spec.specs.Rows.{IsAscending}
 use Rattle.finding_laws.specs.Tables.{IsReadsOf}
 use Rattle.depend_map.specs.Changes.{kept_of}
 use Rattle.cell_bench.specs.Singles.{reads_row}

@@ -1,7 +1,7 @@
 use Rattle.std.proofs.Common.{◌≤◌, sym, ap, ◌∙◌, subst}
 use Rattle.cell_spec.specs.Names.{subject_order}
 use Rattle.history_spec.specs.Steps.{finding_limit}
-use Rattle.row_table.specs.Rows.{IsAscending}
+use Rattle.row_spec.specs.Rows.{IsAscending}
 use Rattle.finding_laws.specs.Tables.{IsVerdictTable}
 use Rattle.cell_bench.specs.Verdicts.{total_of}
 use Rattle.cell_bench.proofs.Grouped.{all_are_made}

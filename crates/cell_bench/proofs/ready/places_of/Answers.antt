@@ -3,7 +3,7 @@ use Rattle.std.proofs.lemmas.List.{take_all, take_more}
 use Rattle.std.proofs.lemmas.Option.{get_or_from_slice_get}
 use Rattle.std.specs.declared.cmp.Ordering.{Ordering}
 use Rattle.cell_spec.specs.declared.key.Subject.{Subject}
-use Rattle.row_table.specs.Rows.{with_row}
+use Rattle.row_spec.specs.Rows.{with_row}
 use Rattle.cell_bench.specs.Ready.{ArePlaces}
 use Rattle.cell_bench.proofs.ValidRows.{passed_over, placed, valid_is}
 use Rattle.cell_bench.proofs.ready.places_of.Goals as goal

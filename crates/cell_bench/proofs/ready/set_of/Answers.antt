@@ -4,7 +4,7 @@ use Rattle.std.specs.declared.cmp.Ordering.{Ordering}
 use Rattle.s57_types.specs.declared.name.Kind.TheVariants.{Vi}
 use Rattle.cell_spec.specs.declared.key.Key.{Key}
 use Rattle.cell_spec.specs.declared.key.Key.TheVariants.{Name}
-use Rattle.row_table.specs.Rows.{with_row}
+use Rattle.row_spec.specs.Rows.{with_row}
 use Rattle.cell_bench.specs.Ready.{IsSetOf}
 use Rattle.cell_bench.proofs.ValidRows.{one_key_more}
 use Rattle.cell_bench.proofs.ready.set_of.Goals as goal

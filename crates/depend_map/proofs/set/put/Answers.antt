@@ -4,7 +4,7 @@ use Rattle.std.specs.Ordering.{ordering_then}
 use Rattle.std.specs.declared.cmp.Ordering.{Ordering}
 use Rattle.cell_spec.specs.declared.key.Key.{Key}
 use Rattle.cell_spec.specs.declared.key.Subject.{Subject}
-use Rattle.row_table.specs.Rows.{with_row}
+use Rattle.row_spec.specs.Rows.{with_row}
 use Rattle.depend_map.specs.Readers.{has_pair}
 use Rattle.depend_map.proofs.Pairs.{has-put}
 use Rattle.depend_map.proofs.set.put.Goals as goal

@@ -6,7 +6,7 @@ use Rattle.cell_spec.specs.Ascending.{ascending}
 use Rattle.cell_spec.specs.declared.key.Key.{Key}
 use Rattle.cell_spec.specs.declared.key.Subject.{Subject}
 use Rattle.cell_spec.proofs.Ascending.{any-ascending}
-use Rattle.row_table.specs.Rows.{IsAscending}
+use Rattle.row_spec.specs.Rows.{IsAscending}
 use Rattle.depend_map.specs.Readers.{has_pair, reader_order, rows_with, same_pair}
 use Rattle.depend_map.proofs.Pairs.{exact_readers, has-rows, rows_ascend}
 use Rattle.depend_map.proofs.set.set_of.Goals as goal

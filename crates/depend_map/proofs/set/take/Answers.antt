@@ -4,7 +4,7 @@ use Rattle.std.specs.Ordering.{ordering_then}
 use Rattle.std.specs.declared.cmp.Ordering.{Ordering}
 use Rattle.cell_spec.specs.declared.key.Key.{Key}
 use Rattle.cell_spec.specs.declared.key.Subject.{Subject}
-use Rattle.row_table.specs.Rows.{IsAscending, without_key}
+use Rattle.row_spec.specs.Rows.{IsAscending, without_key}
 use Rattle.depend_map.specs.Readers.{has_pair}
 use Rattle.depend_map.proofs.Pairs.{has-take}
 use Rattle.depend_map.proofs.set.take.Goals as goal

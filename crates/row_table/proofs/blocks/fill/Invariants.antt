@@ -1,5 +1,5 @@
 use Rattle.std.proofs.Common.{◌≡◌, ◌≤◌, ◌-◌, All, vec_len, vec_capacity}
-use Rattle.row_table.specs.Blocks.{IsEmptyRun}
+use Rattle.row_spec.specs.Blocks.{IsEmptyRun}
 use Rattle.row_table.proofs.blocks.fill.Given as goal
 
 abbrev pub invariant-loop-alloc : goal.invariant-loop-alloc

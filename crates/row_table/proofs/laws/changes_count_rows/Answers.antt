@@ -1,4 +1,4 @@
-use Rattle.row_table.proofs.Changes.{length-with_row, length-without_key}
+use Rattle.row_spec.proofs.Changes.{length-with_row, length-without_key}
 use Rattle.row_table.proofs.laws.changes_count_rows.Goals as goal
 
 pub returns : goal.returns

@@ -1,4 +1,4 @@
-use Rattle.row_table.proofs.Ascending.{IsAscending-with_row, IsAscending-without_key}
+use Rattle.row_spec.proofs.Ascending.{IsAscending-with_row, IsAscending-without_key}
 use Rattle.row_table.proofs.laws.changes_keep_order.Goals as goal
 
 pub returns : goal.returns

@@ -1,4 +1,4 @@
-use Rattle.row_table.proofs.Changes.{value_of_row}
+use Rattle.row_spec.proofs.Changes.{value_of_row}
 use Rattle.row_table.proofs.laws.each_row_is_found.Goals as goal
 
 pub returns : goal.returns

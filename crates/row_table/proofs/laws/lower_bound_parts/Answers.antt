@@ -1,4 +1,4 @@
-use Rattle.row_table.proofs.Changes.{below_lower_bound, from_below_lower_bound}
+use Rattle.row_spec.proofs.Changes.{below_lower_bound, from_below_lower_bound}
 use Rattle.row_table.proofs.laws.lower_bound_parts.Goals as goal
 
 pub returns : goal.returns

@@ -1,4 +1,4 @@
-use Rattle.row_table.proofs.Changes.{value_of-with_row}
+use Rattle.row_spec.proofs.Changes.{value_of-with_row}
 use Rattle.row_table.proofs.laws.put_sets_one_key.Goals as goal
 
 pub returns : goal.returns

@@ -1,4 +1,4 @@
-use Rattle.row_table.proofs.Changes.{value_of-without_key}
+use Rattle.row_spec.proofs.Changes.{value_of-without_key}
 use Rattle.row_table.proofs.laws.take_clears_one_key.Goals as goal
 
 pub returns : goal.returns

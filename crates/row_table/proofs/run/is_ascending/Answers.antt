@@ -1,6 +1,6 @@
 use Rattle.std.proofs.Common.{rules, is_lt}
 use Rattle.std.proofs.lemmas.Fn.{always_returns_same}
-use Rattle.row_table.proofs.Ascending.{ascending_from_neighbours, neighbours_from_ascending}
+use Rattle.row_spec.proofs.Ascending.{ascending_from_neighbours, neighbours_from_ascending}
 use Rattle.row_table.proofs.run.is_ascending.Goals as goal
 
 -- the closure compares the keys of two rows

@@ -1,8 +1,8 @@
 use Rattle.std.proofs.Common.{arith, ap, sym, ◌∙◌, ◌≡◌, length-take, length-drop, add-one, drop, true, false}
-use Rattle.row_table.specs.Rows.{begins_by}
-use Rattle.row_table.specs.Blocks.{block_at}
+use Rattle.row_spec.specs.Rows.{begins_by}
+use Rattle.row_spec.specs.Blocks.{block_at}
 use Rattle.row_table.proofs.Halves.{halved_upper, halved_lower}
-use Rattle.row_table.proofs.Joined.{block_at-halved, block_at-halved_next}
+use Rattle.row_spec.proofs.Joined.{block_at-halved, block_at-halved_next}
 use Rattle.row_table.proofs.table.halve_for.Goals as goal
 
 pub returns-then-begins_by-clause-block : goal.returns-then-begins_by-clause-block

@@ -1,8 +1,8 @@
 use Rattle.std.proofs.Common.{arith, ap, sym, ◌∙◌, is_some, length}
-use Rattle.row_table.specs.Rows.{value_of}
-use Rattle.row_table.proofs.Whole.{value_of-block}
-use Rattle.row_table.proofs.Joined.{joined-halved, claim_of-halved}
-use Rattle.row_table.proofs.Runs.{none_holds, some_asks_nothing, is_some-copied, none_says_nothing}
+use Rattle.row_spec.specs.Rows.{value_of}
+use Rattle.row_spec.proofs.Whole.{value_of-block}
+use Rattle.row_spec.proofs.Joined.{joined-halved, claim_of-halved}
+use Rattle.row_spec.proofs.Runs.{none_holds, some_asks_nothing, is_some-copied, none_says_nothing}
 use Rattle.row_table.proofs.table.room_for.Goals as goal
 
 pub returns-then-is_some-clause-room : goal.returns-then-is_some-clause-room

@@ -1,5 +1,5 @@
 use Rattle.std.proofs.Common.{◌≡◌, ◌++◌, ◌∷◌, [], ◌∙◌, ap, sym, arith, append-nil}
-use Rattle.row_table.proofs.Runs.{nil_from_length}
+use Rattle.row_spec.proofs.Runs.{nil_from_length}
 use Rattle.shared_table.specs.Pieces.{AllBegin, rows_of}
 use Rattle.shared_table.proofs.Gathered.{moved_parts, moved_begin, begun_parts, begun_begin, layer_parts}
 use Rattle.shared_table.proofs.filled.layers_of.Goals as goal

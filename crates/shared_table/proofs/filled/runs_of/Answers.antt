@@ -1,5 +1,5 @@
 use Rattle.std.proofs.Common.{◌≡◌, ◌++◌, ◌∷◌, [], ◌∙◌, ap, sym, arith, append-nil}
-use Rattle.row_table.proofs.Runs.{nil_from_length}
+use Rattle.row_spec.proofs.Runs.{nil_from_length}
 use Rattle.shared_table.specs.Pieces.{AllBegin, rows_of}
 use Rattle.shared_table.proofs.Gathered.{moved, begun_anew, run_ascends}
 use Rattle.shared_table.proofs.filled.runs_of.Goals as goal

@@ -4,8 +4,8 @@ use Rattle.std.specs.declared.cmp.Ordering.{Ordering}
 use Rattle.s57_types.specs.declared.name.RecName.{RecName}
 use Rattle.cell_spec.specs.Names.{name_order}
 use Rattle.cell_spec.proofs.Orders.{total_names}
-use Rattle.row_table.specs.Rows.{IsAscending, value_of, with_row, without_key}
-use Rattle.row_table.proofs.Changes.{value_of-with_row, value_of-without_key}
+use Rattle.row_spec.specs.Rows.{IsAscending, value_of, with_row, without_key}
+use Rattle.row_spec.proofs.Changes.{value_of-with_row, value_of-without_key}
 use Rattle.tile_index.proofs.index.mark.Goals as goal
 
 some_put : {V : Type 0} (v : V) (o : Option V) (b is : Bool) → is ≡ true → is_some (cond b (Some v) o) ≡ cond b is (is_some o)

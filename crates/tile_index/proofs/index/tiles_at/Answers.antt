@@ -2,7 +2,7 @@ use Rattle.std.proofs.Common.{◌≡◌, Some, subst, ap, ◌∙◌, Ordering, f
 use Rattle.std.specs.Option.{option_map_or}
 use Rattle.std.proofs.lemmas.Result.{IfOk-weaker}
 use Rattle.s57_types.specs.declared.name.RecName.{RecName}
-use Rattle.row_table.specs.Rows.{value_of}
+use Rattle.row_spec.specs.Rows.{value_of}
 use Rattle.finding_laws.specs.Tables.{Covering}
 use Rattle.tile_index.specs.Tilings.{covers}
 use Rattle.tile_index.proofs.index.tiles_at.Goals as goal

@@ -3,7 +3,7 @@ use Rattle.std.specs.declared.cmp.Ordering.{Ordering}
 use Rattle.s57_types.specs.declared.name.Lnam.{Lnam}
 use Rattle.cell_spec.specs.declared.key.Subject.TheVariants.{Ident}
 use Rattle.rule_spec.specs.Findings.{is_subject}
-use Rattle.row_table.specs.Rows.{value_of}
+use Rattle.row_spec.specs.Rows.{value_of}
 use Rattle.affected_subjects.proofs.Subjects.{kept_ident, noted}
 use Rattle.affected_subjects.proofs.edited.Edited.has_identifier.Goals as goal
 

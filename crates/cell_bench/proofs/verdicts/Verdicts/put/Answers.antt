@@ -1,6 +1,6 @@
 use Rattle.std.proofs.Common.{◌≡◌, sym, ap, ◌∙◌, arith}
 use Rattle.cell_spec.specs.Names.{subject_order}
-use Rattle.row_table.specs.Rows.{value_of}
+use Rattle.row_spec.specs.Rows.{value_of}
 use Rattle.cell_bench.specs.Verdicts.{count_at, total_of, with_findings}
 use Rattle.cell_bench.proofs.Totals.{count_within, total_with}
 use Rattle.cell_bench.proofs.verdicts.Verdicts.put.Goals as goal

@@ -7,7 +7,7 @@ use Rattle.cell_spec.specs.declared.key.Ref.{Ref}
 use Rattle.cell_spec.specs.declared.key.Key.TheVariants.{Refs, Foid}
 use Rattle.cell_spec.specs.Lookup.{lookup_identity, lookup_pointers}
 use Rattle.cell_spec.specs.Names.{identity_order, name_order}
-use Rattle.row_table.specs.Rows.{with_row}
+use Rattle.row_spec.specs.Rows.{with_row}
 use Rattle.answer_laws.specs.EditedAnswers.{bearers_after, pointers_after}
 use Rattle.cell_overlay.specs.Laid.{AreMerged}
 use Rattle.cell_overlay.proofs.Laid.{with_bearers, with_pointers}

@@ -3,7 +3,7 @@ use Rattle.std.specs.declared.cmp.Ordering.{Ordering}
 use Rattle.s57_types.specs.declared.name.RecName.{RecName}
 use Rattle.cell_spec.specs.declared.key.Ref.{Ref}
 use Rattle.cell_spec.specs.Lookup.{lookup_pointers}
-use Rattle.row_table.specs.Rows.{value_of}
+use Rattle.row_spec.specs.Rows.{value_of}
 use Rattle.cell_overlay.proofs.Laid.{base_pointers, merged_pointers}
 use Rattle.cell_overlay.proofs.overlay.OverlayLook.refs.Goals as goal
 

@@ -4,8 +4,8 @@ use Rattle.std.specs.declared.cmp.Ordering.{Ordering}
 use Rattle.cell_spec.specs.declared.key.Key.{Key}
 use Rattle.cell_spec.specs.declared.key.Subject.{Subject}
 use Rattle.cell_spec.specs.Names.{subject_order}
-use Rattle.row_table.specs.Rows.{IsAscending}
-use Rattle.row_table.proofs.Runs.{nil_from_length}
+use Rattle.row_spec.specs.Rows.{IsAscending}
+use Rattle.row_spec.proofs.Runs.{nil_from_length}
 use Rattle.depend_map.specs.Changes.{kept_of}
 use Rattle.depend_map.specs.Readers.{is_reader, same_pair}
 use Rattle.depend_map.proofs.Changed.{any_pair, append_none, kept_ascend, more_kept, more_pairs, pairs_of}

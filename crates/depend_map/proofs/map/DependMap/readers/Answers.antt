@@ -3,7 +3,7 @@ use Rattle.std.specs.Ordering.{ordering_then}
 use Rattle.std.specs.declared.cmp.Ordering.{Ordering}
 use Rattle.cell_spec.specs.declared.key.Key.{Key}
 use Rattle.cell_spec.specs.declared.key.Subject.{Subject}
-use Rattle.row_table.specs.Rows.{IsAscending, lower_bound}
+use Rattle.row_spec.specs.Rows.{IsAscending, lower_bound}
 use Rattle.finding_laws.specs.Tables.{readers_in}
 use Rattle.depend_map.specs.Readers.{subjects_under}
 use Rattle.depend_map.proofs.Range.{least, range_is_readers}

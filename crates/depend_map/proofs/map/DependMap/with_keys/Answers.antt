@@ -2,7 +2,7 @@ use Rattle.std.proofs.Common.{◌≡◌, cond, subst, sym, ap, ◌∙◌}
 use Rattle.std.specs.declared.cmp.Ordering.{Ordering}
 use Rattle.cell_spec.specs.declared.key.Subject.{Subject}
 use Rattle.cell_spec.specs.Names.{same_subject, subject_order}
-use Rattle.row_table.specs.Rows.{IsAscending, with_row}
+use Rattle.row_spec.specs.Rows.{IsAscending, with_row}
 use Rattle.depend_map.specs.Readers.{AreReadersOf, has_pair, holds_key}
 use Rattle.depend_map.proofs.Changed.{put_readers, with_same}
 use Rattle.depend_map.proofs.map.DependMap.with_keys.Goals as goal

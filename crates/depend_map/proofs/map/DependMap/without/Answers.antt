@@ -1,7 +1,7 @@
 use Rattle.std.proofs.Common.{◌≡◌, subst, sym}
 use Rattle.std.specs.declared.cmp.Ordering.{Ordering}
 use Rattle.cell_spec.specs.declared.key.Subject.{Subject}
-use Rattle.row_table.specs.Rows.{IsAscending, without_key}
+use Rattle.row_spec.specs.Rows.{IsAscending, without_key}
 use Rattle.depend_map.specs.Readers.{AreReadersOf}
 use Rattle.depend_map.proofs.Changed.{took_readers}
 use Rattle.depend_map.proofs.map.DependMap.without.Goals as goal

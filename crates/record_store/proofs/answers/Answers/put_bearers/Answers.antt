@@ -4,8 +4,8 @@ use Rattle.std.proofs.lemmas.Result.{on_ok_weaker}
 use Rattle.s57_types.specs.declared.name.Lnam.{Lnam}
 use Rattle.cell_spec.specs.Names.{identity_order}
 use Rattle.cell_spec.proofs.Orders.{total_identities}
-use Rattle.row_table.specs.Rows.{IsAscending, with_row, without_key}
-use Rattle.row_table.proofs.Runs.{nil_from_length}
+use Rattle.row_spec.specs.Rows.{IsAscending, with_row, without_key}
+use Rattle.row_spec.proofs.Runs.{nil_from_length}
 use Rattle.record_store.specs.Stores.{ListIsPut}
 use Rattle.record_store.proofs.Put.{list_gone, list_put}
 use Rattle.record_store.proofs.answers.Answers.put_bearers.Goals as goal

@@ -1,8 +1,8 @@
 use Rattle.std.specs.Ordering.{nat_cmp}
 use Rattle.s57_types.specs.declared.name.Kind.{Kind}
 use Rattle.s57_types.specs.declared.name.Kind.TheVariants.{Vi, Vc, Ve, Fe, Head}
-use Rattle.row_table.specs.Rows.{IsAscending}
-use Rattle.row_table.proofs.Ascending.{IsAscending-empty}
+use Rattle.row_spec.specs.Rows.{IsAscending}
+use Rattle.row_spec.proofs.Ascending.{IsAscending-empty}
 use Rattle.s57_types.specs.declared.record.Rec.{Rec}
 use Rattle.record_store.specs.Lists.{rows_of}
 use Rattle.record_store.specs.declared.file_lists.FileLists.{FileLists}

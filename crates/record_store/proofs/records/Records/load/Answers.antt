@@ -1,6 +1,6 @@
 use Rattle.std.proofs.Common.{◌≡◌, ◌∷◌, ◌++◌, arith, sym, ap, subst, ◌∙◌}
 use Rattle.cell_spec.specs.Lookup.{all_records}
-use Rattle.row_table.proofs.Runs.{nil_from_length}
+use Rattle.row_spec.proofs.Runs.{nil_from_length}
 use Rattle.record_store.specs.Lists.{empty_of}
 use Rattle.record_store.proofs.Loaded.{IsLeft, all_added, loaded_cell, loaded_fits, one_fits, own_kinds, rest_left}
 use Rattle.record_store.proofs.records.Records.load.Goals as goal

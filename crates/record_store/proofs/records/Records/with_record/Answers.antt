@@ -6,7 +6,7 @@ use Rattle.s57_types.specs.declared.record.Rec.{Rec}
 use Rattle.cell_spec.specs.Edits.{apply_edits}
 use Rattle.cell_spec.specs.Lookup.{name_of}
 use Rattle.cell_spec.specs.Names.{name_order}
-use Rattle.row_table.specs.Rows.{value_of, with_row}
+use Rattle.row_spec.specs.Rows.{value_of, with_row}
 use Rattle.answer_laws.specs.EditedAnswers.{FindTheirRecords}
 use Rattle.record_store.specs.Lists.{AreRecords, IsPlaceFor, cell_of, rows_of, with_rows}
 use Rattle.record_store.specs.declared.records.Held.{Held}

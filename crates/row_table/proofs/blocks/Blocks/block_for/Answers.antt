@@ -1,7 +1,7 @@
 use Rattle.std.proofs.Common.{rules, arith, ap, length}
 use Rattle.std.proofs.lemmas.Fn.{always_returns_same}
-use Rattle.row_table.specs.Rows.{begins_by}
-use Rattle.row_table.proofs.Found.{block_found, begins_parted}
+use Rattle.row_spec.specs.Rows.{begins_by}
+use Rattle.row_spec.proofs.Found.{block_found, begins_parted}
 use Rattle.row_table.proofs.blocks.Blocks.block_for.Goals as goal
 
 pub returns : goal.returns

@@ -1,7 +1,7 @@
 use Rattle.std.proofs.Common.{arith, ap, take_all, length}
 use Rattle.std.proofs.lemmas.List.{length-map}
 use Rattle.std.proofs.lemmas.List.Elements.{all_zip_more, same_from_all_zip, length_all_zip, All-nil}
-use Rattle.row_table.specs.Blocks.{AreRunCopies, IsEmptyRun}
+use Rattle.row_spec.specs.Blocks.{AreRunCopies, IsEmptyRun}
 use Rattle.row_table.proofs.Copies.{joined-copies, filled-copies, starts-copies}
 use Rattle.row_table.proofs.blocks.Blocks.copy.Goals as goal
 

@@ -1,6 +1,6 @@
 use Rattle.std.proofs.Common.{take}
 use Rattle.std.specs.List.{AllZip}
-use Rattle.row_table.specs.Blocks.{AreRunCopies}
+use Rattle.row_spec.specs.Blocks.{AreRunCopies}
 use Rattle.row_table.proofs.blocks.Blocks.copy.Given as goal
 
 abbrev pub invariant-loop-run : goal.invariant-loop-run

@@ -1,10 +1,10 @@
 use Rattle.std.proofs.Common.{arith, ap, ◌∙◌, ◌≡◌, ◌<◌, ◌+◌, length, get_or, set, length-take, length-drop, Some, add-one, suc}
 use Rattle.std.proofs.lemmas.Grind.{get_or_default_zero}
 use Rattle.std.proofs.lemmas.List.Elements.{All-pop}
-use Rattle.row_table.specs.Blocks.{rows_of, block_at, IsEmptyRun}
-use Rattle.row_table.proofs.Joined.{rows_before-all, rows_before-suc, insert-set}
+use Rattle.row_spec.specs.Blocks.{rows_of, block_at, IsEmptyRun}
+use Rattle.row_spec.proofs.Joined.{rows_before-all, rows_before-suc, insert-set}
 use Rattle.row_table.proofs.Starts.{starts_halved}
-use Rattle.row_table.proofs.Runs.{block_at-rows_of, filled_at, filled_set, filled_insert, rows_of-set, rows_of-insert}
+use Rattle.row_spec.proofs.Runs.{block_at-rows_of, filled_at, filled_set, filled_insert, rows_of-set, rows_of-insert}
 use Rattle.row_table.proofs.blocks.Blocks.halve.Goals as goal
 
 -- the upper half begins before all rows end

@@ -1,6 +1,6 @@
-use Rattle.row_table.specs.Blocks.{rows_of}
-use Rattle.row_table.proofs.Joined.{claim_of-bound}
-use Rattle.row_table.proofs.Runs.{few_rows}
+use Rattle.row_spec.specs.Blocks.{rows_of}
+use Rattle.row_spec.proofs.Joined.{claim_of-bound}
+use Rattle.row_spec.proofs.Runs.{few_rows}
 use Rattle.row_table.proofs.blocks.Blocks.len.Goals as goal
 
 pub returns-clause-claim : goal.returns-clause-claim

@@ -1,8 +1,8 @@
 use Rattle.std.proofs.Common.{arith, ap, sym, ◌∙◌, ◌≡◌, ◌<◌, ◌+◌, length, refl, is_some}
-use Rattle.row_table.specs.Blocks.{rows_of, block_at}
-use Rattle.row_table.proofs.Joined.{rows_before-all, claim_of-set}
+use Rattle.row_spec.specs.Blocks.{rows_of, block_at}
+use Rattle.row_spec.proofs.Joined.{rows_before-all, claim_of-set}
 use Rattle.row_table.proofs.Starts.{starts_raised, starts_same}
-use Rattle.row_table.proofs.Runs.{block_at-rows_of, filled_at, filled_set, rows_of-set, none_holds}
+use Rattle.row_spec.proofs.Runs.{block_at-rows_of, filled_at, filled_set, rows_of-set, none_holds}
 use Rattle.row_table.proofs.blocks.Blocks.put.Goals as goal
 
 -- no start can pass the number of all rows

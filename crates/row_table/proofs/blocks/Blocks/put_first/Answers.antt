@@ -1,10 +1,10 @@
 use Rattle.std.proofs.Common.{arith, ap, ◌∙◌, length, refl, Some, []}
 use Rattle.std.proofs.lemmas.List.{length-map}
 use Rattle.std.proofs.lemmas.List.Elements.{All-pop, All-cons, All-nil}
-use Rattle.row_table.specs.Rows.{with_row}
-use Rattle.row_table.specs.Blocks.{IsEmptyRun, IsFilled}
+use Rattle.row_spec.specs.Rows.{with_row}
+use Rattle.row_spec.specs.Blocks.{IsEmptyRun, IsFilled}
 use Rattle.row_table.proofs.Starts.{starts_first}
-use Rattle.row_table.proofs.Runs.{nil_from_rows, nil_from_length}
+use Rattle.row_spec.proofs.Runs.{nil_from_rows, nil_from_length}
 use Rattle.row_table.proofs.blocks.Blocks.put_first.Goals as goal
 
 pub invariant_of-self : goal.invariant_of-self

@@ -1,9 +1,9 @@
 use Rattle.std.proofs.Common.{arith, ap, ◌∙◌, ◌≡◌, ◌+◌, ◌-◌}
 use Rattle.std.specs.List.{slice_get}
 use Rattle.std.proofs.lemmas.Grind.{get_or_default_zero}
-use Rattle.row_table.specs.Blocks.{joined, rows_of, rows_before}
-use Rattle.row_table.proofs.Joined.{slice_get-joined}
-use Rattle.row_table.proofs.Runs.{block_at-rows_of}
+use Rattle.row_spec.specs.Blocks.{joined, rows_of, rows_before}
+use Rattle.row_spec.proofs.Joined.{slice_get-joined}
+use Rattle.row_spec.proofs.Runs.{block_at-rows_of}
 use Rattle.row_table.proofs.blocks.Blocks.row.Goals as goal
 
 pub returns : goal.returns

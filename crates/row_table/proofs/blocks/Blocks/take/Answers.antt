@@ -1,8 +1,8 @@
 use Rattle.std.proofs.Common.{arith, ap, sym, ◌∙◌, ◌≡◌, ◌<◌, ◌+◌, length, refl, set, [], length-set}
-use Rattle.row_table.specs.Blocks.{rows_of, block_at, AreStarts}
-use Rattle.row_table.proofs.Joined.{rows_before-behind, remove-set, claim_of-set, claim_of-remove}
+use Rattle.row_spec.specs.Blocks.{rows_of, block_at, AreStarts}
+use Rattle.row_spec.proofs.Joined.{rows_before-behind, remove-set, claim_of-set, claim_of-remove}
 use Rattle.row_table.proofs.Starts.{starts_lowered, starts_removed, starts_same}
-use Rattle.row_table.proofs.Runs.{
+use Rattle.row_spec.proofs.Runs.{
   block_at-rows_of,
   filled_at,
   filled_set,

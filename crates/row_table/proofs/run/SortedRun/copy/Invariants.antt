@@ -1,5 +1,5 @@
 use Rattle.std.proofs.Common.{take, ◌≤◌, vec_capacity}
-use Rattle.row_table.specs.Rows.{AreCopies}
+use Rattle.row_spec.specs.Rows.{AreCopies}
 use Rattle.row_table.proofs.run.SortedRun.copy.Given as goal
 
 abbrev pub invariant-loop-key : goal.invariant-loop-key

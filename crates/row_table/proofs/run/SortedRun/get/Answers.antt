@@ -1,5 +1,5 @@
 use Rattle.std.proofs.Common.{ap, sym, ◌∙◌, Some}
-use Rattle.row_table.proofs.Place.{value_of_found, value_of_gap}
+use Rattle.row_spec.proofs.Place.{value_of_found, value_of_gap}
 use Rattle.row_table.proofs.run.SortedRun.get.Goals as goal
 
 pub returns-in-Ok : goal.returns-in-Ok

@@ -1,5 +1,5 @@
 use Rattle.std.proofs.Common.{sym}
-use Rattle.row_table.proofs.Place.{lower_bound_found, lower_bound_gap}
+use Rattle.row_spec.proofs.Place.{lower_bound_found, lower_bound_gap}
 use Rattle.row_table.proofs.run.SortedRun.place_of.Goals as goal
 
 pub returns-in-Ok : goal.returns-in-Ok

@@ -1,6 +1,6 @@
 use Rattle.std.proofs.Common.{ap, sym, ◌∙◌, arith, Some}
-use Rattle.row_table.proofs.Place.{value_of_found, value_of_gap, with_row_found, with_row_gap}
-use Rattle.row_table.proofs.Ascending.{IsAscending-with_row}
+use Rattle.row_spec.proofs.Place.{value_of_found, value_of_gap, with_row_found, with_row_gap}
+use Rattle.row_spec.proofs.Ascending.{IsAscending-with_row}
 use Rattle.row_table.proofs.run.SortedRun.put.Goals as goal
 
 -- the key was there

@@ -1,6 +1,6 @@
 use Rattle.std.proofs.Common.{rules}
 use Rattle.std.proofs.lemmas.Fn.{always_returns_same}
-use Rattle.row_table.proofs.Place.{searched}
+use Rattle.row_spec.proofs.Place.{searched}
 use Rattle.row_table.proofs.run.SortedRun.search.Goals as goal
 
 -- the closure compares a row's key with this one, and the slice is the table's rows

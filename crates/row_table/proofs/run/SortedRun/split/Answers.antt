@@ -1,4 +1,4 @@
-use Rattle.row_table.proofs.Ascending.{IsAscending-take, IsAscending-drop}
+use Rattle.row_spec.proofs.Ascending.{IsAscending-take, IsAscending-drop}
 use Rattle.row_table.proofs.run.SortedRun.split.Goals as goal
 
 pub invariant_of-self : goal.invariant_of-self

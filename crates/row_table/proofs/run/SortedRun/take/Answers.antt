@@ -1,6 +1,6 @@
 use Rattle.std.proofs.Common.{arith, ap, sym, ◌∙◌, Some}
-use Rattle.row_table.proofs.Place.{value_of_found, value_of_gap, without_key_found, without_key_gap}
-use Rattle.row_table.proofs.Ascending.{IsAscending-without_key}
+use Rattle.row_spec.proofs.Place.{value_of_found, value_of_gap, without_key_found, without_key_gap}
+use Rattle.row_spec.proofs.Ascending.{IsAscending-without_key}
 use Rattle.row_table.proofs.run.SortedRun.take.Goals as goal
 
 pub invariant_of-self : goal.invariant_of-self

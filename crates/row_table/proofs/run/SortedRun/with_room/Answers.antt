@@ -1,4 +1,4 @@
-use Rattle.row_table.proofs.Ascending.{IsAscending-empty}
+use Rattle.row_spec.proofs.Ascending.{IsAscending-empty}
 use Rattle.row_table.proofs.run.SortedRun.with_room.Goals as goal
 
 pub invariant_of-result : goal.invariant_of-result

@@ -1,7 +1,7 @@
 use Rattle.std.proofs.Common.{arith, ap, sym, ◌∙◌, ◌++◌, ◌∷◌, [], reverse}
 use Rattle.std.proofs.lemmas.List.{reverse-append}
-use Rattle.row_table.specs.Rows.{IsAscending}
-use Rattle.row_table.proofs.Found.{with_row-last, value_of-last}
+use Rattle.row_spec.specs.Rows.{IsAscending}
+use Rattle.row_spec.proofs.Found.{with_row-last, value_of-last}
 use Rattle.row_table.proofs.table.RowTable.from_ascending.Goals as goal
 
 -- the next row goes to the end, whether a value comes back (it does not) or none

@@ -1,6 +1,6 @@
 use Rattle.std.proofs.Common.{sym, ap, ◌∙◌}
-use Rattle.row_table.specs.Rows.{value_of}
-use Rattle.row_table.proofs.Whole.{value_of-block}
+use Rattle.row_spec.specs.Rows.{value_of}
+use Rattle.row_spec.proofs.Whole.{value_of-block}
 use Rattle.row_table.proofs.table.RowTable.get.Goals as goal
 
 pub returns : goal.returns

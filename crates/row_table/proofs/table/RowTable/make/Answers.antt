@@ -1,5 +1,5 @@
 use Rattle.std.proofs.Common.{arith, refl}
-use Rattle.row_table.proofs.Ascending.{IsAscending-empty}
+use Rattle.row_spec.proofs.Ascending.{IsAscending-empty}
 use Rattle.row_table.proofs.table.RowTable.make.Goals as goal
 
 pub invariant_of-result : goal.invariant_of-result

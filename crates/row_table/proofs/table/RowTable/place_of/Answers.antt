@@ -1,8 +1,8 @@
 use Rattle.std.proofs.Common.{sym, ap, ap₂, ◌∙◌, ◌+◌, arith, is_lt}
 use Rattle.std.proofs.lemmas.List.Sums.{prefix_len-le-length}
-use Rattle.row_table.specs.Rows.{lower_bound}
-use Rattle.row_table.specs.Blocks.{joined}
-use Rattle.row_table.proofs.Whole.{lower_bound-block}
+use Rattle.row_spec.specs.Rows.{lower_bound}
+use Rattle.row_spec.specs.Blocks.{joined}
+use Rattle.row_spec.proofs.Whole.{lower_bound-block}
 use Rattle.row_table.proofs.table.RowTable.place_of.Goals as goal
 
 pub overflow_add-result : goal.overflow_add-result

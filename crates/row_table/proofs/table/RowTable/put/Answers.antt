@@ -1,10 +1,10 @@
 use Rattle.std.proofs.Common.{arith, ap, sym, ◌∙◌, ◌<◌, length, is_some, []}
-use Rattle.row_table.specs.Rows.{value_of, with_row}
-use Rattle.row_table.specs.Blocks.{joined}
-use Rattle.row_table.proofs.Ascending.{IsAscending-with_row, IsAscending-empty}
-use Rattle.row_table.proofs.Changes.{length-with_row}
-use Rattle.row_table.proofs.Whole.{value_of-block, with_row-block}
-use Rattle.row_table.proofs.Runs.{none_holds, none_weaker, some_says, nil_from_length}
+use Rattle.row_spec.specs.Rows.{value_of, with_row}
+use Rattle.row_spec.specs.Blocks.{joined}
+use Rattle.row_spec.proofs.Ascending.{IsAscending-with_row, IsAscending-empty}
+use Rattle.row_spec.proofs.Changes.{length-with_row}
+use Rattle.row_spec.proofs.Whole.{value_of-block, with_row-block}
+use Rattle.row_spec.proofs.Runs.{none_holds, none_weaker, some_says, nil_from_length}
 use Rattle.row_table.proofs.table.RowTable.put.Goals as goal
 
 -- the first row

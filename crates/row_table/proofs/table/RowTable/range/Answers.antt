@@ -1,5 +1,5 @@
 use Rattle.std.proofs.lemmas.List.Sums.{prefix_len-le-length}
-use Rattle.row_table.proofs.Place.{lower_bound-mono}
+use Rattle.row_spec.proofs.Place.{lower_bound-mono}
 use Rattle.row_table.proofs.table.RowTable.range.Goals as goal
 
 pub returns-clause-within : goal.returns-clause-within

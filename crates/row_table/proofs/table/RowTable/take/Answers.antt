@@ -1,8 +1,8 @@
 use Rattle.std.proofs.Common.{arith, ap, sym, ◌∙◌, length, is_some}
-use Rattle.row_table.specs.Blocks.{joined}
-use Rattle.row_table.proofs.Ascending.{IsAscending-without_key}
-use Rattle.row_table.proofs.Changes.{length-without_key}
-use Rattle.row_table.proofs.Whole.{value_of-block, without_key-block}
+use Rattle.row_spec.specs.Blocks.{joined}
+use Rattle.row_spec.proofs.Ascending.{IsAscending-without_key}
+use Rattle.row_spec.proofs.Changes.{length-without_key}
+use Rattle.row_spec.proofs.Whole.{value_of-block, without_key-block}
 use Rattle.row_table.proofs.table.RowTable.take.Goals as goal
 
 pub overflow_sub-self : goal.overflow_sub-self

@@ -1,5 +1,5 @@
 use Rattle.std.proofs.Common.{length, arith, ap, add-one}
-use Rattle.row_table.proofs.Joined.{rows_before-suc}
+use Rattle.row_spec.proofs.Joined.{rows_before-suc}
 use Rattle.shared_table.specs.Pieces.{blocks_of}
 use Rattle.shared_table.proofs.Parts.{length-blocks, part_rows}
 use Rattle.shared_table.proofs.Places.{block_left}

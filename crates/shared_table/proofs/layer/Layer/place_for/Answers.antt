@@ -1,5 +1,5 @@
 use Rattle.std.proofs.Common.{◌≡◌, ◌-◌, ap, ◌∙◌, subst, true, is_gt, length, length-drop, arith}
-use Rattle.row_table.specs.Blocks.{IsBlockFor}
+use Rattle.row_spec.specs.Blocks.{IsBlockFor}
 use Rattle.shared_table.specs.Pieces.{blocks_of}
 use Rattle.shared_table.proofs.Counted.{holds_there}
 use Rattle.shared_table.proofs.Parts.{behind_first, place_counted, rest_from}

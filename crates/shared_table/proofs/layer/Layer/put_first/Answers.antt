@@ -1,5 +1,5 @@
 use Rattle.std.proofs.Common.{◌≡◌, ◌∷◌, [], ◌∙◌, ap, arith, length, length-append}
-use Rattle.row_table.specs.Rows.{with_row}
+use Rattle.row_spec.specs.Rows.{with_row}
 use Rattle.shared_table.proofs.Parts.{one_part}
 use Rattle.shared_table.proofs.layer.Layer.put_first.Goals as goal
 

@@ -1,5 +1,5 @@
 use Rattle.std.proofs.Common.{◌+◌, arith, ap, ◌∙◌}
-use Rattle.row_table.proofs.Joined.{rows_before-all}
+use Rattle.row_spec.proofs.Joined.{rows_before-all}
 use Rattle.shared_table.specs.Pieces.{blocks_of}
 use Rattle.shared_table.proofs.Parts.{count_next}
 use Rattle.shared_table.proofs.layer.Layer.rows_before.Goals as goal

@@ -1,5 +1,5 @@
 use Rattle.std.proofs.Common.{◌≡◌}
-use Rattle.row_table.specs.Blocks.{rows_before}
+use Rattle.row_spec.specs.Blocks.{rows_before}
 use Rattle.shared_table.specs.Pieces.{blocks_of}
 use Rattle.shared_table.proofs.layer.Layer.rows_before.Given as goal
 

@@ -1,6 +1,6 @@
 use Rattle.std.proofs.Common.{◌<◌, length, arith, ap}
-use Rattle.row_table.proofs.Runs.{nil_from_length}
-use Rattle.row_table.proofs.Joined.{remove-set}
+use Rattle.row_spec.proofs.Runs.{nil_from_length}
+use Rattle.row_spec.proofs.Joined.{remove-set}
 use Rattle.shared_table.proofs.Parts.{
   length-blocks,
   part_rows,

@@ -1,5 +1,5 @@
 use Rattle.std.proofs.Common.{◌<◌, length, arith, ◌∙◌, ap}
-use Rattle.row_table.specs.Rows.{value_of}
+use Rattle.row_spec.specs.Rows.{value_of}
 use Rattle.shared_table.proofs.Parts.{length-blocks, part_rows, value_in}
 use Rattle.shared_table.proofs.layer.LayerPiece.get.Goals as goal
 

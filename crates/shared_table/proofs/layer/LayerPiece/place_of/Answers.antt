@@ -1,7 +1,7 @@
 use Rattle.std.proofs.Common.{◌<◌, ◌+◌, length, arith, ◌∙◌, ap, ap₂, sym, is_lt}
 use Rattle.std.proofs.lemmas.List.Sums.{prefix_len-le-length}
-use Rattle.row_table.specs.Rows.{lower_bound}
-use Rattle.row_table.proofs.Whole.{lower_bound-block}
+use Rattle.row_spec.specs.Rows.{lower_bound}
+use Rattle.row_spec.proofs.Whole.{lower_bound-block}
 use Rattle.shared_table.specs.Pieces.{blocks_of, rows_of}
 use Rattle.shared_table.proofs.Parts.{length-blocks, part_rows}
 use Rattle.shared_table.proofs.layer.LayerPiece.place_of.Goals as goal

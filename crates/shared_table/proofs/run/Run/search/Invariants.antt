@@ -1,5 +1,5 @@
 use Rattle.std.proofs.Common.{Less, take}
-use Rattle.row_table.specs.Rows.{EachKeyIs}
+use Rattle.row_spec.specs.Rows.{EachKeyIs}
 use Rattle.shared_table.proofs.run.Run.search.Given as goal
 
 abbrev pub invariant-loop-place : goal.invariant-loop-place

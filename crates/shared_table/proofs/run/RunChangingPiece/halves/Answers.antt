@@ -1,5 +1,5 @@
 use Rattle.std.proofs.Common.{arith}
-use Rattle.row_table.proofs.Ascending.{IsAscending-take, IsAscending-drop}
+use Rattle.row_spec.proofs.Ascending.{IsAscending-take, IsAscending-drop}
 use Rattle.shared_table.proofs.Parts.{run_halves, rest_from}
 use Rattle.shared_table.proofs.run.RunChangingPiece.halves.Goals as goal
 

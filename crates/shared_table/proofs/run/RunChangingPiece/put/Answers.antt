@@ -1,6 +1,6 @@
 use Rattle.std.proofs.Common.{sym, ◌∙◌}
-use Rattle.row_table.proofs.Place.{with_row_found, with_row_gap}
-use Rattle.row_table.proofs.Ascending.{IsAscending-with_row}
+use Rattle.row_spec.proofs.Place.{with_row_found, with_row_gap}
+use Rattle.row_spec.proofs.Ascending.{IsAscending-with_row}
 use Rattle.shared_table.proofs.run.RunChangingPiece.put.Goals as goal
 
 -- the key was there

@@ -1,6 +1,6 @@
 use Rattle.std.proofs.Common.{sym, ◌∙◌}
-use Rattle.row_table.proofs.Place.{without_key_found, without_key_gap}
-use Rattle.row_table.proofs.Ascending.{IsAscending-without_key}
+use Rattle.row_spec.proofs.Place.{without_key_found, without_key_gap}
+use Rattle.row_spec.proofs.Ascending.{IsAscending-without_key}
 use Rattle.shared_table.proofs.run.RunChangingPiece.take.Goals as goal
 
 pub invariant_of-self : goal.invariant_of-self

@@ -1,4 +1,4 @@
-use Rattle.row_table.proofs.Ascending.{IsAscending-empty}
+use Rattle.row_spec.proofs.Ascending.{IsAscending-empty}
 use Rattle.shared_table.proofs.table.SharedTable.len.Goals as goal
 
 pub returns-in-None-clause-ascending : goal.returns-in-None-clause-ascending

@@ -2,7 +2,7 @@ use Rattle.std.proofs.Common.{◌≡◌, Some, subst, sym, ap, ◌∙◌, Orderi
 use Rattle.s57_types.specs.declared.name.RecName.{RecName}
 use Rattle.cell_spec.specs.Ascending.{ascending}
 use Rattle.cell_spec.specs.Names.{name_order}
-use Rattle.row_table.specs.Rows.{IsAscending, value_of}
+use Rattle.row_spec.specs.Rows.{IsAscending, value_of}
 use Rattle.finding_laws.specs.Tables.{Covering, mates_in}
 use Rattle.tile_index.specs.Tilings.{is_near}
 use Rattle.tile_index.proofs.Near.{mates_gathered}

@@ -1,7 +1,7 @@
 use Rattle.std.proofs.Common.{◌≡◌, cond, is_eq, is_some, subst, sym, ap, ◌∙◌, Ordering}
 use Rattle.s57_types.specs.declared.name.RecName.{RecName}
 use Rattle.cell_spec.specs.Names.{name_order}
-use Rattle.row_table.specs.Rows.{value_of, with_row}
+use Rattle.row_spec.specs.Rows.{value_of, with_row}
 use Rattle.pair_set.specs.Pairs.{has_pair, is_among}
 use Rattle.tile_index.specs.Tilings.{IsTiling, Tile, tile_order}
 use Rattle.tile_index.proofs.Tilings.{put_covering}

@@ -1,7 +1,7 @@
 use Rattle.std.proofs.Common.{◌≡◌, Some, subst, sym, ap, ◌∙◌, Ordering}
 use Rattle.s57_types.specs.declared.name.RecName.{RecName}
 use Rattle.cell_spec.specs.Names.{name_order}
-use Rattle.row_table.specs.Rows.{IsAscending, with_row}
+use Rattle.row_spec.specs.Rows.{IsAscending, with_row}
 use Rattle.tile_index.specs.Changes.{ranges_at, ranges_in}
 use Rattle.tile_index.specs.Tilings.{IsTiling}
 use Rattle.tile_index.proofs.InPlace.{keeps_ranges, keeps_tiles}

@@ -1,7 +1,7 @@
 use Rattle.std.proofs.Common.{◌≡◌, [], cond, false, is_eq, subst, sym, ap, ◌∙◌, Ordering}
 use Rattle.s57_types.specs.declared.name.RecName.{RecName}
 use Rattle.cell_spec.proofs.Ascending.{sorted-ascending}
-use Rattle.row_table.specs.Rows.{IsAscending, without_key}
+use Rattle.row_spec.specs.Rows.{IsAscending, without_key}
 use Rattle.pair_set.specs.Pairs.{has_pair, is_among}
 use Rattle.tile_index.specs.Tilings.{IsTiling, Tile, tile_order}
 use Rattle.tile_index.proofs.Meeting.{total_tiles}

@@ -37,8 +37,8 @@ use Rattle.std.specs.List.{IsAllAdjacentAnswer}
 use Rattle.std.proofs.lemmas.Map.Keys.{sorted_from_all_adjacent, Less-from_sorted}
 use Rattle.std.proofs.lemmas.Map.Entries.{length-keys_of}
 use Rattle.std.proofs.Math.ListN.{get_or-map}
-use Rattle.row_table.specs.Rows.{IsAscending, with_row, without_key}
-use Rattle.row_table.proofs.Place.{turned, less_from_test}
+use Rattle.row_spec.specs.Rows.{IsAscending, with_row, without_key}
+use Rattle.row_spec.proofs.Place.{turned, less_from_test}
 
 -- no rows ascend
 pub IsAscending-empty : {K : Type 0} (V : Type 0) (cmp : K → K → Ordering) → IsAscending {V = V} cmp []

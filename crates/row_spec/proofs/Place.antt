@@ -52,7 +52,7 @@ use Rattle.std.proofs.lemmas.Map.Keys.{sorted_head, sorted_tail, Less-from_sorte
 use Rattle.std.proofs.lemmas.List.Sorted.{searchable_from_sorted}
 use Rattle.std.proofs.lemmas.Map.Entries.{length-keys_of}
 use Rattle.std.proofs.Math.ListN.{get_or-map}
-use Rattle.row_table.specs.Rows.{IsAscending, value_of, with_row, without_key, lower_bound, EachKeyIs, IsRowAt, IsGapAt}
+use Rattle.row_spec.specs.Rows.{IsAscending, value_of, with_row, without_key, lower_bound, EachKeyIs, IsRowAt, IsGapAt}
 
 -- what holds of each element before a place holds of the front
 pub front_from_within : {X : Type 0} (P : X → Type 0) (xs : List X) (i : ℕ) → i ≤ length xs → AllWithin P xs 0 i → AllByRecursion P (take i xs)

@@ -38,8 +38,8 @@ use Rattle.std.specs.Option.{option_copied}
 use Rattle.std.proofs.lemmas.List.{map-set, get_or-map, length-map, map-append, take-map, drop-map}
 use Rattle.std.proofs.lemmas.List.Elements.{All-set, All-append, All-cons, All-take, All-drop, All-push}
 use Rattle.std.proofs.lemmas.Grind.{get_or-set_at}
-use Rattle.row_table.specs.Rows.{Run}
-use Rattle.row_table.specs.Blocks.{rows_of, block_at, replaced, IsFilled, IsEmptyRun}
+use Rattle.row_spec.specs.Rows.{Run}
+use Rattle.row_spec.specs.Blocks.{rows_of, block_at, replaced, IsFilled, IsEmptyRun}
 
 module _ {K V : Type 0} (runs : List (Run K V)) (place : ℕ) (in_blocks : place < length (rows_of runs)) where
   pub in_runs : place < length runs

@@ -40,13 +40,13 @@ use Rattle.std.specs.List.{AllByRecursion}
 use Rattle.std.specs.List.Sorted.{IsPartitionedBy, IsPartitionPoint}
 use Rattle.std.specs.Map.{keys_of}
 use Rattle.std.proofs.lemmas.Map.Keys.{sorted_head, sorted_tail}
-use Rattle.row_table.specs.Rows.{Run, IsAscending, EachKeyIs, begins_by, with_row, value_of}
-use Rattle.row_table.specs.Blocks.{joined, block_at, rows_of, IsFilled, IsBlockFor}
-use Rattle.row_table.proofs.Ascending.{each_key-right, IsAscending-right}
-use Rattle.row_table.proofs.Place.{above_greater, with_row-append_below, value_of-append_below}
+use Rattle.row_spec.specs.Rows.{Run, IsAscending, EachKeyIs, begins_by, with_row, value_of}
+use Rattle.row_spec.specs.Blocks.{joined, block_at, rows_of, IsFilled, IsBlockFor}
+use Rattle.row_spec.proofs.Ascending.{each_key-right, IsAscending-right}
+use Rattle.row_spec.proofs.Place.{above_greater, with_row-append_below, value_of-append_below}
 use Rattle.std.proofs.lemmas.List.{get_or-map, length-map}
-use Rattle.row_table.proofs.Joined.{joined_parted}
-use Rattle.row_table.proofs.Runs.{some_row}
+use Rattle.row_spec.proofs.Joined.{joined_parted}
+use Rattle.row_spec.proofs.Runs.{some_row}
 
 -- what is below a key that is not above another is below that one
 less_from_le : {K : Type 0} {cmp : K → K → Ordering} → IsTotalOrder cmp → (x y z : K) (answer : Ordering) → cmp y z ≡ answer

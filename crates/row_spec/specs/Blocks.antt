@@ -2,7 +2,7 @@
 use Rattle.std.specs.Prelude.{◌≡◌, ℕ, suc, ◌+◌, ◌-◌, ◌*◌, ◌^◌, ◌<◌, ◌≤◌, List, [], ◌∷◌, ◌++◌, length, take, drop, map, slice_index_or, slice_set, remove}
 use Rattle.std.specs.declared.cmp.Ordering.{Ordering}
 use Rattle.std.specs.declared.cmp.Ordering.TheVariants.{Less, Greater}
-use Rattle.row_table.specs.Rows.{Run, EachKeyIs, AreCopies}
+use Rattle.row_spec.specs.Rows.{Run, EachKeyIs, AreCopies}
 
 -- all rows, block after block
 abbrev pub joined : {X : Type 0} → List (List X) → List X

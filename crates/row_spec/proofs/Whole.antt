@@ -27,9 +27,9 @@ use Rattle.std.proofs.Common.{
   false,
 }
 use Rattle.std.specs.Ordering.{match_ordering}
-use Rattle.row_table.specs.Rows.{value_of, with_row, without_key, lower_bound, EachKeyIs}
-use Rattle.row_table.specs.Blocks.{joined, block_at, rows_before, replaced, IsBlockFor}
-use Rattle.row_table.proofs.Place.{
+use Rattle.row_spec.specs.Rows.{value_of, with_row, without_key, lower_bound, EachKeyIs}
+use Rattle.row_spec.specs.Blocks.{joined, block_at, rows_before, replaced, IsBlockFor}
+use Rattle.row_spec.proofs.Place.{
   value_of-append_below,
   value_of-above,
   with_row-append_below,
@@ -39,7 +39,7 @@ use Rattle.row_table.proofs.Place.{
   lower_bound-append_below,
   lower_bound-above,
 }
-use Rattle.row_table.proofs.Joined.{joined_parted, joined-set, joined-replaced}
+use Rattle.row_spec.proofs.Joined.{joined_parted, joined-set, joined-replaced}
 
 module _ {K V : Type 0} (cmp : K → K → Ordering) where
   -- rows whose keys are above the key are not looked at, and stay behind

@@ -37,8 +37,8 @@ use Rattle.std.specs.Ordering.{match_ordering}
 use Rattle.std.specs.List.{AllByRecursion}
 use Rattle.std.specs.Map.{keys_of}
 use Rattle.std.proofs.lemmas.Map.Keys.{sorted_head, sorted_tail}
-use Rattle.row_table.specs.Rows.{IsAscending, value_of, with_row, without_key, lower_bound}
-use Rattle.row_table.proofs.Place.{less_from_test, value_of-above, above_tied, above_greater}
+use Rattle.row_spec.specs.Rows.{IsAscending, value_of, with_row, without_key, lower_bound}
+use Rattle.row_spec.proofs.Place.{less_from_test, value_of-above, above_tied, above_greater}
 
 -- two tests of which at most one holds, in either order
 cond_swap : {A : Type 0} (a b : Bool) (x y z : A) → (a ≡ true → b ≡ false) → cond b y (cond a x z) ≡ cond a x (cond b y z)

@@ -33,7 +33,7 @@ use Rattle.std.proofs.Common.{
   ◌*◌,
   length-set,
 }
-use Rattle.row_table.specs.Blocks.{joined, block_at, rows_before, excess, claim_of, replaced, halved}
+use Rattle.row_spec.specs.Blocks.{joined, block_at, rows_before, excess, claim_of, replaced, halved}
 
 -- what stood in a place that is taken out is not seen
 pub remove-set : {A : Type 0} (xs : List A) (i : ℕ) (y : A) → remove (set xs i y) i ≡ remove xs i
