@@ -6,7 +6,7 @@ use Rattle.rule_spec.specs.Candidates.{candidates_of, segments_named}
 use Rattle.rule_spec.specs.EdgePoints.{edge_line_of}
 use Rattle.rule_spec.specs.Findings.{subjects}
 use Rattle.rule_spec.specs.Reads.{read_set}
-use Rattle.file_samples.specs.Square.{square}
+use Rattle.cell_make.specs.Square.{square}
 use Rattle.bench_tests.specs.Moves.{moved_node}
 
 pub move_budget : plan_budget (moved_node ∷ []) square [] [] ≡ 776

@@ -42,7 +42,7 @@ use Rattle.s57_types.specs.declared.record.Rec.{Rec}
 use Rattle.cell_spec.specs.Lookup.{all_records, name_of}
 use Rattle.cell_spec.specs.Names.{same_name}
 use Rattle.cell_spec.specs.Writable.{AreFit, IsWritable}
-use Rattle.file_samples.specs.Parts.{name}
+use Rattle.cell_make.specs.Parts.{name}
 use Rattle.cell_make.specs.Squares.{row_of, each_place}
 use Rattle.cell_make.specs.GeneratedCell.{
   node_at,

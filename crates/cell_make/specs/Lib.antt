@@ -1,3 +1,5 @@
+pub mod Parts
+pub mod Square
 pub mod Squares
 pub mod GeneratedCell
 pub mod GeneratedScripts

@@ -2,9 +2,7 @@ pub mod Faults
 pub mod Fields
 pub mod Frames
 pub mod Limits
-pub mod Parts
 pub mod SmallFiles
-pub mod Square
 pub mod SquareBytes
 pub mod SquareFile
 pub mod UnusualFiles

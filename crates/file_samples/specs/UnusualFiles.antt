@@ -10,7 +10,7 @@ use Rattle.s57_types.specs.declared.record.Rec.{Rec}
 use Rattle.s57_types.specs.declared.record.Rec.TheVariants.{V, F}
 use Rattle.s57_types.specs.declared.record.Spot.{Spot}
 use Rattle.frame_spec.specs.RecordFrame.{Field}
-use Rattle.file_samples.specs.Parts.{name, end_at, outer}
+use Rattle.cell_make.specs.Parts.{name, end_at, outer}
 use Rattle.file_samples.specs.Fields.{attribute}
 use Rattle.file_samples.specs.SmallFiles.{AreDecoded, field, number, dsid, dssi, dspm, vrid, frid, foid, attributes, file, file_with, geographic}
 

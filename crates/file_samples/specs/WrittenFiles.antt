@@ -9,7 +9,7 @@ use Rattle.file_spec.specs.DescriptiveRecord.{descriptive_fields}
 use Rattle.file_spec.specs.EncodedCell.{encoded_cell, record_counts, record_bytes}
 use Rattle.file_spec.specs.DecodedCell.{decoded_cell}
 use Rattle.file_samples.specs.Fields.{attribute, wide_attribute, wide_attribute_bytes, soundings, soundings_bytes, partners, partners_bytes}
-use Rattle.file_samples.specs.Parts.{head, name, node, area, outer, end_at}
+use Rattle.cell_make.specs.Parts.{head, name, node, area, outer, end_at}
 
 -- the controls of ATTF and NATF, the eighth and the ninth description, at the levels AALL and NALL
 abbrev pub attribute_controls : ℕ → ℕ → List (List ℕ)

@@ -1,7 +1,7 @@
 //! The look-ups of a plan, within a number that was worked out by hand.
 
 ghost use Rattle.std.specs.Prelude.{◌≡◌, ◌+◌, ◌<◌, ◌≤◌, [], ◌∷◌};
-ghost use Rattle.file_samples.specs.Square.{square};
+ghost use Rattle.cell_make.specs.Square.{square};
 ghost use Rattle.bench_tests.specs.Moves.{moved_node};
 
 use super::benches::{commit, open_bench};

@@ -2,7 +2,7 @@ use Rattle.std.proofs.Common.{[], List, ap, arith}
 use Rattle.s57_types.specs.declared.cell.Cell.{Cell}
 use Rattle.cell_spec.specs.declared.edit.Edit.{Edit}
 use Rattle.rule_spec.specs.Affected.{plan_budget}
-use Rattle.file_samples.specs.Square.{square}
+use Rattle.cell_make.specs.Square.{square}
 use Rattle.bench_tests.proofs.SquareBudget.{move_budget}
 use Rattle.bench_tests.proofs.tests.counted.move_node.Goals as goal
 
