@@ -10,6 +10,7 @@ mod run;
 mod shared;
 mod table;
 mod threads;
+mod top;
 
 pub use rows::SharedRows;
 pub use shared::Shared;

@@ -8,16 +8,17 @@ ghost use Rattle.shared_table.specs.Pieces.{IsRunAt};
 
 use crate::filled::{layers_of, runs_of};
 use crate::layer::Layer;
-use crate::piece::{ChangingPiece, Piece, put_shared, take_shared};
+use crate::piece::Piece;
 use crate::rows::SharedRows;
 use crate::run::Run;
+use crate::top::{Top, put_at_top, take_from_top, top_of};
 use s57_types::Duplicate;
 use std::alloc::{AllocError, Global};
 use std::marker::Model;
 use std::sync::Arc;
 
 // The pieces of a table in five levels, of which the top has as many pieces as come.
-type Root<K, V> = Layer<K, V, Layer<K, V, Layer<K, V, Layer<K, V, Run<K, V>>>>>;
+type Root<K, V> = Top<K, V, Layer<K, V, Layer<K, V, Run<K, V>>>>;
 
 /// A sorted table, seen as its rows in ascending order of their keys. A copy is a count and shares all pieces, and a change of one of
 /// the two leaves the other as it is. An `Err` means out of memory, and leaves the table as it was.
@@ -136,9 +137,8 @@ impl<K: Ord + Copy + Drop, V: Duplicate + Drop> SharedTable<K, V> {
         let runs = runs_of(alloc, rows)?;
         let low = layers_of(alloc, runs)?;
         let middle = layers_of(alloc, low)?;
-        let top = Root::of(layers_of(alloc, middle)?)?;
         Ok(SharedTable {
-            root: Some(Arc::new(alloc, top)?),
+            root: Some(top_of(alloc, middle)?),
         })
     }
 
@@ -147,13 +147,7 @@ impl<K: Ord + Copy + Drop, V: Duplicate + Drop> SharedTable<K, V> {
         ensures ok { OnOk result (self.new ≡ with_row K.cmp self.old key value) }
         ensures err { OnErr result (self.new ≡ self.old) }
     {
-        if let Some(root) = &mut self.root {
-            return put_shared(root, alloc, key, value);
-        }
-        let mut root = Root::make(alloc);
-        root.put(alloc, key, value)?;
-        self.root = Some(Arc::new(alloc, root)?);
-        Ok(())
+        put_at_top(&mut self.root, alloc, key, value)
     }
 
     /// Takes the key's row out, if there is one.
@@ -161,13 +155,6 @@ impl<K: Ord + Copy + Drop, V: Duplicate + Drop> SharedTable<K, V> {
         ensures ok { OnOk result (self.new ≡ without_key K.cmp self.old key.now) }
         ensures err { OnErr result (self.new ≡ self.old) }
     {
-        // A key that isn't there changes nothing, so no piece is copied for it.
-        if self.get(key).is_none() {
-            return Ok(());
-        }
-        match &mut self.root {
-            Some(root) => take_shared(root, alloc, key),
-            None => Ok(()),
-        }
+        take_from_top(&mut self.root, alloc, key)
     }
 }
