@@ -1,5 +1,5 @@
 -- The pointers and the identities of a cell as lists of pairs, and the values of one key in such a list. This project's own.
-use Rattle.std.specs.Prelude.{ℕ, ◌≤◌, List, length, map, filter, flat_map}
+use Rattle.std.specs.Prelude.{◌≡◌, ℕ, ◌≤◌, List, length, map, filter, flat_map}
 use Rattle.std.specs.List.{enumerate_from}
 use Rattle.std.specs.declared.cmp.Ordering.{Ordering}
 use Rattle.std.specs.Ordering.{is_eq, ordering_then}
@@ -8,7 +8,9 @@ use Rattle.s57_types.specs.declared.name.Lnam.{Lnam}
 use Rattle.s57_types.specs.declared.record.Rec.{Rec}
 use Rattle.s57_types.specs.RecordFields.{length_limit}
 use Rattle.cell_spec.specs.declared.key.Ref.{Ref}
-use Rattle.cell_spec.specs.Lookup.{name_of, targets_of, identities_of}
+use Rattle.cell_spec.specs.Ascending.{ascending}
+use Rattle.cell_spec.specs.Lookup.{bears, identities_of, name_of, pointers_in, targets_of}
+use Rattle.cell_spec.specs.Names.{identity_order, name_order, ref_order}
 
 -- the order of pairs by their keys, then by their values
 abbrev pub pair_order : {K V : Type 0} → (K → K → Ordering) → (V → V → Ordering) → K × V → K × V → Ordering
@@ -40,3 +42,11 @@ identity_of r = map (λ l. (l, name_of r)) (identities_of r)
 
 abbrev pub identities_listed : List Rec → List (Lnam × RecName)
 identities_listed rs = flat_map identity_of rs
+
+-- pairs of a target and a pointer that have the pointers of records
+abbrev pub ArePointersOf : List Rec → List (RecName × Ref) → Type 0
+ArePointersOf rs pointers = (n : RecName) → values_at name_order pointers n ≡ ascending ref_order (flat_map (pointers_in n) rs)
+
+-- pairs of an identifier and a name that have the features among records
+abbrev pub AreBearersOf : List Rec → List (Lnam × RecName) → Type 0
+AreBearersOf rs bearers = (l : Lnam) → values_at identity_order bearers l ≡ ascending name_order (map name_of (filter (bears l) rs))

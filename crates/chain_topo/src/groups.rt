@@ -12,7 +12,7 @@ use std::marker::Model;
 
 /// Pairs of a key and a value in ascending order, each once.
 #[derive(Drop)]
-pub(crate) struct Groups<K: Ord, V> {
+pub struct Groups<K: Ord, V> {
     keys: Vec<K>,
     values: Vec<V>,
 }
@@ -30,6 +30,8 @@ impl<K: Ord, V> Model for Groups<K, V> {
 
 impl<K: Ord + Copy, V: Ord + Copy> Groups<K, V> {
     /// The pairs in ascending order, each once.
+    ///
+    /// An `Err` means out of memory.
     pub(crate) fn make(alloc: Global, pairs: Vec<(K, V)>) -> Result<Groups<K, V>, AllocError>
         requires exact_keys { (a b : K) → K.cmp a b ≡ Equal → a ≡ b }
         requires exact_values { (a b : V) → V.cmp a b ≡ Equal → a ≡ b }
@@ -43,7 +45,7 @@ impl<K: Ord + Copy, V: Ord + Copy> Groups<K, V> {
     }
 
     /// The values of a key.
-    pub(crate) fn values_of(&self, key: &K) -> &[V]
+    pub fn values_of(&self, key: &K) -> &[V]
         ensures { result.now ≡ values_at K.cmp self.now key.now }
     {
         let (from, to) = span_of(&self.keys, key);
@@ -63,6 +65,7 @@ fn span_of<K: Ord>(keys: &[K], key: &K) -> (usize, usize)
     (from, to)
 }
 
+// The items in ascending order.
 fn sorted<T: Ord>(mut items: Vec<T>) -> Vec<T>
     ensures same { IsPermutation items.items result.items }
     ensures rises { IsSorted T.cmp result.items }
@@ -71,12 +74,14 @@ fn sorted<T: Ord>(mut items: Vec<T>) -> Vec<T>
     items
 }
 
+// The keys of pairs.
 fn keys_of<K: Copy, V>(alloc: Global, pairs: &[(K, V)]) -> Result<Vec<K>, AllocError>
     ensures { IfOk result (λ keys. keys.items ≡ map (λ (p : K × V). p.0) pairs.now) }
 {
     pairs.iter().map(|pair| pair.0).collect(alloc)
 }
 
+// The values of pairs.
 fn values_of<K, V: Copy>(alloc: Global, pairs: &[(K, V)]) -> Result<Vec<V>, AllocError>
     ensures { IfOk result (λ values. values.items ≡ map (λ (p : K × V). p.1) pairs.now) }
 {

@@ -10,5 +10,7 @@ mod sorted;
 pub use answers::Look;
 pub use cell_spec::{Finding, Findings, Key, Keys, Names, Ref, Refs, Row, Rows, Subject, Subjects};
 pub use edge::{edge_line, edge_of, edge_points, node_at, position_of};
+pub use groups::Groups;
+pub use listed::records_of;
 pub use look_counter::Steps;
-pub use sorted::ListLook;
+pub use sorted::{ListLook, group_identities, group_pointers};

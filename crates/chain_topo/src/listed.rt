@@ -1,4 +1,4 @@
-//! The records, pointers and identities of a cell as lists.
+//! Records, and their pointers and identities, as lists.
 
 ghost use Rattle.std.specs.Prelude.{◌≡◌, ◌≤◌, ◌++◌, All, IfOk, OnOk, length, map};
 ghost use Rattle.std.specs.Borrow.{Bor};
@@ -24,6 +24,7 @@ pub(crate) fn name_of(rec: &Rec) -> RecName
     }
 }
 
+// Appends records.
 fn add_records<'a>(list: &mut Vec<&'a Rec>, recs: &'a [Rec]) -> Result<(), AllocError>
     ensures { OnOk result (map (λ r. r.now) list.new.items ≡ map (λ r. r.now) list.old.items ++ recs.now) }
 {
@@ -34,7 +35,9 @@ fn add_records<'a>(list: &mut Vec<&'a Rec>, recs: &'a [Rec]) -> Result<(), Alloc
 }
 
 /// All records of a cell, in file order.
-pub(crate) fn records_of(alloc: Global, cell: &Cell) -> Result<Vec<&Rec>, AllocError>
+///
+/// An `Err` means out of memory.
+pub fn records_of(alloc: Global, cell: &Cell) -> Result<Vec<&Rec>, AllocError>
     ensures { IfOk result (λ list. map (λ r. r.now) list.items ≡ all_records cell.now) }
 {
     let mut list = Vec::new(alloc);
@@ -45,6 +48,7 @@ pub(crate) fn records_of(alloc: Global, cell: &Cell) -> Result<Vec<&Rec>, AllocE
     Ok(list)
 }
 
+// Appends the target of each of a record's ends, with the place of the end.
 fn add_ends(list: &mut Vec<(RecName, Ref)>, from: RecName, ends: &[End]) -> Result<(), AllocError>
     requires { length ends.now ≤ length_limit }
     ensures { OnOk result (list.new.items ≡ list.old.items ++ pointers_from from 1 (map (λ (e : SpecEnd). e.to) ends.now)) }
@@ -56,6 +60,7 @@ fn add_ends(list: &mut Vec<(RecName, Ref)>, from: RecName, ends: &[End]) -> Resu
     Ok(())
 }
 
+// Appends the target of each of a record's spots, with the place of the spot.
 fn add_spots(
     list: &mut Vec<(RecName, Ref)>,
     from: RecName,
@@ -71,6 +76,7 @@ fn add_spots(
     Ok(())
 }
 
+// Appends the pointers of a record, each with its target before it.
 fn add_pointers(list: &mut Vec<(RecName, Ref)>, rec: &Rec) -> Result<(), AllocError>
     requires { HasFewPointers rec.now }
     ensures { OnOk result (list.new.items ≡ list.old.items ++ pointers_of rec.now) }
@@ -97,6 +103,7 @@ pub(crate) fn list_pointers(
     Ok(list)
 }
 
+// Appends the identity of a record with its name, if it is a feature.
 fn add_identity(list: &mut Vec<(Lnam, RecName)>, rec: &Rec) -> Result<(), AllocError>
     ensures { OnOk result (list.new.items ≡ list.old.items ++ identity_of rec.now) }
 {

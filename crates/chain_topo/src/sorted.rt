@@ -1,18 +1,16 @@
 //! A look over a cell with sorted lists.
 
-ghost use Rattle.std.specs.Prelude.{◌≡◌, ◌+◌, All, IfOk, map, filter, find, flat_map};
+ghost use Rattle.std.specs.Prelude.{◌≡◌, ◌+◌, All, IfOk, map, find};
 ghost use Rattle.std.specs.Borrow.{Bor};
 ghost use Rattle.std.specs.Option.{option_copied};
 ghost use Rattle.std.specs.List.Sorted.{IsPermutation, IsSortedByKey};
-ghost use Rattle.s57_types.specs.declared.name.RecName.{RecName as SpecRecName};
-ghost use Rattle.s57_types.specs.declared.name.Lnam.{Lnam as SpecLnam};
 ghost use Rattle.s57_types.specs.declared.record.Rec.{Rec as SpecRec};
 ghost use Rattle.s57_types.specs.declared.cell.Cell.{Cell as SpecCell};
-ghost use Rattle.cell_spec.specs.Ascending.{ascending, order_by};
-ghost use Rattle.cell_spec.specs.Lookup.{is_named, name_of as spec_name, bears, pointers_in, lookup_record, lookup_pointers, lookup_identity};
-ghost use Rattle.cell_spec.specs.Names.{name_order, ref_order, identity_parts};
+ghost use Rattle.cell_spec.specs.Ascending.{order_by};
+ghost use Rattle.cell_spec.specs.Lookup.{is_named, name_of as spec_name, lookup_record, lookup_pointers, lookup_identity};
+ghost use Rattle.cell_spec.specs.Names.{name_order, identity_parts};
 ghost use Rattle.chain_topo.specs.Answers.{IsByName};
-ghost use Rattle.chain_topo.specs.Listed.{HasFewPointers, values_at};
+ghost use Rattle.chain_topo.specs.Listed.{AreBearersOf, ArePointersOf, HasFewPointers, values_at};
 ghost use Rattle.chain_topo.specs.Readable.{IsReadable};
 
 use crate::answers::Look;
@@ -169,11 +167,12 @@ fn find_sorted<'a>(records: &[&'a Rec], name: RecName) -> Option<&'a Rec>
     }
 }
 
-// The pointers of records in groups by target.
-fn group_pointers(alloc: Global, records: &[&Rec]) -> Result<Groups<RecName, Ref>, AllocError>
+/// The pointers of records in groups by target.
+///
+/// An `Err` means out of memory.
+pub fn group_pointers(alloc: Global, records: &[&Rec]) -> Result<Groups<RecName, Ref>, AllocError>
     requires { All (λ (r : Bor SpecRec). HasFewPointers r.now) records.now }
-    ensures { IfOk result (λ groups. (n : SpecRecName) → values_at name_order groups n ≡ ascending ref_order
-        (flat_map (pointers_in n) (map (λ (r : Bor SpecRec). r.now) records.now))) }
+    ensures { IfOk result (λ groups. ArePointersOf (map (λ (r : Bor SpecRec). r.now) records.now) groups) }
 {
     orders_are_by_parts();
     let list = list_pointers(alloc, records)?;
@@ -187,10 +186,14 @@ fn pointers_to(pointers: &Groups<RecName, Ref>, name: RecName) -> &[Ref]
     pointers.values_of(&name)
 }
 
-// The names of features in groups by the identifier that they bear.
-fn group_identities(alloc: Global, records: &[&Rec]) -> Result<Groups<Lnam, RecName>, AllocError>
-    ensures { IfOk result (λ groups. (l : SpecLnam) → values_at (order_by identity_parts) groups l ≡ ascending name_order
-        (map spec_name (filter (bears l) (map (λ (r : Bor SpecRec). r.now) records.now)))) }
+/// The names of features in groups by the identifier that they bear.
+///
+/// An `Err` means out of memory.
+pub fn group_identities(
+    alloc: Global,
+    records: &[&Rec],
+) -> Result<Groups<Lnam, RecName>, AllocError>
+    ensures { IfOk result (λ groups. AreBearersOf (map (λ (r : Bor SpecRec). r.now) records.now) groups) }
 {
     orders_are_by_parts();
     let list = list_identities(alloc, records)?;

@@ -4,9 +4,9 @@ ghost use Rattle.std.specs.Prelude.{◌≡◌, IfOk, filter};
 ghost use Rattle.cell_spec.specs.declared.key.Ref.{Ref as SpecRef};
 ghost use Rattle.answer_laws.specs.EditedAnswers.{bearers_after, is_unedited, pointers_after};
 
-use crate::groups::Groups;
-use crate::left::{group_identities, group_pointers, left_records};
+use crate::left::left_records;
 use cell_spec::{Names, Ref, Refs, ascending_names, distinct, orders_are_by_parts};
+use chain_topo::{Groups, group_identities, group_pointers};
 use edit_sets::EditSet;
 use s57_types::{Lnam, RecName};
 use std::alloc::{AllocError, Global};

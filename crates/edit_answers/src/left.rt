@@ -1,16 +1,10 @@
 //! The records that edits leave.
 
-ghost use Rattle.std.specs.Prelude.{◌≡◌, ◌++◌, All, IfOk, OnOk, filter_map, map, option_to_list};
-ghost use Rattle.std.specs.Borrow.{Bor};
-ghost use Rattle.s57_types.specs.declared.record.Rec.{Rec as SpecRec};
+ghost use Rattle.std.specs.Prelude.{◌≡◌, ◌++◌, IfOk, OnOk, filter_map, map, option_to_list};
 ghost use Rattle.cell_spec.specs.Edits.{left_by};
-ghost use Rattle.chain_topo.specs.Listed.{HasFewPointers};
-ghost use Rattle.edit_answers.specs.Left.{AreBearersOf, ArePointersOf};
 
-use crate::groups::Groups;
-use crate::listed::{list_identities, list_pointers};
-use cell_spec::{Edit, Ref, orders_are_by_parts};
-use s57_types::{Lnam, Rec, RecName};
+use cell_spec::Edit;
+use s57_types::Rec;
 use std::alloc::{AllocError, Global};
 
 // Appends the record that an edit leaves, if it leaves one.
@@ -32,30 +26,4 @@ pub(crate) fn left_records(alloc: Global, edits: &[Edit]) -> Result<Vec<&Rec>, A
         push_left(&mut list, edit)?;
     }
     Ok(list)
-}
-
-/// The pointers of records in groups by target.
-///
-/// An `Err` means out of memory.
-pub fn group_pointers(alloc: Global, records: &[&Rec]) -> Result<Groups<RecName, Ref>, AllocError>
-    requires { All (λ (r : Bor SpecRec). HasFewPointers r.now) records.now }
-    ensures { IfOk result (λ groups. ArePointersOf (map (λ (r : Bor SpecRec). r.now) records.now) groups) }
-{
-    orders_are_by_parts();
-    let list = list_pointers(alloc, records)?;
-    Groups::make(alloc, list)
-}
-
-/// The names of features in groups by the identifier that they bear.
-///
-/// An `Err` means out of memory.
-pub fn group_identities(
-    alloc: Global,
-    records: &[&Rec],
-) -> Result<Groups<Lnam, RecName>, AllocError>
-    ensures { IfOk result (λ groups. AreBearersOf (map (λ (r : Bor SpecRec). r.now) records.now) groups) }
-{
-    orders_are_by_parts();
-    let list = list_identities(alloc, records)?;
-    Groups::make(alloc, list)
 }

@@ -18,7 +18,7 @@ use Rattle.cell_spec.specs.Names.{identity_order, key_order, name_order, ref_ord
 use Rattle.cell_spec.proofs.Ascending.{holds-ascending}
 use Rattle.cell_spec.proofs.Orders.{exact_keys, identities_tie, names_tie, same_from_either}
 use Rattle.chain_topo.specs.Listed.{values_at}
-use Rattle.edit_answers.specs.Left.{AreBearersOf, ArePointersOf}
+use Rattle.chain_topo.specs.Listed.{AreBearersOf, ArePointersOf}
 use Rattle.record_store.specs.Stores.{AreAnswersOf, ArePut}
 use Rattle.edit_answers.proofs.Ties.{identities_flip}
 

@@ -8,7 +8,8 @@ ghost use Rattle.row_spec.specs.Rows.{value_of};
 ghost use Rattle.record_store.specs.Stores.{ArePut, ListIsPut, list_in, names_after, refs_after};
 
 use cell_spec::{Key, Names, Ref, Refs, orders_are_by_parts};
-use edit_answers::{EditAnswers, Groups};
+use chain_topo::Groups;
+use edit_answers::EditAnswers;
 use s57_types::{Lnam, RecName};
 use shared_table::{Shared, SharedTable};
 use std::alloc::{AllocError, Global};

@@ -14,7 +14,8 @@ use crate::answers::Answers;
 use crate::records::Records;
 use crate::store::RecordStore;
 use cell_spec::{Keys, ascending_keys, writable_cells_are_readable};
-use edit_answers::{group_identities, group_pointers, push_answered, records_of};
+use chain_topo::{group_identities, group_pointers, records_of};
+use edit_answers::push_answered;
 use s57_types::{Cell, Rec};
 use std::alloc::{AllocError, Global};
 

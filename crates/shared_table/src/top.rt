@@ -34,15 +34,11 @@ pub(crate) fn put_at_top<K: Ord + Copy + Drop, V: Drop, P: ChangingPiece<K, V>>(
     key: K,
     value: V,
 ) -> Result<(), AllocError>
-    ensures ok {
-        OnOk result (
-            rows_at (λ piece. P.rows (arc_value piece)) top.new
-            ≡ with_row K.cmp (rows_at (λ piece. P.rows (arc_value piece)) top.old) key value
-        )
-    }
-    ensures err {
-        OnErr result (rows_at (λ piece. P.rows (arc_value piece)) top.new ≡ rows_at (λ piece. P.rows (arc_value piece)) top.old)
-    }
+    ensures ok { OnOk result (
+        rows_at (λ piece. P.rows (arc_value piece)) top.new
+        ≡ with_row K.cmp (rows_at (λ piece. P.rows (arc_value piece)) top.old) key value
+        ) }
+    ensures err { OnErr result (rows_at (λ piece. P.rows (arc_value piece)) top.new ≡ rows_at (λ piece. P.rows (arc_value piece)) top.old) }
 {
     if let Some(piece) = top {
         return put_shared(piece, alloc, key, value);
@@ -59,15 +55,11 @@ pub(crate) fn take_from_top<K: Ord + Copy + Drop, V: Drop, P: ChangingPiece<K, V
     alloc: Global,
     key: &K,
 ) -> Result<(), AllocError>
-    ensures ok {
-        OnOk result (
-            rows_at (λ piece. P.rows (arc_value piece)) top.new
-            ≡ without_key K.cmp (rows_at (λ piece. P.rows (arc_value piece)) top.old) key.now
-        )
-    }
-    ensures err {
-        OnErr result (rows_at (λ piece. P.rows (arc_value piece)) top.new ≡ rows_at (λ piece. P.rows (arc_value piece)) top.old)
-    }
+    ensures ok { OnOk result (
+        rows_at (λ piece. P.rows (arc_value piece)) top.new
+        ≡ without_key K.cmp (rows_at (λ piece. P.rows (arc_value piece)) top.old) key.now
+        ) }
+    ensures err { OnErr result (rows_at (λ piece. P.rows (arc_value piece)) top.new ≡ rows_at (λ piece. P.rows (arc_value piece)) top.old) }
 {
     let Some(piece) = top else {
         return Ok(());

@@ -8,7 +8,7 @@ use Rattle.cell_spec.specs.Lookup.{all_records}
 use Rattle.cell_spec.specs.Names.{key_order}
 use Rattle.chain_topo.specs.Listed.{HasFewPointers}
 use Rattle.chain_topo.proofs.PointerCounts.{all_have_few_pointers}
-use Rattle.edit_answers.specs.Left.{AreBearersOf, ArePointersOf}
+use Rattle.chain_topo.specs.Listed.{AreBearersOf, ArePointersOf}
 use Rattle.record_store.specs.declared.answers.Answers.{Answers}
 use Rattle.record_store.proofs.Unlisted.{all_answered}
 use Rattle.record_store.proofs.load.answers_of.Goals as goal

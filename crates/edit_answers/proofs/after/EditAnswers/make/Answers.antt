@@ -3,7 +3,7 @@ use Rattle.std.specs.Prelude.{filter_map}
 use Rattle.std.specs.Borrow.{Bor}
 use Rattle.s57_types.specs.declared.record.Rec.{Rec}
 use Rattle.cell_spec.specs.Edits.{left_by}
-use Rattle.edit_answers.specs.Left.{AreBearersOf, ArePointersOf}
+use Rattle.chain_topo.specs.Listed.{AreBearersOf, ArePointersOf}
 use Rattle.edit_answers.proofs.Unedited.{left_have_few_pointers}
 use Rattle.edit_answers.proofs.after.EditAnswers.make.Goals as goal
 
