@@ -14,6 +14,9 @@ use s57_fields::{Frid, write_attf, write_ffpt, write_foid, write_frid, write_fsp
 use s57_types::{Attrs, Feature, Lnam, Partners, Places};
 use std::alloc::{AllocError, Global};
 
+/// How many fields a feature record has at most.
+const MOST_FIELDS: usize = 7;
+
 /// The field FRID.
 fn identifier_field(alloc: Global, feature: &Feature) -> Result<OutField, AllocError>
     ensures { IfOk result (λ field. field_of field ≡ row_field (codes "FRID") (frid_row (frid_of feature.now))) }
@@ -128,7 +131,7 @@ pub fn feature_fields(
 ) -> Result<Vec<OutField>, AllocError>
     ensures { IfOk result (λ fields. fields_of fields.items ≡ feature_fields nall number feature.now) }
 {
-    let mut fields = Vec::new(alloc);
+    let mut fields = Vec::with_capacity(alloc, MOST_FIELDS)?;
     fields.push(number_field(alloc, number)?)?;
     fields.push(identifier_field(alloc, feature)?)?;
     fields.push(object_field(alloc, &feature.foid)?)?;

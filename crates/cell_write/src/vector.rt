@@ -16,6 +16,9 @@ use std::alloc::{AllocError, Global};
 /// The update instruction RUIN of a new record: insert.
 pub const INSERT: u8 = 1;
 
+/// How many fields a vector record has at most.
+const MOST_FIELDS: usize = 6;
+
 /// The field VRID.
 fn identifier_field(alloc: Global, vector: &Vector) -> Result<OutField, AllocError>
     ensures { IfOk result (λ field. field_of field ≡ row_field (codes "VRID") (vrid_row (vrid_of vector.now))) }
@@ -105,7 +108,7 @@ pub fn vector_fields(
 ) -> Result<Vec<OutField>, AllocError>
     ensures { IfOk result (λ fields. fields_of fields.items ≡ vector_fields number vector.now) }
 {
-    let mut fields = Vec::new(alloc);
+    let mut fields = Vec::with_capacity(alloc, MOST_FIELDS)?;
     fields.push(number_field(alloc, number)?)?;
     fields.push(identifier_field(alloc, vector)?)?;
     push_attv(alloc, &vector.attrs, &mut fields)?;

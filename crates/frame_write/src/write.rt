@@ -125,7 +125,7 @@ pub fn write_record(
     let Some(layout) = layout_of(fields) else {
         return Err(WriteRefusal::TooLong);
     };
-    let mut record = Vec::new(alloc);
+    let mut record = Vec::with_capacity(alloc, layout.length)?;
     push_record(kind, &layout, fields, &mut record)?;
     out.extend_from_slice(record.as_slice())?;
     Ok(())

@@ -15,15 +15,19 @@ use std::alloc::{AllocError, Global};
 // How many bytes a terminator takes at most.
 const TERMINATOR_LIMIT: usize = 2;
 
+// How many bytes a subfield mostly takes at most.
+const VALUE_BYTES: usize = 4;
+
 /// Appends a field of one row. A refusal leaves the bytes as they were.
 pub fn write_row(alloc: Global, row: &[Value<'_>], out: &mut Vec<u8>) -> Result<(), AllocError>
     ensures ok { OnOk result (out.new.items ≡ out.old.items ++ field_bytes (row_of row.now)) }
     ensures err { OnErr result (out.new.items ≡ out.old.items) }
 {
-    let mut field = Vec::new(alloc);
+    let size = row.len().saturating_mul(VALUE_BYTES);
+    let mut field = Vec::with_capacity(alloc, size.saturating_add(TERMINATOR_LIMIT))?;
     put_row(row, &mut field)?;
     field.push(FIELD_TERMINATOR)?;
-    out.extend_from_slice(field.as_slice())
+    append_field(field, out)
 }
 
 /// Appends a field's bytes. Where they are the first, they aren't copied. A refusal leaves the bytes as they were.
