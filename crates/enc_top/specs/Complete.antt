@@ -17,6 +17,7 @@ use Rattle.update_spec.specs.UpdatedCell.{updated_cell}
 use Rattle.enc_top.specs.Words.{Form, check_form, form_of, make_form, drill_form, edge_form, apply_form, no_form, probe_form, replay_form, room_form}
 use Rattle.report_text.specs.declared.status.Status.{Status}
 use Rattle.report_text.specs.declared.status.Status.TheVariants.{Done, NoMemory}
+use Rattle.call_files.specs.GoodFiles.{AreGoodScripts, IsGoodCell, IsGoodOrder, IsThere}
 
 -- nothing speaks against an operation on a cell's edges
 pub record IsGoodOperation (c : Cell) (operation : Operation) : Type 0 where

@@ -18,6 +18,7 @@ use Rattle.enc_top.specs.Task.{check_task, drill_task, left_task, make_task, pro
 use Rattle.enc_top.specs.Words.{Form, check_form, replay_form, room_form, make_form, drill_form, edge_form, probe_form, apply_form, no_form}
 use Rattle.report_text.specs.declared.status.Status.{Status}
 use Rattle.report_text.specs.declared.status.Status.TheVariants.{Usage, TooManyFindings}
+use Rattle.call_files.specs.Inputs.{AndThen, CellIs, FileIs, IsAmong, IsReachedScript, OrderIs, ScriptsAre, cell_limit}
 
 -- a run of scripts on a cell, in the order of a file; the order is read after all scripts
 abbrev pub OrderedRunIs : Cell → List ℕ → List ℕ → List (List Command) → Files → Result Task Status → Type 0

@@ -48,6 +48,7 @@ use Rattle.report_text.specs.declared.status.Status.TheVariants.{
   JournalFull,
 }
 use Rattle.call_files.specs.declared.work.Work.{Work}
+use Rattle.call_files.specs.Outside.{IsCut, IsFinished, IsSilent, IsSmooth, Outside}
 
 -- the words are in one of the forms
 abbrev pub IsBuilt : Form → Type 0

@@ -11,6 +11,7 @@ use Rattle.skin_probe.specs.ProbeText.{probe_text}
 use Rattle.skin_probe.specs.Sheet.{sheet_of}
 use Rattle.text_spec.specs.CellText.{cell_text}
 use Rattle.text_spec.specs.declared.command.Command.{Command}
+use Rattle.call_files.specs.Task.{Task}
 
 -- the text of a cell is put
 abbrev pub check_task : Cell → Task

@@ -33,6 +33,7 @@ use Rattle.std.specs.Str.Parse.{digits_value, signed_digits_value}
 use Rattle.geometry_spec.specs.Points.{Point}
 use Rattle.enc_top.specs.declared.operation.Operation.{Operation}
 use Rattle.enc_top.specs.declared.operation.Operation.TheVariants.{Split, Join}
+use Rattle.call_files.specs.Words.{is_word}
 
 -- the text is that of a number
 abbrev pub is_written_as : List ℕ → ℕ → Bool
