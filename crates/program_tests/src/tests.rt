@@ -1,9 +1,0 @@
-mod calls;
-mod drawn;
-mod draws;
-mod edges;
-mod journal;
-mod lines;
-mod room;
-mod square;
-mod stuck;
