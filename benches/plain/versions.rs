@@ -12,6 +12,7 @@ use std::time::Instant;
 
 const GETS: u32 = 1_000_000;
 const VERSIONS: u32 = 100_000;
+const HELD: usize = 16;
 const CLONES: u32 = 20;
 
 fn next_number(seed: u64) -> u64 {
@@ -67,9 +68,79 @@ fn sum_of_puts(size: u32, puts: u32, rounds: u32, keep_last: bool) -> u64 {
     sum_of_shared(&map)
 }
 
+/// The same works with a table whose copies share pieces.
+mod with_pieces {
+    use super::{next_number, random_key, Arc, GETS, HELD, VERSIONS};
+    use crate::pieces::Table;
+
+    fn numbers(size: u32) -> Table<u32, u64> {
+        let mut table = Table::empty();
+        for place in 0..size {
+            table.put(place.wrapping_mul(2), u64::from(place));
+        }
+        table
+    }
+
+    fn shared(size: u32) -> Table<u32, Arc<u64>> {
+        let mut table = Table::empty();
+        for place in 0..size {
+            table.put(place.wrapping_mul(2), Arc::new(u64::from(place)));
+        }
+        table
+    }
+
+    fn sum<V: Clone>(table: &Table<u32, V>, number: impl Fn(&V) -> u64) -> u64 {
+        let mut sum = 0u64;
+        table.each(&mut |key, value| sum = sum.wrapping_mul(31).wrapping_add(u64::from(key) ^ number(value)));
+        sum
+    }
+
+    fn gets(size: u32) -> u64 {
+        let table = numbers(size);
+        let mut sum = 0u64;
+        let mut seed = 2;
+        for _ in 0..GETS {
+            seed = next_number(seed);
+            sum = sum.wrapping_add(table.get(random_key(seed, size)).copied().unwrap_or(7));
+        }
+        sum
+    }
+
+    fn versions(size: u32, puts: u32, copies: usize) -> u64 {
+        let mut table = shared(size);
+        let mut held: Vec<Table<u32, Arc<u64>>> = (0..copies).map(|_| table.share()).collect();
+        let mut seed = 4;
+        for round in 0..VERSIONS {
+            seed = next_number(seed);
+            let last = table.share();
+            for near in 0..puts {
+                let key = random_key(seed, size).wrapping_add(near.wrapping_mul(2));
+                table.put(key, Arc::new(u64::from(round)));
+            }
+            if copies > 0 {
+                held[round as usize % copies] = last;
+            }
+        }
+        sum(&table, |value| **value)
+    }
+
+    pub fn outcome(work: &str, size: u32) -> u64 {
+        match work {
+            "ascending" => sum(&numbers(size), |value| *value),
+            "gets" => gets(size),
+            "shared" => sum(&shared(size), |value| **value),
+            "put" => versions(size, 1, 0),
+            "five_puts" => versions(size, 5, 0),
+            "put_held" => versions(size, 1, HELD),
+            "five_puts_held" => versions(size, 5, HELD),
+            _ => panic!("work: pieces_ before ascending, gets, shared, put, five_puts, put_held or five_puts_held"),
+        }
+    }
+}
+
 fn outcome(work: &str, size: u32) -> u64 {
     if let Some(work) = work.strip_prefix("pieces_") {
-        return pieces::outcome(work, size);
+        return with_pieces::outcome(work, size);
     }
     match work {
         "ascending" => sum_of_rows(numbers(size).into_iter()),
