@@ -13,3 +13,4 @@ mod values;
 
 pub use file::read_cell;
 pub use refusal::ReadRefusal;
+pub use tags::{may_repeat, record_type, tag_in, tag_text};

@@ -13,7 +13,7 @@ use file_spec::{FieldTag, RecordFault, RecordType};
 use iso_frame::Frame;
 
 /// How a tag is written.
-fn tag_text(tag: FieldTag) -> [u8; 4]
+pub fn tag_text(tag: FieldTag) -> [u8; 4]
     ensures { result ≡ tag_text tag }
 {
     match tag {
@@ -43,7 +43,7 @@ fn is_tagged(tag: FieldTag, name: &[u8; 4]) -> bool
 }
 
 /// Whether a record may have several fields of a tag.
-fn may_repeat(tag: FieldTag) -> bool
+pub fn may_repeat(tag: FieldTag) -> bool
     ensures { result ≡ may_repeat tag }
 {
     match tag {

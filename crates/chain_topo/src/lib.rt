@@ -8,7 +8,6 @@ mod listed;
 mod sorted;
 
 pub use answers::Look;
-pub use cell_spec::{Finding, Findings, Key, Keys, Names, Ref, Refs, Row, Rows, Subject, Subjects};
 pub use edge::{edge_line, edge_of, edge_points, node_at, position_of};
 pub use groups::Groups;
 pub use listed::records_of;

@@ -1,75 +1,25 @@
 -- The fields of a record from a place on.
-use Rattle.std.proofs.Common.{◌≡◌, ℕ, ◌+◌, ◌≤◌, ◌||◌, Bool, true, false, cond, not, List, [], ◌∷◌, ◌++◌, length, take, drop, Option, Some, None, Result, Ok}
+use Rattle.std.proofs.Common.{◌≡◌, ℕ, ◌+◌, ◌≤◌, Bool, true, false, not, List, [], ◌∷◌, ◌++◌, length, take, drop, Some, None, Result, Ok}
 use Rattle.std.proofs.Common.{Err, refl, sym, ap, ◌∙◌}
-use Rattle.std.specs.Prelude.{slice_get, find, filter, nat_eq, IfOk, OnOk}
+use Rattle.std.specs.Prelude.{slice_get, filter, nat_eq, IfOk, OnOk}
 use Rattle.std.specs.Cmp.Lexicographic.{pointwise}
-use Rattle.std.specs.List.{list_any, flat_map}
-use Rattle.std.specs.Option.{option_map, option_or, ok_or}
+use Rattle.std.specs.List.{flat_map}
+use Rattle.std.specs.Option.{option_or}
 use Rattle.std.specs.Result.{result_unwrap_or}
-use Rattle.std.proofs.lemmas.List.{append-nil, drop_more, take_more, drop_all}
+use Rattle.std.proofs.lemmas.List.{append-nil, drop_all}
 use Rattle.std.proofs.lemmas.List.Concat.{flat_map-append}
 use Rattle.std.proofs.lemmas.List.Elements.{filter-append}
-use Rattle.std.proofs.lemmas.List.Folds.{list_any-append}
-use Rattle.std.proofs.Math.Bool.{or-false}
-use Rattle.std.proofs.lemmas.Option.{slice_get_within, get_or_from_slice_get}
 use Rattle.frame_spec.specs.RecordFrame.{Field}
 use Rattle.field_spec.specs.declared.fault.FieldFault.{FieldFault}
 use Rattle.file_spec.specs.FieldTags.{is_tagged, tag_text}
-use Rattle.file_spec.specs.RecordReading.{field_fault, record_type, type_of_leading, rows_of}
-use Rattle.file_spec.specs.declared.fault.RecordFault.TheVariants.{ForeignTag, MissingField}
+use Rattle.file_spec.specs.RecordReading.{field_fault, rows_of}
 use Rattle.file_spec.specs.declared.tag.FieldTag.{FieldTag}
 use Rattle.file_spec.specs.declared.tag.FieldTag.TheVariants as tags
 use Rattle.file_spec.specs.declared.tag.RecordType.{RecordType}
+use Rattle.cell_read.proofs.FieldSteps.{drop_at, take_at}
 use Rattle.update_spec.specs.ControlFields.{control_in}
 use Rattle.update_spec.specs.UpdateFields.{control_fault, update_field_fault, update_fields_fault}
 use Rattle.update_spec.specs.declared.control.ControlTag.{ControlTag}
-
--- the item at a place, the items before it and those after it
-pub drop_at : {X : Type 0} (xs : List X) (k : ℕ) (x : X) → slice_get xs k ≡ Some x → drop k xs ≡ x ∷ drop (k + 1) xs
-drop_at xs k x is =
-    drop_more xs k x (slice_get_within xs k x is) ∙ ap (λ y. y ∷ drop (k + 1) xs) (get_or_from_slice_get xs k x x is)
-
-pub take_at : {X : Type 0} (xs : List X) (k : ℕ) (x : X) → slice_get xs k ≡ Some x → take (k + 1) xs ≡ take k xs ++ (x ∷ [])
-take_at xs k x is =
-    take_more xs k x (slice_get_within xs k x is) ∙ ap (λ y. take k xs ++ (y ∷ [])) (get_or_from_slice_get xs k x x is)
-
--- the first item that passes a test, from a place on
-pub find_here : {X : Type 0} (p : X → Bool) (xs : List X) (k : ℕ) (x : X) → slice_get xs k ≡ Some x → p x ≡ true → find p (drop k xs) ≡ Some x
-find_here p xs k x is holds = ap (find p) (drop_at xs k x is) ∙ ap (λ b. cond b (Some x) (find p (drop (k + 1) xs))) holds
-
-pub find_later : {X : Type 0} (p : X → Bool) (xs : List X) (k : ℕ) (x : X) → slice_get xs k ≡ Some x → p x ≡ false
-    → find p (drop k xs) ≡ find p (drop (k + 1) xs)
-find_later p xs k x is fails = ap (find p) (drop_at xs k x is) ∙ ap (λ b. cond b (Some x) (find p (drop (k + 1) xs))) fails
-
-pub any_more : {X : Type 0} (p : X → Bool) (xs : List X) (k : ℕ) (x : X) → slice_get xs k ≡ Some x
-    → list_any p (take (k + 1) xs) ≡ (list_any p (take k xs) || p x)
-any_more p xs k x is = ap (list_any p) (take_at xs k x is) ∙ list_any-append p (take k xs) (x ∷ []) ∙ ap (λ b. list_any p (take k xs) || b) (or-false (p x))
-
-abbrev is_number_field : Field → Bool
-is_number_field f = pointwise nat_eq f.tag (tag_text tags.RecordNumber)
-
--- the type of a record by the field that leads it
-pub type_by_leading : (fields : List Field) (name : List ℕ) (kind : Option RecordType)
-    → option_map (λ (f : Field). f.tag) (find (λ field. not (is_number_field field)) fields) ≡ Some name
-    → ((bytes : List ℕ) → kind ≡ type_of_leading (record { tag = name; bytes = bytes })) → record_type fields ≡ ok_or kind ForeignTag
-type_by_leading fields name kind leads is = by (find (λ field. not (is_number_field field)) fields) refl leads
-  where
-    by : (found : Option Field) → find (λ field. not (is_number_field field)) fields ≡ found
-        → option_map (λ (f : Field). f.tag) found ≡ Some name → record_type fields ≡ ok_or kind ForeignTag
-    by None e leads = absurd cc
-    by (Some f) e leads =
-        let named : f.tag ≡ name = cc in
-        let same : type_of_leading f ≡ kind = ap (λ t. type_of_leading (record { tag = t; bytes = f.bytes })) named ∙ sym (is f.bytes) in
-        rw e (ap (λ k. ok_or k ForeignTag) same)
-
-pub type_missing : (fields : List Field) → option_map (λ (f : Field). f.tag) (find (λ field. not (is_number_field field)) fields) ≡
-    None → record_type fields ≡ Err MissingField
-type_missing fields none = by (find (λ field. not (is_number_field field)) fields) refl none
-  where
-    by : (found : Option Field) → find (λ field. not (is_number_field field)) fields ≡ found
-        → option_map (λ (f : Field). f.tag) found ≡ None → record_type fields ≡ Err MissingField
-    by None e none = rw e refl
-    by (Some f) e none = absurd cc
 
 -- the fault of a field, or that of the fields after it
 pub fault_step : (nall : ℕ) (type : RecordType) (fields : List Field) (k : ℕ) (f : Field) → slice_get fields k ≡ Some f

@@ -12,7 +12,8 @@ ghost use Rattle.s57_fields.specs.Gives.{Gives};
 ghost use Rattle.update_spec.specs.UpdateFields.{control_fault, update_fields_fault};
 
 use crate::control::read_control;
-use crate::tags::{control_in, control_text, may_repeat, stands_before, tag_in, tag_text};
+use crate::tags::{control_in, control_text, stands_before};
+use cell_read::{may_repeat, tag_in, tag_text};
 use field_spec::FieldFault;
 use file_spec::{FieldTag, RecordFault, RecordType};
 use iso_frame::Frame;

@@ -9,7 +9,8 @@ ghost use Rattle.update_spec.specs.UpdateFaults.{of_record};
 ghost use Rattle.update_apply.specs.Gives.{GivesUpdate};
 
 use crate::refusal::StepRefusal;
-use crate::tags::{first_field, tag_text};
+use crate::tags::first_field;
+use cell_read::tag_text;
 use file_spec::{FieldTag, RecordFault};
 use iso_frame::Frame;
 use s57_fields::{

@@ -11,7 +11,7 @@ ghost use Rattle.update_apply.specs.Gives.{GivesUpdate};
 use crate::given::required;
 use crate::record::check_fields;
 use crate::refusal::StepRefusal;
-use crate::tags::record_type;
+use cell_read::record_type;
 use file_spec::{FieldTag, RecordFault, RecordType};
 use iso_frame::Frame;
 use s57_types::{Dsid, Dssi, Duplicate, Head, HeadEdit, Level};

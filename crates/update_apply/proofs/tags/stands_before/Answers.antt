@@ -2,7 +2,7 @@ use Rattle.std.proofs.Common.{◌||◌, nat_eq, take, sym, ap, ◌∙◌}
 use Rattle.std.specs.List.{list_any}
 use Rattle.std.specs.Cmp.Lexicographic.{pointwise}
 use Rattle.frame_spec.specs.RecordFrame.{Field}
-use Rattle.update_apply.proofs.FieldWalk.{any_more}
+use Rattle.cell_read.proofs.FieldSteps.{any_more}
 use Rattle.update_apply.proofs.tags.stands_before.Goals as goal
 
 pub loop-j-preserved : goal.loop-j-preserved
