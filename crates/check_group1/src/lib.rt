@@ -2,7 +2,6 @@
 //! depend on.
 #![tactic(auto)]
 
-mod area;
 mod finding;
 mod identity;
 mod referrer;

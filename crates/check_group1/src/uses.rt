@@ -8,11 +8,10 @@ ghost use Rattle.cell_spec.specs.Lookup.{lookup_pointers};
 ghost use Rattle.rule_spec.specs.Reads.{read_set};
 ghost use Rattle.rule_spec.specs.Sides.{is_truncated, side_count, side_counts as counts_of, use_of_row as use_at_row, uses_of as uses_in};
 
-use crate::area::is_coverage_area;
 use crate::referrer::{feature_at, features_of};
 use cell_spec::{Key, Ref};
 use chain_topo::{Look, Steps};
-use check_words::{AREA, is_group1_area, number};
+use check_words::{AREA, is_coverage_area, is_group1_area, number};
 use rule_spec::{EdgeSideCounts, EdgeUse};
 use s57_types::{Feature, RecName, Spot};
 use std::alloc::{AllocError, Global};

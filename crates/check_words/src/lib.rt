@@ -1,4 +1,5 @@
-//! Words that the checks of the rules share: names, numbers of 32 bits, the segments of an edge, areas of Group 1.
+//! Words that the checks of the rules share: names, numbers of 32 bits, the segments of an edge, areas of Group 1 and of
+//! data coverage.
 #![tactic(auto)]
 
 mod area;
@@ -6,7 +7,7 @@ mod line;
 mod lookup;
 mod record;
 
-pub use area::{AREA, is_group1_area};
+pub use area::{AREA, is_coverage_area, is_group1_area};
 pub use line::{Numbered, Segment, numbered, same_point, segments_of};
 pub use lookup::{listed_record, name_of, number};
 pub use record::is_edge_name;
