@@ -1,38 +1,11 @@
 -- What a change of a subject's reads leaves of the rows and of the pairs, and the pairs of rows that are read in.
-use Rattle.std.proofs.Common.{
-  ◌≡◌,
-  ◌&&◌,
-  ◌||◌,
-  Bool,
-  true,
-  false,
-  List,
-  [],
-  ◌∷◌,
-  ◌++◌,
-  Option,
-  None,
-  Some,
-  cond,
-  map,
-  refl,
-  sym,
-  ap,
-  ◌∙◌,
-  append_assoc,
-  Ordering,
-  Less,
-  Equal,
-  Greater,
-  is_eq,
-}
+use Rattle.std.proofs.Common.{◌≡◌, ◌&&◌, ◌||◌, Bool, true, false, List, [], ◌∷◌, ◌++◌, Option, None, Some, cond, refl, sym, ap, ◌∙◌, append_assoc, Ordering, Less, Equal, Greater, is_eq}
 use Rattle.std.specs.Cmp.{Equal-is}
-use Rattle.std.specs.List.{AllByRecursion, flat_map, list_any}
+use Rattle.std.specs.List.{AllByRecursion, list_any}
 use Rattle.std.specs.List.Sorted.{IsStrictlySortedBy}
 use Rattle.std.specs.Map.{keys_of}
 use Rattle.std.specs.Option.{option_map_or}
 use Rattle.std.specs.Ordering.{match_ordering}
-use Rattle.std.proofs.lemmas.List.Concat.{flat_map-append}
 use Rattle.std.proofs.lemmas.List.Folds.{list_any-append}
 use Rattle.std.proofs.lemmas.Map.Keys.{sorted_head, sorted_tail}
 use Rattle.std.proofs.lemmas.Option.{same_Some}
@@ -45,7 +18,7 @@ use Rattle.row_spec.specs.Rows.{IsAscending, value_of, with_row, without_key}
 use Rattle.row_spec.proofs.Changes.{value_of-with_row, value_of-without_key}
 use Rattle.row_spec.proofs.Place.{above_greater, above_tied, value_of-above}
 use Rattle.depend_map.specs.Changes.{kept_of}
-use Rattle.depend_map.specs.Readers.{AreReadersOf, has_pair, holds_key, is_reader, same_pair}
+use Rattle.depend_map.specs.Readers.{AreReadersOf, has_pair, holds_key, is_reader, reader_rows, rows_under, same_pair}
 use Rattle.depend_map.proofs.Pairs.{either_key}
 
 -- ---- a row that is put again
@@ -95,10 +68,6 @@ module _ {V : Type 0} (rows : List (Subject × List Key)) (before after : List (
   }
 
 -- ---- rows that are read in
--- each key of each row with the row's subject
-abbrev pub pairs_of : List (Subject × List Key) → List (Key × Subject)
-pairs_of rows = flat_map (λ (row : Subject × List Key). map (λ k. (k, row.0)) row.1) rows
-
 kept_by : (kept : List (Subject × List Key)) (row : Subject × List Key) (rest all : List (Subject × List Key)) (b : Bool)
     → kept ++ cond b (row ∷ kept_of rest) (kept_of rest) ≡ all → b ≡ true → (kept ++ row ∷ []) ++ kept_of rest ≡ all
 kept_by kept row rest all true known is = append_assoc kept (row ∷ []) (kept_of rest) ∙ known
@@ -124,11 +93,6 @@ one_left kept row rest all known is = left_by kept row rest all (is_single row.0
 pub append_none : {X : Type 0} (xs : List X) → xs ++ [] ≡ xs
 append_none [] = refl
 append_none (x ∷ xs) = ap (λ rest. x ∷ rest) (append_none xs)
-
-pub more_pairs : (kept : List (Subject × List Key)) (row : Subject × List Key) → pairs_of (kept ++ row ∷ []) ≡ pairs_of kept ++ map (λ k. (k, row.0)) row.1
-more_pairs kept row =
-    let each = λ (r : Subject × List Key). map (λ k. (k, r.0)) r.1 in
-    flat_map-append each kept (row ∷ []) ∙ ap (λ rest. pairs_of kept ++ rest) (append_none (each row))
 
 -- rows that are kept ascend as all do
 each_kept_by : (P : Subject → Type 0) (row : Subject × List Key) (rest : List (Subject × List Key)) (b : Bool) → P row.0
@@ -164,7 +128,7 @@ spread false true t = refl
 spread false false t = refl
 
 of_row : (k : Key) (s t : Subject) (keys : List Key)
-    → list_any (λ (pair : Key × Subject). same_pair pair.0 pair.1 k s) (map (λ j. (j, t)) keys) ≡ (same_subject t s && holds_key keys k)
+    → list_any (λ (row : (Key × Subject) × Unit {0}). same_pair row.0.0 row.0.1 k s) (rows_under t keys) ≡ (same_subject t s && holds_key keys k)
 of_row k s t [] = and_false (same_subject t s)
   where
     and_false : (b : Bool) → false ≡ (b && false)
@@ -181,12 +145,12 @@ row_by true false later k keys o is more none = more ∙ ap (λ p. option_map_or
 row_by false here later k keys o is more none = more
 
 pub any_pair : (k : Key) (s : Subject) (rows : List (Subject × List Key)) → IsAscending subject_order rows
-    → list_any (λ (pair : Key × Subject). same_pair pair.0 pair.1 k s) (pairs_of rows) ≡ is_reader rows k s
+    → list_any (λ (row : (Key × Subject) × Unit {0}). same_pair row.0.0 row.0.1 k s) (reader_rows rows) ≡ is_reader rows k s
 any_pair k s [] ascending = refl
 any_pair k s (row ∷ rows) ascending =
-    list_any-append (λ (pair : Key × Subject). same_pair pair.0 pair.1 k s) (map (λ j. (j, row.0)) row.1) (pairs_of rows)
-    ∙ ap (λ b. b || list_any (λ (pair : Key × Subject). same_pair pair.0 pair.1 k s) (pairs_of rows)) (of_row k s row.0 row.1)
-    ∙ row_by (same_subject row.0 s) (holds_key row.1 k) (list_any (λ (pair : Key × Subject). same_pair pair.0 pair.1 k s) (pairs_of rows)) k row.1
+    list_any-append (λ (row : (Key × Subject) × Unit {0}). same_pair row.0.0 row.0.1 k s) (rows_under row.0 row.1) (reader_rows rows)
+    ∙ ap (λ b. b || list_any (λ (row : (Key × Subject) × Unit {0}). same_pair row.0.0 row.0.1 k s) (reader_rows rows)) (of_row k s row.0 row.1)
+    ∙ row_by (same_subject row.0 s) (holds_key row.1 k) (list_any (λ (row : (Key × Subject) × Unit {0}). same_pair row.0.0 row.0.1 k s) (reader_rows rows)) k row.1
     (value_of subject_order rows s) refl
     (any_pair k s rows (sorted_tail subject_order row.0 (keys_of rows) ascending))
     (λ tie. value_of-above subject_order rows s (above_tied subject_order total_subjects row.0 s rows ((Equal-is (subject_order row.0 s)).0 tie)

@@ -1,5 +1,5 @@
 -- Pairs of a key and a subject that reads it, in ascending order. This project's own rules.
-use Rattle.std.specs.Prelude.{◌≡◌, ◌&&◌, Bool, false, not, List, map}
+use Rattle.std.specs.Prelude.{◌≡◌, ◌&&◌, Bool, false, not, List, flat_map, map}
 use Rattle.std.specs.List.{list_any, take_while}
 use Rattle.std.specs.Option.{is_some, option_map_or}
 use Rattle.std.specs.declared.cmp.Ordering.{Ordering}
@@ -29,9 +29,13 @@ is_reader rows k s = option_map_or (λ keys. holds_key keys k) (value_of subject
 abbrev pub same_pair : Key → Subject → Key → Subject → Bool
 same_pair j t k s = same_key j k && same_subject t s
 
--- pairs as rows, which have no values
-abbrev pub rows_with : List (Key × Subject) → List ((Key × Subject) × Unit {0})
-rows_with pairs = map (λ pair. (pair, tt)) pairs
+-- keys with a subject as rows, which have no values
+abbrev pub rows_under : Subject → List Key → List ((Key × Subject) × Unit {0})
+rows_under s keys = map (λ k. ((k, s), tt)) keys
+
+-- each key of each row with the row's subject
+abbrev pub reader_rows : List (Subject × List Key) → List ((Key × Subject) × Unit {0})
+reader_rows rows = flat_map (λ (row : Subject × List Key). rows_under row.0 row.1) rows
 
 module _ {V : Type 0} where
   -- whether a key stands among the pairs with a subject

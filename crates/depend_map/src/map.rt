@@ -1,6 +1,7 @@
 //! The dependency index and plans of its changes.
 
-ghost use Rattle.std.specs.Prelude.{◌≡◌, ◌++◌, ◌↔◌, [], IfOk, IsOk, IsTrue, OnOk, Some, map};
+ghost use Rattle.std.specs.Prelude.{◌≡◌, ◌++◌, ◌↔◌, [], IfOk, IsOk, IsTrue, OnOk, Some, length, map};
+ghost use Rattle.std.specs.List.{sum};
 ghost use Rattle.std.specs.Option.{option_copied, option_map_or};
 ghost use Rattle.std.specs.declared.cmp.Ordering.TheVariants.{Equal};
 ghost use Rattle.cell_spec.specs.Names.{subject_order};
@@ -8,10 +9,11 @@ ghost use Rattle.rule_spec.specs.Affected.{is_single};
 ghost use Rattle.row_spec.specs.Rows.{IsAscending, value_of, with_row, without_key};
 ghost use Rattle.finding_laws.specs.Tables.{readers_in};
 ghost use Rattle.depend_map.specs.Changes.{after_change, after_changes, kept_of};
+ghost use Rattle.depend_map.specs.Readers.{reader_rows, rows_under};
 
 use crate::change::ReadChange;
 use crate::readers::Readers;
-use crate::set::{ReaderSet, replace_keys, set_of};
+use crate::set::{ReaderRow, ReaderSet, replace_keys, set_of};
 use cell_spec::{Key, Keys, Subject, orders_are_by_parts};
 use s57_types::{Duplicate, Kind, RecName};
 use shared_table::{Shared, SharedTable};
@@ -135,18 +137,10 @@ impl DependMap {
         ensures { IfOk result (λ map. map ≡ kept_of rows.items) }
     {
         orders_are_by_parts();
-        let mut kept = Vec::new(alloc);
-        let mut pairs = Vec::new(alloc);
-        for (subject, keys) in rows {
-            if is_kept(subject) {
-                push_pairs(&mut pairs, subject, &keys)?;
-                kept.push((subject, Shared::make(alloc, keys)?))?;
-            }
-        }
-        Ok(DependMap {
-            reads: SharedTable::from_ascending(alloc, kept)?,
-            readers: set_of(alloc, pairs)?,
-        })
+        // The set first, so that the memory of its rows is given back before the other table is made.
+        let readers = set_of(alloc, pairs_of(alloc, &rows)?)?;
+        let reads = SharedTable::from_ascending(alloc, shared_rows(alloc, rows)?)?;
+        Ok(DependMap { reads, readers })
     }
 
     // The map after a change.
@@ -257,16 +251,52 @@ fn is_kept(subject: Subject) -> bool
     !matches!(subject, Subject::Pair(..))
 }
 
+// The rows that are kept, each with keys that copies share.
+fn shared_rows(
+    alloc: Global,
+    rows: Vec<(Subject, Keys)>,
+) -> Result<Vec<(Subject, Shared<Keys>)>, AllocError>
+    ensures { IfOk result (λ kept. kept.items ≡ kept_of rows.items) }
+{
+    let mut kept = Vec::with_capacity(alloc, rows.len())?;
+    for (subject, keys) in rows {
+        if is_kept(subject) {
+            kept.push((subject, Shared::make(alloc, keys)?))?;
+        }
+    }
+    Ok(kept)
+}
+
+// How many keys rows have. A number that isn't a `usize` is out of memory.
+fn key_count(rows: &[(Subject, Keys)]) -> Result<usize, AllocError>
+    ensures { IfOk result (λ count. count ≡ sum (map (λ row. length row.1) rows.now)) }
+{
+    let mut count: usize = 0;
+    for row in rows {
+        count = count.checked_add(row.1.len()).ok_or(AllocError)?;
+    }
+    Ok(count)
+}
+
+// Each key of the rows that are kept with its subject. The memory for all of them is taken at once.
+fn pairs_of(alloc: Global, rows: &[(Subject, Keys)]) -> Result<Vec<ReaderRow>, AllocError>
+    ensures { IfOk result (λ pairs. pairs.items ≡ reader_rows (kept_of rows.now)) }
+{
+    let mut pairs = Vec::with_capacity(alloc, key_count(rows)?)?;
+    for row in rows {
+        if is_kept(row.0) {
+            push_pairs(&mut pairs, row.0, &row.1)?;
+        }
+    }
+    Ok(pairs)
+}
+
 // Appends each of the keys with the subject.
-fn push_pairs(
-    pairs: &mut Vec<(Key, Subject)>,
-    subject: Subject,
-    keys: &Keys,
-) -> Result<(), AllocError>
-    ensures { OnOk result (pairs.new.items ≡ pairs.old.items ++ map (λ k. (k, subject)) keys.now) }
+fn push_pairs(pairs: &mut Vec<ReaderRow>, subject: Subject, keys: &Keys) -> Result<(), AllocError>
+    ensures { OnOk result (pairs.new.items ≡ pairs.old.items ++ rows_under subject keys.now) }
 {
     for key in keys.as_slice() {
-        pairs.push((*key, subject))?;
+        pairs.push(((*key, subject), ()))?;
     }
     Ok(())
 }

@@ -6,7 +6,7 @@ ghost use Rattle.std.specs.List.Sorted.{IsStrictlySortedBy};
 ghost use Rattle.cell_spec.specs.declared.key.Key.{Key as SpecKey};
 ghost use Rattle.cell_spec.specs.declared.key.Subject.{Subject as SpecSubject};
 ghost use Rattle.cell_spec.specs.Names.{key_order, same_subject};
-ghost use Rattle.depend_map.specs.Readers.{has_pair, holds_key, is_lost, rows_with, same_pair};
+ghost use Rattle.depend_map.specs.Readers.{has_pair, holds_key, is_lost, same_pair};
 
 use cell_spec::{Key, Subject, ascending_keys, distinct, orders_are_by_parts};
 use s57_types::Items;
@@ -16,6 +16,9 @@ use std::alloc::{AllocError, Global};
 /// The pairs in ascending order. A pair is a row by itself: a list for each key would be copied whole wherever a feature comes or goes,
 /// since all features read the key of the head.
 pub(crate) type ReaderSet = SharedTable<(Key, Subject), ()>;
+
+/// A pair as a row, which has no value.
+pub(crate) type ReaderRow = ((Key, Subject), ());
 
 // Whether the key stands there with the subject.
 fn has(readers: &ReaderSet, key: Key, subject: Subject) -> bool
@@ -114,27 +117,12 @@ pub(crate) fn replace_keys(
     put_gained(alloc, readers, subject, new)
 }
 
-// Pairs as rows, which have no values.
-fn rows_with(
-    alloc: Global,
-    pairs: &[(Key, Subject)],
-) -> Result<Vec<((Key, Subject), ())>, AllocError>
-    ensures { IfOk result (λ rows. rows.items ≡ rows_with pairs.now) }
-{
-    let mut rows = Vec::with_capacity(alloc, pairs.len())?;
-    for pair in pairs {
-        rows.push((*pair, ()))?;
-    }
-    Ok(rows)
-}
-
 /// The set of these pairs.
-pub(crate) fn set_of(alloc: Global, pairs: Vec<(Key, Subject)>) -> Result<ReaderSet, AllocError>
+pub(crate) fn set_of(alloc: Global, rows: Vec<ReaderRow>) -> Result<ReaderSet, AllocError>
     ensures { IfOk result (λ set. (k : SpecKey) (s : SpecSubject) →
-        has_pair set k s ≡ list_any (λ pair. same_pair pair.0 pair.1 k s) pairs.items) }
+        has_pair set k s ≡ list_any (λ row. same_pair row.0.0 row.0.1 k s) rows.items) }
 {
     orders_are_by_parts();
-    let rows = rows_with(alloc, &distinct(pairs))?;
-    let set = SharedTable::from_ascending(alloc, rows)?;
+    let set = SharedTable::from_ascending(alloc, distinct(rows))?;
     Ok(set)
 }
