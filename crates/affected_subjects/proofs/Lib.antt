@@ -5,4 +5,5 @@ pub mod Tiles
 pub mod Bearers
 pub mod Subjects
 pub mod Known
+pub mod Placed
 pub mod Reaching

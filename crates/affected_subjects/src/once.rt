@@ -1,6 +1,9 @@
 //! Subjects in the order in which they are looked at first, each once.
 
-ghost use Rattle.std.specs.Prelude.{◌≡◌, [], OnOk, length};
+ghost use Rattle.std.specs.Prelude.{◌≡◌, ◌≤◌, [], MatchResult, OnOk, false, length, true};
+ghost use Rattle.std.specs.List.{insert, list_any};
+ghost use Rattle.std.specs.List.Sorted.{IsStrictlySortedBy};
+ghost use Rattle.cell_spec.specs.Names.{same_subject, subject_order};
 ghost use Rattle.affected_subjects.specs.Rounds.{add_one};
 
 use cell_spec::{Subject, orders_are_by_parts};
@@ -8,32 +11,53 @@ use std::alloc::{AllocError, Global};
 use std::collections::BTreeSet;
 use std::marker::Model;
 
-/// Subjects in the order in which they were added first. They are seen as their list, and know what is there by a tree, so that no file makes
-/// them slow by the numbers of its records.
+// How many subjects stand in a list in order before others go into a tree. A search in a short list is cheaper, a put into a long one dearer.
+const FEW: usize = 256;
+
+/// Subjects in the order in which they were added first. They are seen as their list, and know what is there by the first few in order and
+/// by a tree of the others, so that no file makes them slow by the numbers of its records.
 pub(crate) struct Considered {
     list: Vec<Subject>,
-    there: BTreeSet<Subject>,
+    few: Vec<Subject>,
+    more: BTreeSet<Subject>,
 }
 
 impl Drop for Considered {
     fn drop(self) {
-        let Considered { list: _, there: _ } = self;
+        let Considered {
+            list: _,
+            few: _,
+            more: _,
+        } = self;
     }
 }
 
 impl Model for Considered {
-    ghost use Rattle.std.specs.Prelude.{◌≡◌, List};
+    ghost use Rattle.std.specs.Prelude.{◌≡◌, ◌||◌, List};
     ghost use Rattle.std.specs.BTreeSet.{contains};
     ghost use Rattle.std.specs.List.{list_any};
+    ghost use Rattle.std.specs.List.Sorted.{IsStrictlySortedBy};
     ghost use Rattle.cell_spec.specs.declared.key.Subject.{Subject as SpecSubject};
-    ghost use Rattle.cell_spec.specs.Names.{same_subject};
+    ghost use Rattle.cell_spec.specs.Names.{same_subject, subject_order};
 
     ghost Value = { List SpecSubject };
 
     ghost view = { λ considered. considered.list.items };
 
-    ghost invariant = { λ considered. (s : SpecSubject) →
-        contains ⟦<Subject as Ord>⟧.cmp considered.there s ≡ list_any (same_subject s) considered.list.items };
+    ghost invariant = { λ considered. IsStrictlySortedBy subject_order considered.few.items × ((s : SpecSubject) →
+        (list_any (same_subject s) considered.few.items || contains ⟦<Subject as Ord>⟧.cmp considered.more s)
+        ≡ list_any (same_subject s) considered.list.items) };
+}
+
+// The place of a subject among some in order, or the one where it keeps them in order.
+fn place_in(subjects: &[Subject], subject: Subject) -> Result<usize, usize>
+    requires { IsStrictlySortedBy subject_order subjects.now }
+    ensures there { MatchResult result (λ _. list_any (same_subject subject) subjects.now ≡ true) (λ _. list_any (same_subject subject) subjects.now ≡ false) }
+    ensures place { MatchResult result (λ place. place ≤ length subjects.now)
+        (λ place. place ≤ length subjects.now × IsStrictlySortedBy subject_order (insert subjects.now place subject)) }
+{
+    orders_are_by_parts();
+    subjects.binary_search(&subject)
 }
 
 impl Considered {
@@ -43,7 +67,8 @@ impl Considered {
     {
         Considered {
             list: Vec::new(alloc),
-            there: BTreeSet::new(alloc),
+            few: Vec::new(alloc),
+            more: BTreeSet::new(alloc),
         }
     }
 
@@ -54,11 +79,21 @@ impl Considered {
         ensures { OnOk result (self.new ≡ add_one self.old subject) }
     {
         orders_are_by_parts();
+        let Err(place) = place_in(&self.few, subject) else {
+            return Ok(());
+        };
+        if self.more.contains(&subject) {
+            return Ok(());
+        }
         // So that both take the subject, or neither.
         self.list.reserve(1)?;
-        if self.there.insert(subject)? {
+        if self.few.len() < FEW {
+            self.few.insert(place, subject)?;
             self.list.push_reserved(subject);
+            return Ok(());
         }
+        self.more.insert(subject)?;
+        self.list.push_reserved(subject);
         Ok(())
     }
 
