@@ -1,45 +1,12 @@
 -- One step of a writer's loops.
-use Rattle.std.proofs.Common.{
-  ◌≡◌,
-  ◌≤◌,
-  ◌<◌,
-  ℕ,
-  zero,
-  suc,
-  ◌+◌,
-  ◌-◌,
-  ◌/◌,
-  ◌%◌,
-  List,
-  [],
-  ◌∷◌,
-  ◌++◌,
-  length,
-  take,
-  drop,
-  get_or,
-  max,
-  sym,
-  ap,
-  ◌∙◌,
-  subst,
-  arith,
-  append_assoc,
-}
+use Rattle.std.proofs.Common.{◌≡◌, ◌≤◌, ◌<◌, ℕ, ◌+◌, List, ◌∷◌, ◌++◌, length, take, drop, get_or, max, sym, ap, ◌∙◌, subst, arith, append_assoc}
 use Rattle.std.specs.Prelude.{fold, sum}
-use Rattle.std.proofs.lemmas.List.{at_drop_more, length-map, get_or-map}
+use Rattle.std.proofs.lemmas.List.{at_drop_more, length-map, get_or-map, length-take, take-append-le, take-append-drop}
 use Rattle.std.proofs.lemmas.List.Sums.{fold_more, sum_by_more, sum_by_more_le}
 use Rattle.frame_spec.specs.RecordFrame.{Field}
 use Rattle.frame_spec.specs.WrittenRecord.{digits, directory_entries}
 use Rattle.frame_write.specs.OutFields.{field_of, fields_of, lengths_of}
 use Rattle.frame_write.specs.declared.field.OutField.{OutField}
-
-pub digits_step : (w n : ℕ) → 0 < w → digits w n ≡ digits (w - 1) (n / 10) ++ ((n % 10 + 48) ∷ [])
-digits_step zero n some = absurd (omega arith)
-digits_step (suc w) n some =
-    let less : w ≡ suc w - 1 = omega arith in
-    let last : 48 + n % 10 ≡ n % 10 + 48 = omega arith in
-    ap (λ k. digits k (n / 10) ++ ((48 + n % 10) ∷ [])) less ∙ ap (λ c. digits (suc w - 1) (n / 10) ++ (c ∷ [])) last
 
 -- there are as many lengths as fields
 pub count_is : (fields : List OutField) → length (lengths_of fields) ≡ length fields
@@ -89,9 +56,12 @@ pub appended : (out out1 out2 out3 x y z rest : List ℕ) → out1 ≡ out ++ x 
 appended out out1 out2 out3 x y z rest one two three =
     ap (λ a. a ++ rest) (three ∙ ap (λ a. a ++ z) (two ∙ ap (λ a. a ++ y) one)) ∙ simp append_assoc
 
--- the pieces of a leader that were appended
-pub leader_appended : (out o1 o2 o3 o4 o5 o6 o7 a b c d e : List ℕ) (x y : ℕ) → o1 ≡ out ++ a → o2 ≡ o1 ++ b → o3 ≡ o2 ++ c → o4 ≡ o3 ++ d
-    → o5 ≡ o4 ++ (x ∷ []) → o6 ≡ o5 ++ (y ∷ []) → o7 ≡ o6 ++ e → o7 ≡ out ++ (a ++ b ++ c ++ d ++ (x ∷ y ∷ e))
-leader_appended out o1 o2 o3 o4 o5 o6 o7 a b c d e x y h1 h2 h3 h4 h5 h6 h7 =
-    h7 ∙ ap (λ (o : List ℕ). o ++ e) (h6 ∙ ap (λ (o : List ℕ). o ++ (y ∷ [])) (h5 ∙ ap (λ (o : List ℕ). o ++ (x ∷ [])) (h4
-    ∙ ap (λ (o : List ℕ). o ++ d) (h3 ∙ ap (λ (o : List ℕ). o ++ c) (h2 ∙ ap (λ (o : List ℕ). o ++ b) h1))))) ∙ simp append_assoc
+-- bytes that were appended leave those before
+pub front_more : (a b x c : List ℕ) → take (length a) b ≡ a → c ≡ b ++ x → take (length a) c ≡ a
+front_more a b x c front more =
+    let shorter : length a ≤ length b = omega (arith, ap length front, length-take (length a) b) in
+    subst (λ d. take (length a) d ≡ a) (sym more) (take-append-le (length a) b x shorter ∙ front)
+
+pub front_through : (a b c : List ℕ) → take (length a) b ≡ a → take (length b) c ≡ b → take (length a) c ≡ a
+front_through a b c front next =
+    front_more a b (drop (length b) c) c front (sym (take-append-drop (length b) c) ∙ ap (λ x. x ++ drop (length b) c) next)

@@ -44,10 +44,11 @@ fn measure(fields: &[OutField]) -> Option<Sizes>
     Some(sizes)
 }
 
-/// How many decimal digits a number has.
+/// How many decimal digits a number of at most five has.
 fn digit_count(number: usize) -> usize
+    requires { number ≤ 99999 }
     ensures count { result ≡ digit_count number }
-    ensures few { result ≤ 20 }
+    ensures few { result ≤ 5 }
 {
     if number < 10 {
         1

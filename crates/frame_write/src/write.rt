@@ -1,10 +1,11 @@
 //! Writing a record.
 
-ghost use Rattle.std.specs.Prelude.{◌≡◌, ◌↔◌, Err, OnOk, OnErr, ◌+◌, ◌<◌, ◌≤◌, ◌++◌, ◌∷◌, [], sum};
+ghost use Rattle.std.specs.Prelude.{◌≡◌, ◌↔◌, Err, OnOk, OnErr, ◌+◌, ◌<◌, ◌≤◌, ◌%◌, ◌++◌, sum};
 ghost use Rattle.frame_spec.specs.WrittenRecord.{digits, directory_entries, field_area, identifier_text, character_set_text, leader_text};
 ghost use Rattle.frame_spec.specs.WrittenRecord.{record_length, written_record};
 ghost use Rattle.frame_write.specs.OutFields.{fields_of, is_first, lengths_of};
 ghost use Rattle.frame_write.specs.Layouts.{IsLayoutOf};
+ghost use Rattle.frame_write.specs.Appending.{KeepsFront};
 
 use crate::field::{LeaderKind, OutField, WriteRefusal};
 use crate::layout::{Layout, layout_of};
@@ -13,16 +14,44 @@ use std::alloc::{AllocError, Global};
 /// The field terminator.
 const FIELD_TERMINATOR: u8 = 0x1e;
 
-/// Appends so many decimal digits of a number.
-fn push_digits(width: usize, number: usize, out: &mut Vec<u8>) -> Result<(), AllocError>
-    ensures { OnOk result (out.new.items ≡ out.old.items ++ digits width number) }
+/// The last decimal digit of a number.
+fn digit(number: usize) -> u8
+    ensures { result ≡ 48 + number % 10 }
 {
-    if width == 0 {
-        return Ok(());
+    b'0' + (number % 10) as u8
+}
+
+/// The last five decimal digits of a number.
+fn five_digits(number: usize) -> [u8; 5]
+    ensures { result ≡ digits 5 number }
+{
+    let tens = number / 10;
+    let hundreds = tens / 10;
+    let thousands = hundreds / 10;
+    [
+        digit(thousands / 10),
+        digit(thousands),
+        digit(hundreds),
+        digit(tens),
+        digit(number),
+    ]
+}
+
+/// Appends so many decimal digits of a number, at most five. A refusal leaves the bytes as they were.
+fn push_digits(width: usize, number: usize, out: &mut Vec<u8>) -> Result<(), AllocError>
+    requires { width ≤ 5 }
+    ensures ok { OnOk result (out.new.items ≡ out.old.items ++ digits width number) }
+    ensures err { OnErr result (out.new.items ≡ out.old.items) }
+{
+    let [a, b, c, d, e] = five_digits(number);
+    match width {
+        0 => Ok(()),
+        1 => out.extend_from_slice(&[e]),
+        2 => out.extend_from_slice(&[d, e]),
+        3 => out.extend_from_slice(&[c, d, e]),
+        4 => out.extend_from_slice(&[b, c, d, e]),
+        _ => out.extend_from_slice(&[a, b, c, d, e]),
     }
-    push_digits(width - 1, number / 10, out)?;
-    out.push((number % 10) as u8 + b'0')?;
-    Ok(())
 }
 
 /// The bytes of a leader between its numbers: interchange level, leader identifier, inline code extension, version,
@@ -46,7 +75,24 @@ fn character_set_text(kind: LeaderKind) -> &'static [u8; 3]
     }
 }
 
-/// Appends the leader.
+/// The leader.
+fn leader_of(kind: LeaderKind, layout: &Layout, fields: &[OutField]) -> [u8; 24]
+    requires { IsLayoutOf (lengths_of fields.now) layout.now }
+    ensures { result ≡ leader_text (is_first kind) (lengths_of fields.now) }
+{
+    let [l0, l1, l2, l3, l4] = five_digits(layout.length);
+    let [i0, i1, i2, i3, i4, i5, i6] = *identifier_text(kind);
+    let [b0, b1, b2, b3, b4] = five_digits(layout.base_address);
+    let [c0, c1, c2] = *character_set_text(kind);
+    let m = b'0' + layout.length_digits as u8;
+    let n = b'0' + layout.position_digits as u8;
+    [
+        l0, l1, l2, l3, l4, i0, i1, i2, i3, i4, i5, i6, b0, b1, b2, b3, b4, c0, c1, c2, m, n, b'0',
+        b'4',
+    ]
+}
+
+/// Appends the leader, with room for the record. A refusal leaves the bytes as they were.
 fn push_leader(
     kind: LeaderKind,
     layout: &Layout,
@@ -54,22 +100,20 @@ fn push_leader(
     out: &mut Vec<u8>,
 ) -> Result<(), AllocError>
     requires { IsLayoutOf (lengths_of fields.now) layout.now }
-    ensures { OnOk result (out.new.items ≡ out.old.items ++ leader_text (is_first kind) (lengths_of fields.now)) }
+    ensures ok { OnOk result (out.new.items ≡ out.old.items ++ leader_text (is_first kind) (lengths_of fields.now)) }
+    ensures err { OnErr result (out.new.items ≡ out.old.items) }
 {
-    push_digits(5, layout.length, out)?;
-    out.extend_from_slice(identifier_text(kind))?;
-    push_digits(5, layout.base_address, out)?;
-    out.extend_from_slice(character_set_text(kind))?;
-    out.push(layout.length_digits as u8 + b'0')?;
-    out.push(layout.position_digits as u8 + b'0')?;
-    out.extend_from_slice(b"04")?;
-    Ok(())
+    out.reserve(layout.length)?;
+    out.extend_from_slice(&leader_of(kind, layout, fields))
 }
 
 /// Appends an entry of the directory for each field.
 fn push_directory(layout: &Layout, fields: &[OutField], out: &mut Vec<u8>) -> Result<(), AllocError>
-    requires { sum (lengths_of fields.now) ≤ 99999 }
-    ensures { OnOk result (out.new.items ≡ out.old.items ++ directory_entries layout.now.length_digits layout.now.position_digits 0 (fields_of fields.now)) }
+    requires few { sum (lengths_of fields.now) ≤ 99999 }
+    requires lengths { layout.now.length_digits ≤ 5 }
+    requires positions { layout.now.position_digits ≤ 5 }
+    ensures ok { OnOk result (out.new.items ≡ out.old.items ++ directory_entries layout.now.length_digits layout.now.position_digits 0 (fields_of fields.now)) }
+    ensures err { OnErr result (KeepsFront out.old.items out.new.items) }
 {
     let mut position = 0;
     for field in fields {
@@ -83,7 +127,8 @@ fn push_directory(layout: &Layout, fields: &[OutField], out: &mut Vec<u8>) -> Re
 
 /// Appends the bytes of the fields.
 fn push_field_area(fields: &[OutField], out: &mut Vec<u8>) -> Result<(), AllocError>
-    ensures { OnOk result (out.new.items ≡ out.old.items ++ field_area (fields_of fields.now)) }
+    ensures ok { OnOk result (out.new.items ≡ out.old.items ++ field_area (fields_of fields.now)) }
+    ensures err { OnErr result (KeepsFront out.old.items out.new.items) }
 {
     for field in fields {
         out.extend_from_slice(field.bytes.as_slice())?;
@@ -99,7 +144,8 @@ fn push_record(
     out: &mut Vec<u8>,
 ) -> Result<(), AllocError>
     requires { IsLayoutOf (lengths_of fields.now) layout.now }
-    ensures { OnOk result (out.new.items ≡ out.old.items ++ written_record (is_first kind) (fields_of fields.now)) }
+    ensures ok { OnOk result (out.new.items ≡ out.old.items ++ written_record (is_first kind) (fields_of fields.now)) }
+    ensures err { OnErr result (KeepsFront out.old.items out.new.items) }
 {
     push_leader(kind, layout, fields, out)?;
     push_directory(layout, fields, out)?;
@@ -113,7 +159,7 @@ fn push_record(
 ///
 /// `TooLong` says that the record would have more than 99,999 bytes. A refusal changes nothing.
 pub fn write_record(
-    alloc: Global,
+    _alloc: Global,
     kind: LeaderKind,
     fields: &[OutField],
     out: &mut Vec<u8>,
@@ -125,8 +171,10 @@ pub fn write_record(
     let Some(layout) = layout_of(fields) else {
         return Err(WriteRefusal::TooLong);
     };
-    let mut record = Vec::with_capacity(alloc, layout.length)?;
-    push_record(kind, &layout, fields, &mut record)?;
-    out.extend_from_slice(record.as_slice())?;
+    let before = out.len();
+    if push_record(kind, &layout, fields, out).is_err() {
+        out.truncate(before);
+        return Err(WriteRefusal::NoMemory);
+    }
     Ok(())
 }

@@ -17,5 +17,5 @@ returns-else-number-lt10 t c =
     let count = c.digit_count.ensures.count in
     record {
       count = omega (arith, step, count);
-      few = omega (arith, step, count, length-decimal-le 20 n (omega arith) (omega arith) small);
+      few = omega (arith, step, count, length-decimal-le 5 n (omega arith) (omega arith) small);
     }

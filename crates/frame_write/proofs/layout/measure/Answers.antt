@@ -25,5 +25,7 @@ loop-field-preserved c =
           ∙ sym (longest_more fields i field (omega arith) c.field-item.is);
       last = rw back c.loop-field.invariant.total;
       total = omega (arith, more, size, c.loop-field.invariant.total);
+      longest_in = omega (arith, c.max.ensures);
+      last_in = omega arith;
       small = omega arith;
     }

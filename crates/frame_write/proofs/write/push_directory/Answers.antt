@@ -1,7 +1,7 @@
 use Rattle.std.proofs.Common.{◌≡◌, ◌∙◌, ◌++◌, sym, ap, length, ◌+◌, drop, arith, ℕ, List}
 use Rattle.frame_spec.specs.WrittenRecord.{digits, directory_entries}
 use Rattle.frame_write.specs.OutFields.{fields_of}
-use Rattle.frame_write.proofs.Steps.{sum_more, entries_more, appended}
+use Rattle.frame_write.proofs.Steps.{sum_more, entries_more, appended, front_more}
 use Rattle.frame_write.proofs.write.push_directory.Goals as goal
 
 pub loop-field-preserved : goal.loop-field-preserved
@@ -18,10 +18,12 @@ loop-field-preserved c =
     let size : c.len.result ≡ length field.bytes.items = c.len.ensures ∙ field.bytes.ok.0 in
     record {
       position = omega (arith, more, here, c.loop-field.invariant.position);
+      front = front_more _ _ _ _ (front_more _ _ _ _ (front_more _ _ _ _ c.loop-field.invariant.front c.in_ok-extend_from_slice.ensures.items)
+          c.in_ok-push_digits.ensures.ok) c.in_ok-push_digits-2.ensures.ok;
       rest = rw here (
           appended out _ _ _ field.tag (digits m (length field.bytes.items)) (digits n c.loop-field.position) rest
-          c.in_ok-extend_from_slice.ensures.items (c.in_ok-push_digits.ensures
-          ∙ ap (λ (k : ℕ). c.extend_from_slice.new.self.items ++ digits m k) size) c.in_ok-push_digits-2.ensures
+          c.in_ok-extend_from_slice.ensures.items (c.in_ok-push_digits.ensures.ok
+          ∙ ap (λ (k : ℕ). c.extend_from_slice.new.self.items ++ digits m k) size) c.in_ok-push_digits-2.ensures.ok
           ∙ ap (λ (x : List ℕ). out ++ x) (sym (entries_more m n c.loop-field.position fields i field (omega arith) c.field-item.is))
           ∙ c.loop-field.invariant.rest
           );
