@@ -1,3 +1,4 @@
+pub mod Fronts
 pub mod Groups
 pub mod RowWalk
 pub mod JudgedRows

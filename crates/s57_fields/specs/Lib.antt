@@ -1,3 +1,4 @@
+pub mod Appending
 pub mod Gives
 pub mod HeadSubfields
 pub mod RowCutting

@@ -12,13 +12,13 @@ ghost use Rattle.field_spec.specs.FieldBytes.{field_bytes, rows_bytes};
 ghost use Rattle.s57_fields.specs.Gives.{Gives};
 ghost use Rattle.s57_fields.specs.RowCutting.{take_row};
 
-use crate::cut::{field_body, take_text, take_u8, take_u16, take_u32};
+use crate::cut::{FIELD_TERMINATOR, field_body, take_text, take_u8, take_u16, take_u32};
 use crate::refusal::FieldRefusal;
 use crate::rows::{FieldRow, read_many_rows, read_rows};
-use crate::spell::{Value, put_row};
+use crate::spell::{Value, byte_bytes, long_bytes, put_row, short_bytes};
 use crate::text::{WIDE_LEVEL, is_plain_level_text, is_plain_text, owned_text, take_level_text};
-use crate::vector::{rcnm_of, vector_kind};
-use crate::write::{write_row, write_rows};
+use crate::vector::{name_bytes, vector_kind};
+use crate::write::write_rows;
 use s57_types::{Attr, Attrs, Frid, Kind, Lnam, Partner, Partners, Places, RecName, Spot};
 use std::alloc::{AllocError, Global};
 
@@ -60,20 +60,31 @@ pub fn read_frid(_alloc: Global, bytes: &[u8]) -> Result<Frid, FieldRefusal>
 /// Appends the identifier of a feature record, the field FRID.
 ///
 /// An `Err` means out of memory, and leaves the bytes as they were.
-pub fn write_frid(alloc: Global, value: &Frid, out: &mut Vec<u8>) -> Result<(), AllocError>
+pub fn write_frid(_alloc: Global, value: &Frid, out: &mut Vec<u8>) -> Result<(), AllocError>
     ensures ok { OnOk result (out.new.items ≡ out.old.items ++ field_bytes (frid_row value.now)) }
     ensures err { OnErr result (out.new.items ≡ out.old.items) }
 {
-    let row = [
-        Value::Byte(FEATURE_RCNM),
-        Value::Long(value.rcid),
-        Value::Byte(value.prim),
-        Value::Byte(value.grup),
-        Value::Short(value.objl),
-        Value::Short(value.rver),
-        Value::Byte(value.ruin),
-    ];
-    write_row(alloc, &row, out)
+    let [i0, i1, i2, i3] = long_bytes(value.rcid);
+    let [o0, o1] = short_bytes(value.objl);
+    let [r0, r1] = short_bytes(value.rver);
+    let [prim] = byte_bytes(value.prim);
+    let [grup] = byte_bytes(value.grup);
+    let [ruin] = byte_bytes(value.ruin);
+    out.extend_from_slice(&[
+        FEATURE_RCNM,
+        i0,
+        i1,
+        i2,
+        i3,
+        prim,
+        grup,
+        o0,
+        o1,
+        r0,
+        r1,
+        ruin,
+        FIELD_TERMINATOR,
+    ])
 }
 
 /// A long name LNAM: AGEN, FIDN and FIDS, and the bytes after it.
@@ -109,16 +120,14 @@ pub fn read_foid(_alloc: Global, bytes: &[u8]) -> Result<Lnam, FieldRefusal>
 /// Appends the identifier of a feature object, the field FOID.
 ///
 /// An `Err` means out of memory, and leaves the bytes as they were.
-pub fn write_foid(alloc: Global, value: &Lnam, out: &mut Vec<u8>) -> Result<(), AllocError>
+pub fn write_foid(_alloc: Global, value: &Lnam, out: &mut Vec<u8>) -> Result<(), AllocError>
     ensures ok { OnOk result (out.new.items ≡ out.old.items ++ field_bytes (foid_row value.now)) }
     ensures err { OnErr result (out.new.items ≡ out.old.items) }
 {
-    let row = [
-        Value::Short(value.agen),
-        Value::Long(value.fidn),
-        Value::Short(value.fids),
-    ];
-    write_row(alloc, &row, out)
+    let [a0, a1] = short_bytes(value.agen);
+    let [n0, n1, n2, n3] = long_bytes(value.fidn);
+    let [s0, s1] = short_bytes(value.fids);
+    out.extend_from_slice(&[a0, a1, n0, n1, n2, n3, s0, s1, FIELD_TERMINATOR])
 }
 
 /// An attribute as it was cut: its code ATTL and its value ATVL at a lexical level.
@@ -182,11 +191,11 @@ pub fn read_attf(alloc: Global, bytes: &[u8]) -> Result<Attrs, FieldRefusal>
 /// Appends the attributes of a feature record, the field ATTF.
 ///
 /// An `Err` means out of memory, and leaves the bytes as they were.
-pub fn write_attf(alloc: Global, value: &Attrs, out: &mut Vec<u8>) -> Result<(), AllocError>
+pub fn write_attf(_alloc: Global, value: &Attrs, out: &mut Vec<u8>) -> Result<(), AllocError>
     ensures ok { OnOk result (out.new.items ≡ out.old.items ++ rows_bytes 0 (attribute_row 0) value.now) }
     ensures err { OnErr result (out.new.items ≡ out.old.items) }
 {
-    write_rows(alloc, 0, value, out)
+    write_rows(0, value, out)
 }
 
 /// The national attributes of a feature record, the field NATF, at the lexical level NALL.
@@ -201,7 +210,7 @@ pub fn read_natf(alloc: Global, nall: u8, bytes: &[u8]) -> Result<Attrs, FieldRe
 ///
 /// An `Err` means out of memory, and leaves the bytes as they were.
 pub fn write_natf(
-    alloc: Global,
+    _alloc: Global,
     nall: u8,
     value: &Attrs,
     out: &mut Vec<u8>,
@@ -209,7 +218,7 @@ pub fn write_natf(
     ensures ok { OnOk result (out.new.items ≡ out.old.items ++ rows_bytes nall (attribute_row nall) value.now) }
     ensures err { OnErr result (out.new.items ≡ out.old.items) }
 {
-    write_rows(alloc, nall, value, out)
+    write_rows(nall, value, out)
 }
 
 /// A pointer to a feature object as it was cut: LNAM, RIND and COMT.
@@ -281,11 +290,11 @@ pub fn read_ffpt(alloc: Global, bytes: &[u8]) -> Result<Partners, FieldRefusal>
 /// Appends the pointers of a feature record to feature objects, the field FFPT.
 ///
 /// An `Err` means out of memory, and leaves the bytes as they were.
-pub fn write_ffpt(alloc: Global, value: &Partners, out: &mut Vec<u8>) -> Result<(), AllocError>
+pub fn write_ffpt(_alloc: Global, value: &Partners, out: &mut Vec<u8>) -> Result<(), AllocError>
     ensures ok { OnOk result (out.new.items ≡ out.old.items ++ rows_bytes 0 partner_row value.now) }
     ensures err { OnErr result (out.new.items ≡ out.old.items) }
 {
-    write_rows(alloc, 0, value, out)
+    write_rows(0, value, out)
 }
 
 /// A pointer to a vector record as it was cut: the record's name, and ORNT, USAG and MASK.
@@ -339,14 +348,11 @@ impl FieldRow for Spot {
     }
 
     fn put(&self, _level: u8, out: &mut Vec<u8>) -> Result<(), AllocError> {
-        let row = [
-            Value::Byte(rcnm_of(self.to.kind)),
-            Value::Long(self.to.id),
-            Value::Byte(self.ornt),
-            Value::Byte(self.usag),
-            Value::Byte(self.mask),
-        ];
-        put_row(&row, out)
+        let [k, i0, i1, i2, i3] = name_bytes(self.to);
+        let [ornt] = byte_bytes(self.ornt);
+        let [usag] = byte_bytes(self.usag);
+        let [mask] = byte_bytes(self.mask);
+        out.extend_from_slice(&[k, i0, i1, i2, i3, ornt, usag, mask])
     }
 }
 
@@ -372,9 +378,9 @@ pub fn read_fspt(alloc: Global, bytes: &[u8]) -> Result<Places, FieldRefusal>
 /// Appends the pointers of a feature record to vector records, the field FSPT.
 ///
 /// An `Err` means out of memory, and leaves the bytes as they were.
-pub fn write_fspt(alloc: Global, value: &Places, out: &mut Vec<u8>) -> Result<(), AllocError>
+pub fn write_fspt(_alloc: Global, value: &Places, out: &mut Vec<u8>) -> Result<(), AllocError>
     ensures ok { OnOk result (out.new.items ≡ out.old.items ++ rows_bytes 0 place_row value.now) }
     ensures err { OnErr result (out.new.items ≡ out.old.items) }
 {
-    write_rows(alloc, 0, value, out)
+    write_rows(0, value, out)
 }

@@ -7,10 +7,9 @@ ghost use Rattle.field_spec.specs.Contents.{number_content};
 ghost use Rattle.field_spec.specs.FieldBytes.{field_bytes};
 ghost use Rattle.s57_fields.specs.Gives.{Gives};
 
-use crate::cut::{field_body, take_u16};
+use crate::cut::{FIELD_TERMINATOR, field_body, take_u16};
 use crate::refusal::FieldRefusal;
-use crate::spell::Value;
-use crate::write::write_row;
+use crate::spell::short_bytes;
 use std::alloc::{AllocError, Global};
 
 /// The record number, or None where the field is bad.
@@ -35,9 +34,10 @@ pub fn read_0001(_alloc: Global, bytes: &[u8]) -> Result<u16, FieldRefusal>
 /// Appends the record number, the field 0001.
 ///
 /// An `Err` means out of memory, and leaves the bytes as they were.
-pub fn write_0001(alloc: Global, value: &u16, out: &mut Vec<u8>) -> Result<(), AllocError>
+pub fn write_0001(_alloc: Global, value: &u16, out: &mut Vec<u8>) -> Result<(), AllocError>
     ensures ok { OnOk result (out.new.items ≡ out.old.items ++ field_bytes (number_row value.now)) }
     ensures err { OnErr result (out.new.items ≡ out.old.items) }
 {
-    write_row(alloc, &[Value::Short(*value)], out)
+    let [low, high] = short_bytes(*value);
+    out.extend_from_slice(&[low, high, FIELD_TERMINATOR])
 }

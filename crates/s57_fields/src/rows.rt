@@ -1,10 +1,11 @@
 //! Fields whose row repeats.
 
-ghost use Rattle.std.specs.Prelude.{◌≡◌, ◌+◌, ◌-◌, ◌/◌, ◌<◌, ◌≤◌, ◌++◌, [], Bool, List, ℕ, Some, drop, length, take, IfOk, IfSome, OnOk};
+ghost use Rattle.std.specs.Prelude.{◌≡◌, ◌+◌, ◌-◌, ◌/◌, ◌<◌, ◌≤◌, ◌++◌, [], Bool, List, ℕ, Some, drop, length, take, IfOk, IfSome, OnOk, OnErr};
 ghost use Rattle.std.specs.Simd.{first_chunks};
 ghost use Rattle.std.specs.Option.{option_map};
 ghost use Rattle.s57_types.specs.Subfield.{Form, Subfield, row_bytes};
 ghost use Rattle.field_spec.specs.Contents.{rows_as};
+ghost use Rattle.s57_fields.specs.Appending.{KeepsFront};
 ghost use Rattle.s57_fields.specs.Gives.{Gives};
 ghost use Rattle.s57_fields.specs.RowCutting.{take_row, rows_from, with_front, content_of_rows};
 
@@ -42,7 +43,8 @@ pub trait FieldRow: Drop + Sized {
 
     /// Appends the subfields of a row.
     fn put(&self, level: u8, out: &mut Vec<u8>) -> Result<(), AllocError>
-        ensures { OnOk result (out.new.items ≡ out.old.items ++ row_bytes (subfields level self.now)) };
+        ensures ok { OnOk result (out.new.items ≡ out.old.items ++ row_bytes (subfields level self.now)) }
+        ensures err { OnErr result (KeepsFront out.old.items out.new.items) };
 }
 
 /// The rows of a field.

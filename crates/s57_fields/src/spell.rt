@@ -1,8 +1,9 @@
 //! The spelling of subfields (S-57 Part 3, 7.2.2).
 
-ghost use Rattle.std.specs.Prelude.{◌≡◌, ◌++◌, ◌∷◌, [], OnOk};
+ghost use Rattle.std.specs.Prelude.{◌≡◌, ◌++◌, ◌∷◌, [], OnOk, OnErr};
 ghost use Rattle.std.specs.Int.{bytes_low_first};
 ghost use Rattle.s57_types.specs.Subfield.{signed_of, row_bytes, spelling};
+ghost use Rattle.s57_fields.specs.Appending.{KeepsFront};
 ghost use Rattle.s57_fields.specs.Spelling.{subfield_of, row_of};
 
 use crate::cut::UNIT_TERMINATOR;
@@ -26,8 +27,15 @@ pub enum Value<'a> {
     Fixed(&'a [u8]),
 }
 
+/// The byte of a number.
+pub fn byte_bytes(n: u8) -> [u8; 1]
+    ensures { result ≡ bytes_low_first 0 1 n }
+{
+    [n]
+}
+
 /// The bytes of a number, the least significant first.
-fn short_bytes(n: u16) -> [u8; 2]
+pub fn short_bytes(n: u16) -> [u8; 2]
     ensures { result ≡ bytes_low_first 0 2 n }
 {
     let mut bytes = [0; 2];
@@ -36,7 +44,7 @@ fn short_bytes(n: u16) -> [u8; 2]
 }
 
 /// The bytes of a number, the least significant first.
-fn long_bytes(n: u32) -> [u8; 4]
+pub fn long_bytes(n: u32) -> [u8; 4]
     ensures { result ≡ bytes_low_first 0 4 n }
 {
     let mut bytes = [0; 4];
@@ -53,7 +61,8 @@ fn signed_bytes(n: i32) -> [u8; 4]
 
 /// Appends two signed numbers of four bytes, b24.
 pub fn put_two_signed(a: i32, b: i32, out: &mut Vec<u8>) -> Result<(), AllocError>
-    ensures { OnOk result (out.new.items ≡ out.old.items ++ row_bytes (signed_of a ∷ signed_of b ∷ [])) }
+    ensures ok { OnOk result (out.new.items ≡ out.old.items ++ row_bytes (signed_of a ∷ signed_of b ∷ [])) }
+    ensures err { OnErr result (out.new.items ≡ out.old.items) }
 {
     let [a0, a1, a2, a3] = signed_bytes(a);
     let [b0, b1, b2, b3] = signed_bytes(b);
@@ -62,7 +71,8 @@ pub fn put_two_signed(a: i32, b: i32, out: &mut Vec<u8>) -> Result<(), AllocErro
 
 /// Appends three signed numbers of four bytes, b24.
 pub fn put_three_signed(a: i32, b: i32, c: i32, out: &mut Vec<u8>) -> Result<(), AllocError>
-    ensures { OnOk result (out.new.items ≡ out.old.items ++ row_bytes (signed_of a ∷ signed_of b ∷ signed_of c ∷ [])) }
+    ensures ok { OnOk result (out.new.items ≡ out.old.items ++ row_bytes (signed_of a ∷ signed_of b ∷ signed_of c ∷ [])) }
+    ensures err { OnErr result (out.new.items ≡ out.old.items) }
 {
     let [a0, a1, a2, a3] = signed_bytes(a);
     let [b0, b1, b2, b3] = signed_bytes(b);
@@ -72,7 +82,8 @@ pub fn put_three_signed(a: i32, b: i32, c: i32, out: &mut Vec<u8>) -> Result<(),
 
 /// Appends a subfield.
 fn put_value(value: Value<'_>, out: &mut Vec<u8>) -> Result<(), AllocError>
-    ensures { OnOk result (out.new.items ≡ out.old.items ++ spelling (subfield_of value.entry)) }
+    ensures ok { OnOk result (out.new.items ≡ out.old.items ++ spelling (subfield_of value.entry)) }
+    ensures err { OnErr result (KeepsFront out.old.items out.new.items) }
 {
     match value {
         Value::Byte(n) => out.push(n)?,
@@ -93,7 +104,8 @@ fn put_value(value: Value<'_>, out: &mut Vec<u8>) -> Result<(), AllocError>
 
 /// Appends the subfields of a row one after the other.
 pub fn put_row(row: &[Value<'_>], out: &mut Vec<u8>) -> Result<(), AllocError>
-    ensures { OnOk result (out.new.items ≡ out.old.items ++ row_bytes (row_of row.now)) }
+    ensures ok { OnOk result (out.new.items ≡ out.old.items ++ row_bytes (row_of row.now)) }
+    ensures err { OnErr result (KeepsFront out.old.items out.new.items) }
 {
     for value in row {
         put_value(*value, out)?;

@@ -2,8 +2,8 @@
 
 ghost use Rattle.std.specs.Prelude.{◌≡◌, ◌<◌, ◌++◌, MatchOption, IfSome, OnOk, OnErr, true, false, [], ◌∷◌, length};
 ghost use Rattle.std.specs.Option.{option_map};
-ghost use Rattle.s57_types.specs.Subfield.{unsigned_of};
-ghost use Rattle.s57_types.specs.FieldRows.{vrid_forms, end_forms, plane_forms, deep_forms, attribute_row, end_row, plane_row, deep_row, vrid_row};
+ghost use Rattle.s57_types.specs.Subfield.{row_bytes, unsigned_of};
+ghost use Rattle.s57_types.specs.FieldRows.{vrid_forms, end_forms, plane_forms, deep_forms, attribute_row, end_row, plane_row, deep_row, name_row, vrid_row};
 ghost use Rattle.s57_types.specs.FieldRows.{rcnm_of as rcnm_number};
 ghost use Rattle.field_spec.specs.Cutting.{field_row};
 ghost use Rattle.field_spec.specs.Contents.{attribute_content, end_content, plane_content, deep_content, vrid_content, is_vector_rcnm, kind_of_rcnm};
@@ -12,11 +12,11 @@ ghost use Rattle.field_spec.specs.FieldBytes.{field_bytes, rows_bytes};
 ghost use Rattle.s57_fields.specs.Gives.{Gives};
 ghost use Rattle.s57_fields.specs.RowCutting.{take_row};
 
-use crate::cut::{field_body, take_i32, take_u8, take_u16, take_u32};
+use crate::cut::{FIELD_TERMINATOR, field_body, take_i32, take_u8, take_u16, take_u32};
 use crate::refusal::FieldRefusal;
 use crate::rows::{FieldRow, read_many_rows, read_rows};
-use crate::spell::{Value, put_row, put_three_signed, put_two_signed};
-use crate::write::{write_row, write_rows};
+use crate::spell::{byte_bytes, long_bytes, put_three_signed, put_two_signed, short_bytes};
+use crate::write::write_rows;
 use s57_types::{Attrs, Deep, End, Ends, Kind, Plane, RecName, Vrid};
 use std::alloc::{AllocError, Global};
 
@@ -43,6 +43,14 @@ pub fn rcnm_of(kind: Kind) -> u8
         Kind::Fe => 100,
         Kind::Head => 10,
     }
+}
+
+/// The bytes of a record's name in a pointer: RCNM and RCID.
+pub fn name_bytes(name: RecName) -> [u8; 5]
+    ensures { result ≡ row_bytes (name_row name) }
+{
+    let [i0, i1, i2, i3] = long_bytes(name.id);
+    [rcnm_of(name.kind), i0, i1, i2, i3]
 }
 
 /// The subfields of the identifier of a vector record: RCNM, RCID, RVER and RUIN.
@@ -77,17 +85,13 @@ pub fn read_vrid(_alloc: Global, bytes: &[u8]) -> Result<Vrid, FieldRefusal>
 /// Appends the identifier of a vector record, the field VRID.
 ///
 /// An `Err` means out of memory, and leaves the bytes as they were.
-pub fn write_vrid(alloc: Global, value: &Vrid, out: &mut Vec<u8>) -> Result<(), AllocError>
+pub fn write_vrid(_alloc: Global, value: &Vrid, out: &mut Vec<u8>) -> Result<(), AllocError>
     ensures ok { OnOk result (out.new.items ≡ out.old.items ++ field_bytes (vrid_row value.now)) }
     ensures err { OnErr result (out.new.items ≡ out.old.items) }
 {
-    let row = [
-        Value::Byte(rcnm_of(value.name.kind)),
-        Value::Long(value.name.id),
-        Value::Short(value.rver),
-        Value::Byte(value.ruin),
-    ];
-    write_row(alloc, &row, out)
+    let [k, i0, i1, i2, i3] = name_bytes(value.name);
+    let [r0, r1] = short_bytes(value.rver);
+    out.extend_from_slice(&[k, i0, i1, i2, i3, r0, r1, value.ruin, FIELD_TERMINATOR])
 }
 
 /// The attributes of a vector record, the field ATTV.
@@ -101,11 +105,11 @@ pub fn read_attv(alloc: Global, bytes: &[u8]) -> Result<Attrs, FieldRefusal>
 /// Appends the attributes of a vector record, the field ATTV.
 ///
 /// An `Err` means out of memory, and leaves the bytes as they were.
-pub fn write_attv(alloc: Global, value: &Attrs, out: &mut Vec<u8>) -> Result<(), AllocError>
+pub fn write_attv(_alloc: Global, value: &Attrs, out: &mut Vec<u8>) -> Result<(), AllocError>
     ensures ok { OnOk result (out.new.items ≡ out.old.items ++ rows_bytes 0 (attribute_row 0) value.now) }
     ensures err { OnErr result (out.new.items ≡ out.old.items) }
 {
-    write_rows(alloc, 0, value, out)
+    write_rows(0, value, out)
 }
 
 /// A pointer as it was cut: the record's name, and ORNT, USAG, TOPI and MASK.
@@ -161,15 +165,12 @@ impl FieldRow for End {
     }
 
     fn put(&self, _level: u8, out: &mut Vec<u8>) -> Result<(), AllocError> {
-        let row = [
-            Value::Byte(rcnm_of(self.to.kind)),
-            Value::Long(self.to.id),
-            Value::Byte(self.ornt),
-            Value::Byte(self.usag),
-            Value::Byte(self.topi),
-            Value::Byte(self.mask),
-        ];
-        put_row(&row, out)
+        let [k, i0, i1, i2, i3] = name_bytes(self.to);
+        let [ornt] = byte_bytes(self.ornt);
+        let [usag] = byte_bytes(self.usag);
+        let [topi] = byte_bytes(self.topi);
+        let [mask] = byte_bytes(self.mask);
+        out.extend_from_slice(&[k, i0, i1, i2, i3, ornt, usag, topi, mask])
     }
 }
 
@@ -196,11 +197,11 @@ pub fn read_vrpt(alloc: Global, bytes: &[u8]) -> Result<Ends, FieldRefusal>
 /// Appends the pointers of a vector record, the field VRPT.
 ///
 /// An `Err` means out of memory, and leaves the bytes as they were.
-pub fn write_vrpt(alloc: Global, value: &Ends, out: &mut Vec<u8>) -> Result<(), AllocError>
+pub fn write_vrpt(_alloc: Global, value: &Ends, out: &mut Vec<u8>) -> Result<(), AllocError>
     ensures ok { OnOk result (out.new.items ≡ out.old.items ++ rows_bytes 0 end_row value.now) }
     ensures err { OnErr result (out.new.items ≡ out.old.items) }
 {
-    write_rows(alloc, 0, value, out)
+    write_rows(0, value, out)
 }
 
 fn cut_plane(bytes: &[u8]) -> Option<((i32, i32), &[u8])>
@@ -255,11 +256,11 @@ pub fn read_sg2d(alloc: Global, bytes: &[u8]) -> Result<Plane, FieldRefusal>
 /// Appends the 2-D coordinates of a vector record, the field SG2D.
 ///
 /// An `Err` means out of memory, and leaves the bytes as they were.
-pub fn write_sg2d(alloc: Global, value: &Plane, out: &mut Vec<u8>) -> Result<(), AllocError>
+pub fn write_sg2d(_alloc: Global, value: &Plane, out: &mut Vec<u8>) -> Result<(), AllocError>
     ensures ok { OnOk result (out.new.items ≡ out.old.items ++ rows_bytes 0 plane_row value.now) }
     ensures err { OnErr result (out.new.items ≡ out.old.items) }
 {
-    write_rows(alloc, 0, value, out)
+    write_rows(0, value, out)
 }
 
 fn cut_deep(bytes: &[u8]) -> Option<((i32, i32, i32), &[u8])>
@@ -315,9 +316,9 @@ pub fn read_sg3d(alloc: Global, bytes: &[u8]) -> Result<Deep, FieldRefusal>
 /// Appends the soundings of a vector record, the field SG3D.
 ///
 /// An `Err` means out of memory, and leaves the bytes as they were.
-pub fn write_sg3d(alloc: Global, value: &Deep, out: &mut Vec<u8>) -> Result<(), AllocError>
+pub fn write_sg3d(_alloc: Global, value: &Deep, out: &mut Vec<u8>) -> Result<(), AllocError>
     ensures ok { OnOk result (out.new.items ≡ out.old.items ++ rows_bytes 0 deep_row value.now) }
     ensures err { OnErr result (out.new.items ≡ out.old.items) }
 {
-    write_rows(alloc, 0, value, out)
+    write_rows(0, value, out)
 }

@@ -3,6 +3,7 @@
 ghost use Rattle.std.specs.Prelude.{◌≡◌, ◌++◌, OnOk, OnErr};
 ghost use Rattle.s57_types.specs.RecordFields.{terminator_of};
 ghost use Rattle.field_spec.specs.FieldBytes.{field_bytes, rows_bytes};
+ghost use Rattle.s57_fields.specs.Appending.{KeepsFront};
 ghost use Rattle.s57_fields.specs.Spelling.{row_of};
 
 use crate::cut::FIELD_TERMINATOR;
@@ -44,18 +45,28 @@ fn append_field(field: Vec<u8>, out: &mut Vec<u8>) -> Result<(), AllocError>
 
 /// Appends the terminator of a field at a lexical level.
 fn put_terminator(level: u8, out: &mut Vec<u8>) -> Result<(), AllocError>
-    ensures { OnOk result (out.new.items ≡ out.old.items ++ terminator_of level) }
+    ensures ok { OnOk result (out.new.items ≡ out.old.items ++ terminator_of level) }
+    ensures err { OnErr result (out.new.items ≡ out.old.items) }
 {
-    out.push(FIELD_TERMINATOR)?;
     if level == WIDE_LEVEL {
-        out.push(0)?;
+        return out.extend_from_slice(&[FIELD_TERMINATOR, 0]);
     }
-    Ok(())
+    out.extend_from_slice(&[FIELD_TERMINATOR])
+}
+
+/// Appends the rows of a field one after the other, then its terminator.
+fn put_rows<R: FieldRow>(level: u8, rows: &[R], out: &mut Vec<u8>) -> Result<(), AllocError>
+    ensures ok { OnOk result (out.new.items ≡ out.old.items ++ rows_bytes level (R.subfields level) rows.now) }
+    ensures err { OnErr result (KeepsFront out.old.items out.new.items) }
+{
+    for row in rows {
+        row.put(level, out)?;
+    }
+    put_terminator(level, out)
 }
 
 /// Appends a field whose row repeats. With no row it is the terminator alone. A refusal leaves the bytes as they were.
 pub fn write_rows<R: FieldRow>(
-    alloc: Global,
     level: u8,
     rows: &Items<R>,
     out: &mut Vec<u8>,
@@ -63,11 +74,12 @@ pub fn write_rows<R: FieldRow>(
     ensures ok { OnOk result (out.new.items ≡ out.old.items ++ rows_bytes level (R.subfields level) rows.now) }
     ensures err { OnErr result (out.new.items ≡ out.old.items) }
 {
+    let before = out.len();
     let size = rows.len().saturating_mul(R::least_size());
-    let mut field = Vec::with_capacity(alloc, size.saturating_add(TERMINATOR_LIMIT))?;
-    for row in rows.as_slice() {
-        row.put(level, &mut field)?;
+    out.reserve(size.saturating_add(TERMINATOR_LIMIT))?;
+    if put_rows(level, rows.as_slice(), out).is_err() {
+        out.truncate(before);
+        return Err(AllocError);
     }
-    put_terminator(level, &mut field)?;
-    append_field(field, out)
+    Ok(())
 }

@@ -1,7 +1,0 @@
-use Rattle.std.proofs.Common.{◌≡◌, take}
-use Rattle.std.specs.List.{flat_map}
-use Rattle.s57_types.specs.Subfield.{row_bytes}
-use Rattle.s57_fields.proofs.write.write_rows.Given as goal
-
-abbrev pub invariant-loop-row : goal.invariant-loop-row
-invariant-loop-row g l = l.field.items ≡ flat_map (λ y. row_bytes (g.R.FieldRow.subfields l.level y)) (take l.row-index l.row-items)
