@@ -13,6 +13,7 @@ ghost use Rattle.frame_write.specs.OutFields.{fields_of, is_first, lengths_of};
 use crate::description::descriptive_fields;
 use crate::feature::feature_fields;
 use crate::head::{identification_fields, parameter_fields};
+use crate::spare::keep_memory;
 use crate::vector::vector_fields;
 use frame_write::{LeaderKind, OutField, WriteRefusal, write_record};
 use s57_types::{Cell, Rec};
@@ -48,13 +49,14 @@ fn record_fields(
     nall: u8,
     number: u16,
     rec: &Rec,
+    spare: &mut Vec<Vec<u8>>,
 ) -> Result<Vec<OutField>, AllocError>
     requires { unfitness nall rec.now ≡ None }
     ensures { IfOk result (λ fields. fields_of fields.items ≡ record_fields nall number rec.now) }
 {
     match rec {
-        Rec::V(vector) => vector_fields(alloc, number, vector),
-        Rec::F(feature) => feature_fields(alloc, nall, number, feature),
+        Rec::V(vector) => vector_fields(alloc, number, vector, spare),
+        Rec::F(feature) => feature_fields(alloc, nall, number, feature, spare),
         Rec::H(_) => unreachable!(),
     }
 }
@@ -65,13 +67,15 @@ fn put_record(
     nall: u8,
     number: usize,
     rec: &Rec,
+    spare: &mut Vec<Vec<u8>>,
     out: &mut Vec<u8>,
 ) -> Result<(), AllocError>
     requires { unfitness nall rec.now ≡ None }
     ensures { OnOk result (out.new.items ≡ out.old.items ++ record_bytes nall number rec.now) }
 {
-    let fields = record_fields(alloc, nall, (number % NUMBERS) as u16, rec)?;
-    put_fields(alloc, LeaderKind::Dr, fields.as_slice(), out)
+    let fields = record_fields(alloc, nall, (number % NUMBERS) as u16, rec, spare)?;
+    put_fields(alloc, LeaderKind::Dr, fields.as_slice(), out)?;
+    keep_memory(fields, spare)
 }
 
 /// Appends records, whose numbers go on from the first one's.
@@ -80,6 +84,7 @@ fn put_records(
     nall: u8,
     first: usize,
     records: &[Rec],
+    spare: &mut Vec<Vec<u8>>,
     out: &mut Vec<u8>,
 ) -> Result<(), AllocError>
     requires fit { AreFit nall records.now }
@@ -88,7 +93,7 @@ fn put_records(
 {
     let mut number = first;
     for rec in records {
-        put_record(alloc, nall, number, rec, out)?;
+        put_record(alloc, nall, number, rec, spare, out)?;
         number += 1;
     }
     Ok(())
@@ -120,13 +125,21 @@ fn put_all_records(alloc: Global, cell: &Cell, out: &mut Vec<u8>) -> Result<(), 
     ensures { OnOk result (out.new.items ≡ out.old.items ++ records_bytes cell.now.head.nall 3 (all_records cell.now)) }
 {
     let nall = cell.head.nall;
+    let mut spare = Vec::new(alloc);
     let connected = FIRST_NUMBER + cell.vi.len();
     let edges = connected + cell.vc.len();
     let features = edges + cell.ve.len();
-    put_records(alloc, nall, FIRST_NUMBER, cell.vi.as_slice(), out)?;
-    put_records(alloc, nall, connected, cell.vc.as_slice(), out)?;
-    put_records(alloc, nall, edges, cell.ve.as_slice(), out)?;
-    put_records(alloc, nall, features, cell.fe.as_slice(), out)?;
+    put_records(
+        alloc,
+        nall,
+        FIRST_NUMBER,
+        cell.vi.as_slice(),
+        &mut spare,
+        out,
+    )?;
+    put_records(alloc, nall, connected, cell.vc.as_slice(), &mut spare, out)?;
+    put_records(alloc, nall, edges, cell.ve.as_slice(), &mut spare, out)?;
+    put_records(alloc, nall, features, cell.fe.as_slice(), &mut spare, out)?;
     Ok(())
 }
 

@@ -8,6 +8,7 @@ ghost use Rattle.file_spec.specs.ReadBack.{frid_of};
 ghost use Rattle.frame_write.specs.OutFields.{field_of, fields_of};
 
 use crate::number::number_field;
+use crate::spare::empty_bytes;
 use crate::vector::INSERT;
 use frame_write::OutField;
 use s57_fields::{Frid, write_attf, write_ffpt, write_foid, write_frid, write_fspt, write_natf};
@@ -18,7 +19,11 @@ use std::alloc::{AllocError, Global};
 const MOST_FIELDS: usize = 7;
 
 /// The field FRID.
-fn identifier_field(alloc: Global, feature: &Feature) -> Result<OutField, AllocError>
+fn identifier_field(
+    alloc: Global,
+    feature: &Feature,
+    spare: &mut Vec<Vec<u8>>,
+) -> Result<OutField, AllocError>
     ensures { IfOk result (λ field. field_of field ≡ row_field (codes "FRID") (frid_row (frid_of feature.now))) }
 {
     let frid = Frid {
@@ -29,7 +34,7 @@ fn identifier_field(alloc: Global, feature: &Feature) -> Result<OutField, AllocE
         rver: feature.rver,
         ruin: INSERT,
     };
-    let mut bytes = Vec::new(alloc);
+    let mut bytes = empty_bytes(alloc, spare);
     write_frid(alloc, &frid, &mut bytes)?;
     Ok(OutField {
         tag: *b"FRID",
@@ -38,10 +43,14 @@ fn identifier_field(alloc: Global, feature: &Feature) -> Result<OutField, AllocE
 }
 
 /// The field FOID.
-fn object_field(alloc: Global, foid: &Lnam) -> Result<OutField, AllocError>
+fn object_field(
+    alloc: Global,
+    foid: &Lnam,
+    spare: &mut Vec<Vec<u8>>,
+) -> Result<OutField, AllocError>
     ensures { IfOk result (λ field. field_of field ≡ row_field (codes "FOID") (foid_row foid.now)) }
 {
-    let mut bytes = Vec::new(alloc);
+    let mut bytes = empty_bytes(alloc, spare);
     write_foid(alloc, foid, &mut bytes)?;
     Ok(OutField {
         tag: *b"FOID",
@@ -50,13 +59,18 @@ fn object_field(alloc: Global, foid: &Lnam) -> Result<OutField, AllocError>
 }
 
 /// Appends the field ATTF, if there are attributes.
-fn push_attf(alloc: Global, attrs: &Attrs, fields: &mut Vec<OutField>) -> Result<(), AllocError>
+fn push_attf(
+    alloc: Global,
+    attrs: &Attrs,
+    spare: &mut Vec<Vec<u8>>,
+    fields: &mut Vec<OutField>,
+) -> Result<(), AllocError>
     ensures { OnOk result (fields_of fields.new.items ≡ fields_of fields.old.items ++ rows_field 0 (codes "ATTF") (attribute_row 0) attrs.now) }
 {
     if attrs.is_empty() {
         return Ok(());
     }
-    let mut bytes = Vec::new(alloc);
+    let mut bytes = empty_bytes(alloc, spare);
     write_attf(alloc, attrs, &mut bytes)?;
     fields.push(OutField {
         tag: *b"ATTF",
@@ -70,6 +84,7 @@ fn push_natf(
     alloc: Global,
     nall: u8,
     attrs: &Attrs,
+    spare: &mut Vec<Vec<u8>>,
     fields: &mut Vec<OutField>,
 ) -> Result<(), AllocError>
     ensures { OnOk result (fields_of fields.new.items ≡ fields_of fields.old.items ++ rows_field nall (codes "NATF") (attribute_row nall) attrs.now) }
@@ -77,7 +92,7 @@ fn push_natf(
     if attrs.is_empty() {
         return Ok(());
     }
-    let mut bytes = Vec::new(alloc);
+    let mut bytes = empty_bytes(alloc, spare);
     write_natf(alloc, nall, attrs, &mut bytes)?;
     fields.push(OutField {
         tag: *b"NATF",
@@ -90,6 +105,7 @@ fn push_natf(
 fn push_ffpt(
     alloc: Global,
     partners: &Partners,
+    spare: &mut Vec<Vec<u8>>,
     fields: &mut Vec<OutField>,
 ) -> Result<(), AllocError>
     ensures { OnOk result (fields_of fields.new.items ≡ fields_of fields.old.items ++ rows_field 0 (codes "FFPT") partner_row partners.now) }
@@ -97,7 +113,7 @@ fn push_ffpt(
     if partners.is_empty() {
         return Ok(());
     }
-    let mut bytes = Vec::new(alloc);
+    let mut bytes = empty_bytes(alloc, spare);
     write_ffpt(alloc, partners, &mut bytes)?;
     fields.push(OutField {
         tag: *b"FFPT",
@@ -107,13 +123,18 @@ fn push_ffpt(
 }
 
 /// Appends the field FSPT, if there are pointers to vector records.
-fn push_fspt(alloc: Global, places: &Places, fields: &mut Vec<OutField>) -> Result<(), AllocError>
+fn push_fspt(
+    alloc: Global,
+    places: &Places,
+    spare: &mut Vec<Vec<u8>>,
+    fields: &mut Vec<OutField>,
+) -> Result<(), AllocError>
     ensures { OnOk result (fields_of fields.new.items ≡ fields_of fields.old.items ++ rows_field 0 (codes "FSPT") place_row places.now) }
 {
     if places.is_empty() {
         return Ok(());
     }
-    let mut bytes = Vec::new(alloc);
+    let mut bytes = empty_bytes(alloc, spare);
     write_fspt(alloc, places, &mut bytes)?;
     fields.push(OutField {
         tag: *b"FSPT",
@@ -128,16 +149,17 @@ pub fn feature_fields(
     nall: u8,
     number: u16,
     feature: &Feature,
+    spare: &mut Vec<Vec<u8>>,
 ) -> Result<Vec<OutField>, AllocError>
     ensures { IfOk result (λ fields. fields_of fields.items ≡ feature_fields nall number feature.now) }
 {
     let mut fields = Vec::with_capacity(alloc, MOST_FIELDS)?;
-    fields.push(number_field(alloc, number)?)?;
-    fields.push(identifier_field(alloc, feature)?)?;
-    fields.push(object_field(alloc, &feature.foid)?)?;
-    push_attf(alloc, &feature.attf, &mut fields)?;
-    push_natf(alloc, nall, &feature.natf, &mut fields)?;
-    push_ffpt(alloc, &feature.partners, &mut fields)?;
-    push_fspt(alloc, &feature.places, &mut fields)?;
+    fields.push(number_field(alloc, number, spare)?)?;
+    fields.push(identifier_field(alloc, feature, spare)?)?;
+    fields.push(object_field(alloc, &feature.foid, spare)?)?;
+    push_attf(alloc, &feature.attf, spare, &mut fields)?;
+    push_natf(alloc, nall, &feature.natf, spare, &mut fields)?;
+    push_ffpt(alloc, &feature.partners, spare, &mut fields)?;
+    push_fspt(alloc, &feature.places, spare, &mut fields)?;
     Ok(fields)
 }

@@ -153,7 +153,7 @@ pub fn identification_fields(alloc: Global, cell: &Cell) -> Result<Vec<OutField>
     ensures { IfOk result (λ fields. fields_of fields.items ≡ identification_fields 1 cell.now.head (record_counts cell.now)) }
 {
     let mut fields = Vec::new(alloc);
-    fields.push(number_field(alloc, 1)?)?;
+    fields.push(number_field(alloc, 1, &mut Vec::new(alloc))?)?;
     fields.push(identification_field(alloc, &cell.head)?)?;
     fields.push(structure_field(alloc, &cell.head, record_counts(cell))?)?;
     Ok(fields)
@@ -167,7 +167,7 @@ pub fn parameter_fields(alloc: Global, head: &Head) -> Result<Vec<OutField>, All
     let mut bytes = Vec::new(alloc);
     write_dspm(alloc, &dspm, &mut bytes)?;
     let mut fields = Vec::new(alloc);
-    fields.push(number_field(alloc, 2)?)?;
+    fields.push(number_field(alloc, 2, &mut Vec::new(alloc))?)?;
     fields.push(OutField {
         tag: *b"DSPM",
         bytes,

@@ -6,6 +6,7 @@ mod description;
 mod feature;
 mod head;
 mod number;
+mod spare;
 mod vector;
 
 pub use cell::write_cell;

@@ -8,6 +8,7 @@ ghost use Rattle.file_spec.specs.ReadBack.{vrid_of};
 ghost use Rattle.frame_write.specs.OutFields.{field_of, fields_of};
 
 use crate::number::number_field;
+use crate::spare::empty_bytes;
 use frame_write::OutField;
 use s57_fields::{Vrid, write_attv, write_sg2d, write_sg3d, write_vrid, write_vrpt};
 use s57_types::{Attrs, Deep, Ends, Plane, Vector};
@@ -20,7 +21,11 @@ pub const INSERT: u8 = 1;
 const MOST_FIELDS: usize = 6;
 
 /// The field VRID.
-fn identifier_field(alloc: Global, vector: &Vector) -> Result<OutField, AllocError>
+fn identifier_field(
+    alloc: Global,
+    vector: &Vector,
+    spare: &mut Vec<Vec<u8>>,
+) -> Result<OutField, AllocError>
     ensures { IfOk result (λ field. field_of field ≡ row_field (codes "VRID") (vrid_row (vrid_of vector.now))) }
 {
     let vrid = Vrid {
@@ -28,7 +33,7 @@ fn identifier_field(alloc: Global, vector: &Vector) -> Result<OutField, AllocErr
         rver: vector.rver,
         ruin: INSERT,
     };
-    let mut bytes = Vec::new(alloc);
+    let mut bytes = empty_bytes(alloc, spare);
     write_vrid(alloc, &vrid, &mut bytes)?;
     Ok(OutField {
         tag: *b"VRID",
@@ -37,13 +42,18 @@ fn identifier_field(alloc: Global, vector: &Vector) -> Result<OutField, AllocErr
 }
 
 /// Appends the field ATTV, if there are attributes.
-fn push_attv(alloc: Global, attrs: &Attrs, fields: &mut Vec<OutField>) -> Result<(), AllocError>
+fn push_attv(
+    alloc: Global,
+    attrs: &Attrs,
+    spare: &mut Vec<Vec<u8>>,
+    fields: &mut Vec<OutField>,
+) -> Result<(), AllocError>
     ensures { OnOk result (fields_of fields.new.items ≡ fields_of fields.old.items ++ rows_field 0 (codes "ATTV") (attribute_row 0) attrs.now) }
 {
     if attrs.is_empty() {
         return Ok(());
     }
-    let mut bytes = Vec::new(alloc);
+    let mut bytes = empty_bytes(alloc, spare);
     write_attv(alloc, attrs, &mut bytes)?;
     fields.push(OutField {
         tag: *b"ATTV",
@@ -53,13 +63,18 @@ fn push_attv(alloc: Global, attrs: &Attrs, fields: &mut Vec<OutField>) -> Result
 }
 
 /// Appends the field VRPT, if there are pointers.
-fn push_vrpt(alloc: Global, ends: &Ends, fields: &mut Vec<OutField>) -> Result<(), AllocError>
+fn push_vrpt(
+    alloc: Global,
+    ends: &Ends,
+    spare: &mut Vec<Vec<u8>>,
+    fields: &mut Vec<OutField>,
+) -> Result<(), AllocError>
     ensures { OnOk result (fields_of fields.new.items ≡ fields_of fields.old.items ++ rows_field 0 (codes "VRPT") end_row ends.now) }
 {
     if ends.is_empty() {
         return Ok(());
     }
-    let mut bytes = Vec::new(alloc);
+    let mut bytes = empty_bytes(alloc, spare);
     write_vrpt(alloc, ends, &mut bytes)?;
     fields.push(OutField {
         tag: *b"VRPT",
@@ -69,13 +84,18 @@ fn push_vrpt(alloc: Global, ends: &Ends, fields: &mut Vec<OutField>) -> Result<(
 }
 
 /// Appends the field SG2D, if there are coordinates.
-fn push_sg2d(alloc: Global, plane: &Plane, fields: &mut Vec<OutField>) -> Result<(), AllocError>
+fn push_sg2d(
+    alloc: Global,
+    plane: &Plane,
+    spare: &mut Vec<Vec<u8>>,
+    fields: &mut Vec<OutField>,
+) -> Result<(), AllocError>
     ensures { OnOk result (fields_of fields.new.items ≡ fields_of fields.old.items ++ rows_field 0 (codes "SG2D") plane_row plane.now) }
 {
     if plane.is_empty() {
         return Ok(());
     }
-    let mut bytes = Vec::new(alloc);
+    let mut bytes = empty_bytes(alloc, spare);
     write_sg2d(alloc, plane, &mut bytes)?;
     fields.push(OutField {
         tag: *b"SG2D",
@@ -85,13 +105,18 @@ fn push_sg2d(alloc: Global, plane: &Plane, fields: &mut Vec<OutField>) -> Result
 }
 
 /// Appends the field SG3D, if there are soundings.
-fn push_sg3d(alloc: Global, deep: &Deep, fields: &mut Vec<OutField>) -> Result<(), AllocError>
+fn push_sg3d(
+    alloc: Global,
+    deep: &Deep,
+    spare: &mut Vec<Vec<u8>>,
+    fields: &mut Vec<OutField>,
+) -> Result<(), AllocError>
     ensures { OnOk result (fields_of fields.new.items ≡ fields_of fields.old.items ++ rows_field 0 (codes "SG3D") deep_row deep.now) }
 {
     if deep.is_empty() {
         return Ok(());
     }
-    let mut bytes = Vec::new(alloc);
+    let mut bytes = empty_bytes(alloc, spare);
     write_sg3d(alloc, deep, &mut bytes)?;
     fields.push(OutField {
         tag: *b"SG3D",
@@ -105,15 +130,16 @@ pub fn vector_fields(
     alloc: Global,
     number: u16,
     vector: &Vector,
+    spare: &mut Vec<Vec<u8>>,
 ) -> Result<Vec<OutField>, AllocError>
     ensures { IfOk result (λ fields. fields_of fields.items ≡ vector_fields number vector.now) }
 {
     let mut fields = Vec::with_capacity(alloc, MOST_FIELDS)?;
-    fields.push(number_field(alloc, number)?)?;
-    fields.push(identifier_field(alloc, vector)?)?;
-    push_attv(alloc, &vector.attrs, &mut fields)?;
-    push_vrpt(alloc, &vector.ends, &mut fields)?;
-    push_sg2d(alloc, &vector.plane, &mut fields)?;
-    push_sg3d(alloc, &vector.deep, &mut fields)?;
+    fields.push(number_field(alloc, number, spare)?)?;
+    fields.push(identifier_field(alloc, vector, spare)?)?;
+    push_attv(alloc, &vector.attrs, spare, &mut fields)?;
+    push_vrpt(alloc, &vector.ends, spare, &mut fields)?;
+    push_sg2d(alloc, &vector.plane, spare, &mut fields)?;
+    push_sg3d(alloc, &vector.deep, spare, &mut fields)?;
     Ok(fields)
 }
