@@ -43,14 +43,17 @@ fn push_digits(width: usize, number: usize, out: &mut Vec<u8>) -> Result<(), All
     ensures ok { OnOk result (out.new.items ≡ out.old.items ++ digits width number) }
     ensures err { OnErr result (out.new.items ≡ out.old.items) }
 {
-    let [a, b, c, d, e] = five_digits(number);
+    let tens = number / 10;
     match width {
         0 => Ok(()),
-        1 => out.extend_from_slice(&[e]),
-        2 => out.extend_from_slice(&[d, e]),
-        3 => out.extend_from_slice(&[c, d, e]),
-        4 => out.extend_from_slice(&[b, c, d, e]),
-        _ => out.extend_from_slice(&[a, b, c, d, e]),
+        1 => out.extend_from_slice(&[digit(number)]),
+        2 => out.extend_from_slice(&[digit(tens), digit(number)]),
+        3 => out.extend_from_slice(&[digit(tens / 10), digit(tens), digit(number)]),
+        4 => {
+            let [_, b, c, d, e] = five_digits(number);
+            out.extend_from_slice(&[b, c, d, e])
+        }
+        _ => out.extend_from_slice(&five_digits(number)),
     }
 }
 
