@@ -96,7 +96,7 @@ fn points_between(
 ) -> Result<Vec<Point>, AllocError>
     ensures { IfOk result (λ points. points.items ≡ first ∷ (plane.now ++ last ∷ [])) }
 {
-    let mut points = Vec::new(alloc);
+    let mut points = Vec::with_capacity(alloc, plane.len() + 2)?;
     points.push(first)?;
     points.extend_from_slice(plane)?;
     points.push(last)?;
