@@ -54,7 +54,7 @@ use Rattle.finding_laws.proofs.Moved.{each_tested}
 use Rattle.depend_map.specs.declared.change.ReadChange.{ReadChange}
 use Rattle.depend_map.specs.Changes.{ChangesSetTheirSubjects, after_changes, is_change_of, reads_after}
 use Rattle.affected_subjects.specs.Reached.{gone_list}
-use Rattle.cell_bench.specs.Rejudging.{IsRejudged, IsRejudgedBy, Rejudging, is_done, judged_in, unchanged, with_change, with_row_of, without, without_all}
+use Rattle.cell_bench.specs.Rejudging.{IsRejudged, IsRejudgedBy, Rejudging, change_of, is_done, judged_in, unchanged, with_change, with_row_of, without, without_all}
 
 -- ---- tests
 pub turned : (s t : Subject) → same_subject s t ≡ same_subject t s
@@ -111,6 +111,12 @@ change_at d t s prev false is = nothing (is_single t) (reads_of d t) ∙ sym (no
     nothing true x = refl
     nothing false x = refl
 
+-- a change leaves what a subject had, but for the subject that it is of; there is none of a pair
+changed_by : (t s : Subject) (reads prev : Option (List Key)) (single : Bool) → is_single t ≡ single
+    → reads_after prev (cond single (record { subject = t; reads = reads } ∷ []) []) s ≡ cond (is_single t && same_subject t s) reads prev
+changed_by t s reads prev true is = refl
+changed_by t s reads prev false is = sym (ap (λ single. cond (single && same_subject t s) reads prev) is)
+
 -- the rows, and the changes, with one subject more
 abbrev with_subject : Cell → Rejudging → Subject → Rejudging
 with_subject d r t = with_change r t (findings_of_subject d t) (reads_of d t)
@@ -125,7 +131,8 @@ step c d done r t is = record {
       ∙ verdict_step (same_subject t s) (is_done done s) (verdict_in d s) (verdict_in c s)
       ∙ ap (λ b. cond b (verdict_in d s) (verdict_in c s)) (sym (done_more done t s));
   reads = λ had s.
-      fold-append (λ has (change : ReadChange). cond (is_change_of s change) change.reads has) had r.changes (record { subject = t; reads = reads_of d t } ∷ [])
+      fold-append (λ has (change : ReadChange). cond (is_change_of s change) change.reads has) had r.changes (change_of t (reads_of d t))
+      ∙ changed_by t s (reads_of d t) (reads_after had r.changes s) (is_single t) refl
       ∙ change_at d t s (reads_after had r.changes s) (same_subject t s) refl
       ∙ ap (λ prev. cond (is_single s && same_subject t s) (reads_of d s) prev) (is.reads had s)
       ∙ reads_step (is_single s) (same_subject t s) (is_done done s) (is_subject d s) (Some (read_set d s)) None had

@@ -28,11 +28,15 @@ pub record Rejudging : Type 0 where
 abbrev pub unchanged : List (Subject × List Finding) → Rejudging
 unchanged rows = record { rows = rows; changes = []; fresh = 0 }
 
+-- the change of what a subject reads: none for a pair, since what that reads isn't kept
+abbrev pub change_of : Subject → Option (List Key) → List ReadChange
+change_of s reads = if is_single s then record { subject = s; reads = reads } ∷ [] else []
+
 -- a subject gets these findings and these reads, or goes with those that it has
 abbrev pub with_change : Rejudging → Subject → List Finding → Option (List Key) → Rejudging
 with_change r s found reads = record {
   rows = with_findings r.rows s found;
-  changes = r.changes ++ record { subject = s; reads = reads } ∷ [];
+  changes = r.changes ++ change_of s reads;
   fresh = r.fresh + length found;
 }
 

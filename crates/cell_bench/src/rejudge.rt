@@ -3,14 +3,14 @@
 ghost use Rattle.std.specs.Prelude.{◌≡◌, ◌+◌, ◌*◌, ◌≤◌, All, IfErr, IfOk, IsTrue, MatchResult, OnOk, length, map, sum_by};
 ghost use Rattle.cell_spec.specs.Edits.{apply_edits, touched_keys};
 ghost use Rattle.rule_spec.specs.Affected.{affected_list, change_by, exact_row};
-ghost use Rattle.rule_spec.specs.Findings.{is_subject};
+ghost use Rattle.rule_spec.specs.Findings.{findings_of_subject, is_subject};
 ghost use Rattle.history_spec.specs.Steps.{finding_limit};
 ghost use Rattle.affected_subjects.specs.Reached.{gone_list};
 ghost use Rattle.answer_laws.specs.EditedAnswers.{FindTheirRecords};
 ghost use Rattle.finding_laws.specs.Tables.{IsVerdictTable};
 ghost use Rattle.cell_bench.specs.Limits.{IsFull};
 ghost use Rattle.cell_bench.specs.Ready.{AreExact};
-ghost use Rattle.cell_bench.specs.Rejudging.{IsRejudgedBy, fresh_among, fresh_in, judged_in, reads_anew, with_rows};
+ghost use Rattle.cell_bench.specs.Rejudging.{IsRejudgedBy, fresh_among, fresh_in, judged_in, reads_anew, with_row_of, with_rows};
 ghost use Rattle.cell_bench.specs.Verdicts.{total_of};
 
 use crate::ready::ReadyRows;
@@ -29,38 +29,31 @@ use finding_laws::{
     unaffected_subjects_keep_findings,
 };
 use record_store::RecordStore;
-use s57_types::Duplicate;
 use std::alloc::{AllocError, Global};
 use std::sync::ledger::Ledger;
 use subject_rows::row_of;
 
-// A copy of a row.
-fn copy_of(alloc: Global, row: &Row) -> Result<Row, AllocError>
-    ensures { IfOk result (λ copy. copy ≡ row.now) }
-{
-    Ok(Row {
-        subject: row.subject,
-        findings: row.findings.copy(alloc)?,
-        reads: row.reads.copy(alloc)?,
-    })
-}
-
-// The row of a subject: a ready one that is valid, or else as it is judged.
-fn fresh_row<B: Look, L: Ledger>(
+// Enters the row of a subject: a ready one that is valid, or else as it is judged.
+fn enter_fresh<B: Look, L: Ledger>(
     alloc: Global,
     look: &B,
     ready: &ReadyRows<'_>,
     subject: Subject,
+    rejudged: &mut Rejudged,
     steps: &mut Steps<L>,
-) -> Result<Row, AllocError>
+) -> Result<(), PlanRefusal>
     requires subject { IsTrue (is_subject (B.cell look.now) subject) }
     requires exact { AreExact (B.cell look.now) ready.now }
-    ensures row { IfOk result (λ row. row ≡ exact_row (B.cell look.now) subject) }
+    ensures ok { OnOk result (rejudged.new ≡ with_row_of rejudged.old (exact_row (B.cell look.now) subject)) }
+    ensures err { IfErr result (IsFull (rejudged.old.fresh + length (findings_of_subject (B.cell look.now) subject))) }
     ensures steps { steps.new ≤ steps.old + 4 * reads_anew (B.cell look.now) ready.now.stale ready.now.rows subject }
 {
     match ready.get(subject) {
-        Some(row) => copy_of(alloc, row),
-        None => row_of(alloc, look, subject, steps),
+        Some(row) => rejudged.enter(alloc, row),
+        None => {
+            let row = row_of(alloc, look, subject, steps)?;
+            rejudged.enter(alloc, &row)
+        }
     }
 }
 
@@ -82,8 +75,7 @@ pub(crate) fn judge_all<B: Look, L: Ledger>(
     ensures steps { steps.new ≤ steps.old + 4 * sum_by (reads_anew (B.cell look.now) ready.now.stale ready.now.rows) judged.now }
 {
     for subject in judged {
-        let row = fresh_row(alloc, look, ready, *subject, steps)?;
-        rejudged.enter(alloc, row)?;
+        enter_fresh(alloc, look, ready, *subject, rejudged, steps)?;
     }
     Ok(())
 }
@@ -136,8 +128,7 @@ fn enter_all(alloc: Global, rows: &[Row], rejudged: &mut Rejudged) -> Result<(),
     ensures err { IfErr result (IsFull (rejudged.old.fresh + fresh_among rows.now)) }
 {
     for row in rows {
-        let copy = copy_of(alloc, row)?;
-        rejudged.enter(alloc, copy)?;
+        rejudged.enter(alloc, row)?;
     }
     Ok(())
 }

@@ -1,9 +1,10 @@
 //! What judging subjects anew makes of the findings and of the read sets.
 
-ghost use Rattle.std.specs.Prelude.{◌≡◌, ◌+◌, ◌≤◌, IfErr, IfOk, OnOk, length};
+ghost use Rattle.std.specs.Prelude.{◌≡◌, ◌+◌, ◌++◌, ◌≤◌, IfErr, IfOk, OnOk, length};
+ghost use Rattle.std.specs.Option.{option_copied};
 ghost use Rattle.history_spec.specs.Steps.{finding_limit};
 ghost use Rattle.cell_bench.specs.Limits.{IsFull};
-ghost use Rattle.cell_bench.specs.Rejudging.{unchanged, with_change, with_row_of, without_all};
+ghost use Rattle.cell_bench.specs.Rejudging.{change_of, unchanged, with_change, with_row_of, without_all};
 ghost use Rattle.cell_bench.specs.Verdicts.{total_of};
 
 use crate::refusal::{FINDING_LIMIT, PlanRefusal};
@@ -11,6 +12,7 @@ use crate::verdicts::Verdicts;
 use cell_spec::{Findings, Keys, Row, Subject};
 use depend_map::ReadChange;
 use history_spec::StateRefusal;
+use s57_types::Duplicate;
 use std::alloc::{AllocError, Global};
 use std::marker::Model;
 
@@ -70,15 +72,15 @@ impl Rejudged {
         alloc: Global,
         subject: Subject,
         findings: Findings,
-        reads: Option<Keys>,
+        reads: Option<&Keys>,
     ) -> Result<(), AllocError>
         requires { self.old.fresh + length findings ≤ finding_limit }
-        ensures { OnOk result (self.new ≡ with_change self.old subject findings reads) }
+        ensures { OnOk result (self.new ≡ with_change self.old subject findings (option_copied reads.entry)) }
     {
         let count = findings.len() as u32;
         self.verdicts.put(alloc, subject, findings)?;
         self.fresh += count;
-        self.changes.push(ReadChange { subject, reads })?;
+        push_change(alloc, &mut self.changes, subject, reads)?;
         Ok(())
     }
 
@@ -96,19 +98,15 @@ impl Rejudged {
     /// Gives a subject what its row says.
     ///
     /// An `Err` says that there are more fresh findings than the cell may have, or is out of memory.
-    pub(crate) fn enter(&mut self, alloc: Global, row: Row) -> Result<(), PlanRefusal>
-        ensures ok { OnOk result (self.new ≡ with_row_of self.old row) }
-        ensures err { IfErr result (IsFull (self.old.fresh + length row.findings)) }
+    pub(crate) fn enter(&mut self, alloc: Global, row: &Row) -> Result<(), PlanRefusal>
+        ensures ok { OnOk result (self.new ≡ with_row_of self.old row.now) }
+        ensures err { IfErr result (IsFull (self.old.fresh + length row.now.findings)) }
     {
-        let Row {
-            subject,
-            findings,
-            reads,
-        } = row;
-        if findings.len() > self.room() {
+        if row.findings.len() > self.room() {
             return Err(PlanRefusal::State(StateRefusal::FindingsFull));
         }
-        self.give(alloc, subject, findings, Some(reads))?;
+        let findings = row.findings.copy(alloc)?;
+        self.give(alloc, row.subject, findings, Some(&row.reads))?;
         Ok(())
     }
 
@@ -123,5 +121,32 @@ impl Rejudged {
             fresh: _,
         } = self;
         (verdicts, changes)
+    }
+}
+
+// Appends the change of what a subject reads. There is none for a pair, so that what that reads isn't copied.
+fn push_change(
+    alloc: Global,
+    changes: &mut Vec<ReadChange>,
+    subject: Subject,
+    reads: Option<&Keys>,
+) -> Result<(), AllocError>
+    ensures { OnOk result (changes.new.items ≡ changes.old.items ++ change_of subject (option_copied reads.entry)) }
+{
+    if let Subject::Pair(..) = subject {
+        return Ok(());
+    }
+    let reads = copy_of(alloc, reads)?;
+    changes.push(ReadChange { subject, reads })?;
+    Ok(())
+}
+
+// A copy of the keys, if there are any.
+fn copy_of(alloc: Global, keys: Option<&Keys>) -> Result<Option<Keys>, AllocError>
+    ensures { IfOk result (λ copy. copy ≡ option_copied keys.entry) }
+{
+    match keys {
+        Some(keys) => Ok(Some(keys.copy(alloc)?)),
+        None => Ok(None),
     }
 }
