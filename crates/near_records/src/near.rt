@@ -2,6 +2,7 @@
 
 ghost use Rattle.std.specs.Prelude.{◌≡◌, ◌+◌, ◌≤◌, IfOk, List, Some, length, map, nat_lt, option_map, true};
 ghost use Rattle.std.specs.Option.{option_copied};
+ghost use Rattle.std.specs.Ordering.{is_lt};
 ghost use Rattle.s57_types.specs.declared.cell.Cell.{Cell as SpecCell};
 ghost use Rattle.cell_spec.specs.declared.key.Key.{Key as SpecKey};
 ghost use Rattle.cell_spec.specs.declared.key.Key.TheVariants.{Foid as KeyFoid, Name as KeyName};
@@ -77,17 +78,31 @@ fn answers_to<'a, B: Look, L: Ledger>(
     ensures answers { IfOk result (λ answers. map answer_held answers.items ≡ map (spec_answer (B.cell look.now)) keys.now) }
     ensures steps { steps.new ≤ steps.old + length keys.now }
 {
-    let mut answers = Vec::new(alloc);
+    let mut answers = Vec::with_capacity(alloc, keys.len())?;
     for key in keys {
         answers.push(answer_to(look, *key, steps))?;
     }
     Ok(answers)
 }
 
+fn is_below(key: Key, other: Key) -> bool
+    ensures { result ≡ is_lt (key_order key other) }
+{
+    orders_are_by_parts();
+    key.cmp(&other).is_lt()
+}
+
+/// Whether keys ascend, each once, as those of a read set do.
+fn ascend(keys: &[Key]) -> bool
+    ensures { result ≡ true → ascending key_order keys.now ≡ keys.now }
+{
+    keys.is_sorted_by(|key, next| is_below(*key, *next))
+}
+
 fn ascending_copy(alloc: Global, keys: &[Key]) -> Result<Keys, AllocError>
     ensures { IfOk result (λ held. held ≡ ascending key_order keys.now) }
 {
-    let mut held = Vec::new(alloc);
+    let mut held = Vec::with_capacity(alloc, keys.len())?;
     held.extend_from_slice(keys)?;
     Ok(ascending_keys(held))
 }
@@ -104,6 +119,11 @@ pub fn gather<'a, B: Look, L: Ledger>(
     ensures near { IfOk result (λ near. IsNear (B.cell look.now) keys.now near) }
     ensures steps { steps.new ≤ steps.old + length keys.now }
 {
+    if ascend(keys) {
+        return Ok(NearRecords {
+            answers: answers_to(alloc, look, keys, steps)?,
+        });
+    }
     let held = ascending_copy(alloc, keys)?;
     let answers = answers_to(alloc, look, held.as_slice(), steps)?;
     Ok(NearRecords { answers })

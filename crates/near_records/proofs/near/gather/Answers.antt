@@ -7,9 +7,9 @@ use Rattle.near_records.proofs.near.gather.Goals as goal
 pub returns-in_err-answers-clause-steps : goal.returns-in_err-answers-clause-steps
 returns-in_err-answers-clause-steps g c =
     let same : c.as_slice.result.now ≡ ascending key_order c.args.keys.now = cc (c.in_ok-held.ensures) in
-    omega (arith, c.answers_to.ensures.steps, ap length same, shorter_ascending key_order c.args.keys.now)
+    omega (arith, c.answers_to-2.ensures.steps, ap length same, shorter_ascending key_order c.args.keys.now)
 
 pub returns-clause-steps : goal.returns-clause-steps
 returns-clause-steps g c =
     let same : c.as_slice.result.now ≡ ascending key_order c.args.keys.now = cc (c.in_ok-held.ensures) in
-    omega (arith, c.answers_to.ensures.steps, ap length same, shorter_ascending key_order c.args.keys.now)
+    omega (arith, c.answers_to-2.ensures.steps, ap length same, shorter_ascending key_order c.args.keys.now)
