@@ -145,31 +145,44 @@ module _ (c : Cell) (n : RecName) (f : Feature) (found : lookup_record c n ≡ S
       ∙ any-map (λ k. list_any t (ends_of_key c k)) (λ (s : Spot). Name s.to) f.places
       ∙ sym (any-flat_map t (λ (s : Spot). end_keys_at c s.to) f.places)
 
-  or_regroup : (a b c d e : Bool) → (((a || (b || c)) || d) || e) ≡ (a || (b || ((c || d) || e)))
-  or_regroup true b c d e = refl
-  or_regroup false true c d e = refl
-  or_regroup false false c d e = refl
+  or_regroup : (a b c d e : Bool) → ((d || (a || (b || c))) || e) ≡ (a || (b || ((c || d) || e)))
+  or_regroup true b c true e = refl
+  or_regroup true b c false e = refl
+  or_regroup false true c true e = refl
+  or_regroup false true c false e = refl
+  or_regroup false false true true e = refl
+  or_regroup false false true false e = refl
+  or_regroup false false false true e = refl
+  or_regroup false false false false e = refl
+
+  -- the names of the ends, each once
+  bounds : List Key
+  bounds = ascending key_order (cond (f.prim == 3) (flat_map (ends_of_key c) named) [])
+
+  any_bounds : list_any t bounds ≡ list_any t (boundary_keys c f)
+  unfolding bounds boundary_keys
+  any_bounds = any-ascending key_order exact_keys t (cond (f.prim == 3) (flat_map (ends_of_key c) named) []) ∙ any_boundary_by (f.prim == 3)
 
   -- the keys that are gathered pass a test where the keys that are read do
-  any_read : list_any t ((named ++ cond (f.prim == 3) (flat_map (ends_of_key c) named) []) ++ partner_keys f) ≡ list_any t (keys_read c (Rec n))
-  unfolding boundary_keys
+  any_read : list_any t ((bounds ++ named) ++ partner_keys f) ≡ list_any t (keys_read c (Rec n))
   any_read =
-      list_any-append t (named ++ cond (f.prim == 3) (flat_map (ends_of_key c) named) []) (partner_keys f)
-      ∙ ap (λ b. b || list_any t (partner_keys f)) (list_any-append t named (cond (f.prim == 3) (flat_map (ends_of_key c) named) []))
-      ∙ (λ i. (any_named i || any_boundary_by (f.prim == 3) i) || list_any t (partner_keys f))
+      list_any-append t (bounds ++ named) (partner_keys f)
+      ∙ ap (λ b. b || list_any t (partner_keys f)) (list_any-append t bounds named)
+      ∙ (λ i. (any_bounds i || any_named i) || list_any t (partner_keys f))
       ∙ or_regroup (t (Name n)) (t (Name head_name)) (list_any t (place_keys f)) (list_any t (boundary_keys c f)) (list_any t (partner_keys f))
       ∙ ap (λ b. t (Name n) || (t (Name head_name) || (b || list_any t (partner_keys f)))) (sym (list_any-append t (place_keys f) (boundary_keys c f)))
       ∙ ap (λ b. t (Name n) || (t (Name head_name) || b)) (sym (list_any-append t (place_keys f ++ boundary_keys c f) (partner_keys f)))
       ∙ ap (list_any t) (sym (feature_reads c n f found))
 
--- the read set of a feature from its own name, the records that it names, the ends of these, and its partners
+-- the read set of a feature from the ends of the records that it names, these with its own name, and its partners
 pub feature_set : (c : Cell) (n : RecName) (f : Feature) → lookup_record c n ≡ Some (F f) → (named : List Key)
     → named ≡ ascending key_order (Name n ∷ (Name head_name ∷ map (λ (s : Spot). Name s.to) f.places))
-    → ascending key_order ((named ++ cond (f.prim == 3) (flat_map (ends_of_key c) named) []) ++ map (λ (p : Partner). Foid p.to) f.partners) ≡
-    read_set c (Rec n)
-unfolding read_set named place_keys partner_keys
+    → ascending key_order ((ascending key_order (cond (f.prim == 3) (flat_map (ends_of_key c) named) []) ++ named)
+    ++ map (λ (p : Partner). Foid p.to) f.partners) ≡ read_set c (Rec n)
+unfolding read_set named bounds place_keys partner_keys
 feature_set c n f found held is =
-    let all = λ (named : List Key). (named ++ cond (f.prim == 3) (flat_map (ends_of_key c) named) []) ++ map (λ (p : Partner). Foid p.to) f.partners in
+    let all = λ (named : List Key). (ascending key_order (cond (f.prim == 3) (flat_map (ends_of_key c) named) []) ++ named)
+    ++ map (λ (p : Partner). Foid p.to) f.partners in
     let own = ascending key_order (Name n ∷ (Name head_name ∷ map (λ (s : Spot). Name s.to) f.places)) in
     ap (λ named. ascending key_order (all named)) is
     ∙ same_when_sorted key_order total_keys exact_keys (ascending key_order (all own)) (ascending key_order (keys_read c (Rec n)))

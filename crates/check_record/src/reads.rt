@@ -29,7 +29,8 @@ pub(crate) fn vector_reads(
 ) -> Result<Keys, AllocError>
     ensures { (c : SpecCell) → lookup_record c name ≡ Some (V vector.now) → IfOk result (λ keys. keys ≡ read_set c (SubjectRec name)) }
 {
-    let mut keys = Vec::new(alloc);
+    let room = vector.ends.len().saturating_add(1);
+    let mut keys = Vec::with_capacity(alloc, room)?;
     push_vector_keys(&mut keys, name, vector)?;
     Ok(ascending_keys(keys))
 }
@@ -38,7 +39,8 @@ pub(crate) fn vector_reads(
 fn named_keys(alloc: Global, name: RecName, feature: &Feature) -> Result<Keys, AllocError>
     ensures { IfOk result (λ keys. keys ≡ ascending key_order (KeyName name ∷ KeyName head_name ∷ map (λ (s : SpecSpot). KeyName s.to) feature.now.places)) }
 {
-    let mut keys = Vec::new(alloc);
+    let room = feature.places.len().saturating_add(2);
+    let mut keys = Vec::with_capacity(alloc, room)?;
     keys.push(Key::Name(name))?;
     keys.push(Key::Name(RecName::of_head()))?;
     for spot in feature.places.as_slice() {
@@ -66,24 +68,42 @@ fn push_ends_of<B: Look, L: Ledger>(
     }
 }
 
-/// Appends, for an area, the names that the ends of its edges name. Each key is looked up once.
-fn push_boundary_keys<B: Look, L: Ledger>(
+/// Appends the names that the ends of the edges name that keys ask for. Each key is looked up once.
+fn push_all_ends<B: Look, L: Ledger>(
     keys: &mut Vec<Key>,
     look: &B,
-    prim: u8,
     named: &[Key],
     steps: &mut Steps<L>,
 ) -> Result<(), AllocError>
-    ensures keys { OnOk result (keys.new.items ≡ keys.old.items ++ (if prim == 3 then flat_map (ends_of_key (B.cell look.now)) named.now else [])) }
+    ensures keys { OnOk result (keys.new.items ≡ keys.old.items ++ flat_map (ends_of_key (B.cell look.now)) named.now) }
     ensures steps { steps.new ≤ steps.old + length named.now }
 {
-    if prim != 3 {
-        return Ok(());
-    }
     for key in named {
         push_ends_of(keys, look, *key, steps)?;
     }
     Ok(())
+}
+
+/// The names that the ends of an area's edges name, each once; of another feature none. There is room for as many keys as are named here
+/// and for `more`, where each edge has two ends.
+fn boundary_keys<B: Look, L: Ledger>(
+    alloc: Global,
+    look: &B,
+    prim: u8,
+    named: &[Key],
+    more: usize,
+    steps: &mut Steps<L>,
+) -> Result<Keys, AllocError>
+    ensures keys { IfOk result (λ keys. keys ≡ ascending key_order (if prim == 3 then flat_map (ends_of_key (B.cell look.now)) named.now else [])) }
+    ensures steps { steps.new ≤ steps.old + length named.now }
+{
+    if prim != 3 {
+        return Ok(Keys::of_vec(Vec::with_capacity(alloc, more)?));
+    }
+    let room = named.len().saturating_mul(2).saturating_add(more);
+    let mut keys = Vec::with_capacity(alloc, room)?;
+    push_all_ends(&mut keys, look, named, steps)?;
+    Ok(ascending_keys(keys))
 }
 
 /// Appends the identifiers of the features that a feature points to (FFPT, S-57 Part 3, 7.6.6).
@@ -97,7 +117,7 @@ fn push_partner_keys(keys: &mut Vec<Key>, partners: &[Partner]) -> Result<(), Al
 }
 
 /// The keys of a feature, where `named` are those of its name, of the head and of the records that its spatial pointers
-/// name.
+/// name. The connected nodes of an area come first, as they do in order: so the keys mostly ascend already.
 fn gathered_keys<B: Look, L: Ledger>(
     alloc: Global,
     look: &B,
@@ -105,14 +125,15 @@ fn gathered_keys<B: Look, L: Ledger>(
     named: &[Key],
     steps: &mut Steps<L>,
 ) -> Result<Vec<Key>, AllocError>
-    ensures keys { IfOk result (λ keys. keys.items ≡ (named.now
-        ++ (if feature.now.prim == 3 then flat_map (ends_of_key (B.cell look.now)) named.now else []))
-        ++ map (λ (p : SpecPartner). KeyFoid p.to) feature.now.partners) }
+    ensures keys { IfOk result (λ keys. keys.items ≡ (ascending key_order
+        (if feature.now.prim == 3 then flat_map (ends_of_key (B.cell look.now)) named.now else [])
+        ++ named.now) ++ map (λ (p : SpecPartner). KeyFoid p.to) feature.now.partners) }
     ensures steps { steps.new ≤ steps.old + length named.now }
 {
-    let mut keys = Vec::new(alloc);
+    let more = named.len().saturating_add(feature.partners.len());
+    let bounds = boundary_keys(alloc, look, feature.prim, named, more, steps)?;
+    let mut keys = bounds.into_vec();
     keys.extend_from_slice(named)?;
-    push_boundary_keys(&mut keys, look, feature.prim, named, steps)?;
     push_partner_keys(&mut keys, feature.partners.as_slice())?;
     Ok(keys)
 }

@@ -8,4 +8,4 @@ pub returns : goal.returns
 unfolding read_set
 returns c = λ cell found.
     c.ascending_keys.ensures ∙ ap (ascending key_order) (c.in_ok-push_vector_keys.ensures cell found
-    ∙ ap (λ xs. xs ++ record_keys cell c.args.name) c.new-keys.ensures.items)
+    ∙ ap (λ xs. xs ++ record_keys cell c.args.name) c.in_ok-keys.ensures.items)

@@ -1,7 +1,7 @@
 use Rattle.std.proofs.Common.{◌≡◌, ◌≤◌, ◌+◌, ◌++◌, take}
 use Rattle.std.specs.List.{flat_map}
 use Rattle.check_record.specs.EndKeys.{ends_of_key}
-use Rattle.check_record.proofs.reads.push_boundary_keys.Given as goal
+use Rattle.check_record.proofs.reads.push_all_ends.Given as goal
 
 abbrev pub invariant-loop-key : goal.invariant-loop-key
 invariant-loop-key g l =
