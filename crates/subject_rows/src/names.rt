@@ -36,7 +36,7 @@ pub fn part_names(alloc: Global, subjects: &[Subject]) -> Result<Names, AllocErr
     ensures chained { (c : SpecCell) → All (λ (s : SpecSubject). IsTrue (is_subject c s)) subjects.now
         → IfOk result (λ names. All (λ (n : SpecRecName). IsTrue (is_chain_part c n)) names) }
 {
-    let mut names = Vec::new(alloc);
+    let mut names = Vec::with_capacity(alloc, subjects.len().saturating_mul(2))?;
     push_pair_names(&mut names, subjects)?;
     Ok(ascending_names(names))
 }
