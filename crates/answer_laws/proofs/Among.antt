@@ -1,30 +1,6 @@
 -- What stands among the items of a list.
-use Rattle.std.proofs.Common.{
-  ◌≡◌,
-  ◌⊎◌,
-  inl,
-  inr,
-  Bool,
-  true,
-  false,
-  ◌||◌,
-  List,
-  [],
-  ◌∷◌,
-  ◌++◌,
-  Option,
-  None,
-  Some,
-  cond,
-  filter,
-  find,
-  map,
-  refl,
-  sym,
-  ap,
-  ◌∙◌,
-  subst,
-}
+use Rattle.std.proofs.Common.{◌≡◌, ◌⊎◌, inl, inr, Bool, true, false, ◌||◌, List, [], ◌∷◌, ◌++◌, Option, None, Some, cond, filter, find, map, refl, sym, ap}
+use Rattle.std.proofs.Common.{◌∙◌, subst}
 use Rattle.std.specs.Prelude.{filter_map}
 use Rattle.std.proofs.lemmas.Bool.{and_from, and_parts, or_right}
 use Rattle.std.specs.List.{list_any, list_all, AllByRecursion, cons_option, IsDistinct}

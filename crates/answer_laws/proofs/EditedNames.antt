@@ -21,21 +21,8 @@ use Rattle.cell_spec.specs.Names.{same_name, is_of_kind}
 use Rattle.cell_spec.specs.Writable.{HaveDistinctNames}
 use Rattle.cell_spec.proofs.Orders.{one_when_same, same_from_either}
 use Rattle.answer_laws.specs.EditedAnswers.{FindTheirRecords, has_a_list, record_after}
-use Rattle.answer_laws.proofs.Among.{
-  Among,
-  among_append,
-  any_passes,
-  each_among,
-  each_mapped,
-  known_of,
-  mapped,
-  origin,
-  among_mapped,
-  found,
-  none_found,
-  each_passes,
-  one_of_name,
-}
+use Rattle.answer_laws.proofs.Among.{Among, among_append, any_passes, each_among, each_mapped, known_of, mapped, origin, among_mapped, found, none_found}
+use Rattle.answer_laws.proofs.Among.{each_passes, one_of_name}
 use Rattle.answer_laws.proofs.Distinct.{distinct_both, distinct_mapped}
 use Rattle.answer_laws.proofs.EditedRecords.{any_edited, changed_in, names_listed, no_head, not_new, records_moved}
 

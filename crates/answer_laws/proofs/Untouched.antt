@@ -1,31 +1,6 @@
 -- A key that edits don't touch keeps its answer.
-use Rattle.std.proofs.Common.{
-  ◌≡◌,
-  inl,
-  inr,
-  ℕ,
-  ◌+◌,
-  Bool,
-  true,
-  false,
-  ◌||◌,
-  ◌&&◌,
-  List,
-  [],
-  ◌∷◌,
-  ◌++◌,
-  Option,
-  None,
-  Some,
-  cond,
-  map,
-  filter,
-  refl,
-  sym,
-  ap,
-  ◌∙◌,
-  subst,
-}
+use Rattle.std.proofs.Common.{◌≡◌, inl, inr, ℕ, ◌+◌, Bool, true, false, ◌||◌, ◌&&◌, List, [], ◌∷◌, ◌++◌, Option, None, Some, cond, map, filter, refl, sym}
+use Rattle.std.proofs.Common.{ap, ◌∙◌, subst}
 use Rattle.std.specs.Prelude.{filter_map, flat_map, not, option_to_list}
 use Rattle.std.specs.List.{list_any, enumerate_from}
 use Rattle.std.specs.Ordering.{is_eq}
@@ -44,33 +19,12 @@ use Rattle.cell_spec.specs.declared.key.Key.TheVariants.{Name, Refs, Foid}
 use Rattle.cell_spec.specs.declared.key.Ref.{Ref}
 use Rattle.cell_spec.specs.Ascending.{order_by}
 use Rattle.cell_spec.specs.Edits.{name_of_edit, left_by, edit_of, head_by, keys_of_edit, keys_answered_by, touched_keys, apply_edits}
-use Rattle.cell_spec.specs.Lookup.{
-  all_records,
-  head_and_records,
-  name_of,
-  is_named,
-  targets_of,
-  identities_of,
-  bears,
-  pointers_in,
-  lookup_record,
-  lookup_pointers,
-  lookup_identity,
-}
+use Rattle.cell_spec.specs.Lookup.{all_records, head_and_records, name_of, is_named, targets_of, identities_of, bears, pointers_in, lookup_record}
+use Rattle.cell_spec.specs.Lookup.{lookup_pointers, lookup_identity}
 use Rattle.cell_spec.specs.Names.{key_order, ref_order, name_order, identity_parts, same_name}
 use Rattle.cell_spec.proofs.Ascending.{holds, holds-ascending, sorted-ascending, same_when_sorted}
-use Rattle.cell_spec.proofs.Orders.{
-  names_tie,
-  identities_tie,
-  one_when_same,
-  total_refs,
-  exact_refs,
-  total_names,
-  exact_names,
-  exact_keys,
-  same_from_either,
-  total_identities,
-}
+use Rattle.cell_spec.proofs.Orders.{names_tie, identities_tie, one_when_same, total_refs, exact_refs, total_names, exact_names, exact_keys, same_from_either}
+use Rattle.cell_spec.proofs.Orders.{total_identities}
 use Rattle.cell_spec.specs.AnswersAlike.{AnswerAlike}
 use Rattle.answer_laws.specs.EditedAnswers.{FindTheirRecords, is_unedited, edited_answer, is_touched, record_after}
 use Rattle.answer_laws.proofs.Among.{Among, passing, any_passes, in_back, origin, found, found_only, one_of_name}

@@ -13,19 +13,8 @@ use Rattle.cell_spec.specs.declared.key.Subject.{Subject}
 use Rattle.cell_spec.specs.Edits.{apply_edits, is_applicable, touched_keys}
 use Rattle.cell_spec.specs.Names.{same_subject}
 use Rattle.cell_spec.proofs.SubjectOrder.{total_subjects}
-use Rattle.rule_spec.specs.Affected.{
-  affected_list,
-  change_by,
-  considered,
-  each_once,
-  exact_row,
-  has_valid_row,
-  is_single,
-  is_still_valid,
-  judged_anew,
-  lookup_budget,
-  plan_budget,
-}
+use Rattle.rule_spec.specs.Affected.{affected_list, change_by, considered, each_once, exact_row, has_valid_row, is_single, is_still_valid, judged_anew}
+use Rattle.rule_spec.specs.Affected.{lookup_budget, plan_budget}
 use Rattle.rule_spec.specs.Findings.{is_subject}
 use Rattle.cell_bench.specs.Benches.{AreReady}
 use Rattle.bench_tests.specs.ReadyRows.{AreRowsAfter}

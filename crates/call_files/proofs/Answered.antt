@@ -1,39 +1,6 @@
 -- What the answers of steps tell of the steps that they are part of.
-use Rattle.std.proofs.Common.{
-  ◌≡◌,
-  ◌⊎◌,
-  inl,
-  inr,
-  ℕ,
-  zero,
-  suc,
-  ◌+◌,
-  ◌<◌,
-  ◌≤◌,
-  List,
-  [],
-  ◌∷◌,
-  ◌++◌,
-  length,
-  get_or,
-  map,
-  Option,
-  Some,
-  None,
-  Result,
-  Ok,
-  Err,
-  String,
-  Global,
-  string_bytes,
-  refl,
-  sym,
-  ap,
-  ◌∙◌,
-  subst,
-  length-append,
-  arith,
-}
+use Rattle.std.proofs.Common.{◌≡◌, ◌⊎◌, inl, inr, ℕ, zero, suc, ◌+◌, ◌<◌, ◌≤◌, List, [], ◌∷◌, ◌++◌, length, get_or, map, Option, Some, None, Result, Ok, Err}
+use Rattle.std.proofs.Common.{String, Global, string_bytes, refl, sym, ap, ◌∙◌, subst, length-append, arith}
 use Rattle.std.specs.Prelude.{IfErr, IfOk, IfSome, slice_index_or}
 use Rattle.std.proofs.lemmas.List.{get_or-map}
 use Rattle.std.proofs.lemmas.Bool.{cases_lt}
@@ -43,26 +10,9 @@ use Rattle.text_spec.specs.declared.command.Command.{Command}
 use Rattle.call_files.specs.Inputs.{AreScripts, IsInputStatus, IsReachedScript, ScriptIs, ScriptsAre}
 use Rattle.call_files.specs.Inputs.{Tells}
 use Rattle.report_text.specs.declared.status.Status.{Status}
-use Rattle.report_text.specs.declared.status.Status.TheVariants.{
-  Done,
-  Usage,
-  Absent,
-  BadCell,
-  BadScript,
-  ReadFault,
-  WriteFault,
-  TooLarge,
-  NoMemory,
-  BadOrder,
-  Stuck,
-  TooManyFindings,
-  BadUpdate,
-  Refused,
-  BadJournal,
-  DiskFault,
-  OpRefused,
-  JournalFull,
-}
+use Rattle.report_text.specs.declared.status.Status.TheVariants.{Done, Usage, Absent, BadCell, BadScript, ReadFault, WriteFault, TooLarge, NoMemory}
+use Rattle.report_text.specs.declared.status.Status.TheVariants.{BadOrder, Stuck, TooManyFindings, BadUpdate, Refused, BadJournal, DiskFault, OpRefused}
+use Rattle.report_text.specs.declared.status.Status.TheVariants.{JournalFull}
 
 pub both_told : {P Q R : Files → Type 0} (files : Option Files) → IfSome files P → IfSome files Q → ((fs : Files) → P fs → Q fs → R fs) → IfSome files R
 both_told None p q make = tt

@@ -9,26 +9,9 @@ use Rattle.script_text.proofs.Readings.{same_readings}
 use Rattle.text_spec.specs.declared.command.Command.{Command}
 use Rattle.call_files.specs.Inputs.{AndThen, AreScripts, CellIs, FileIs, IsFirstBad, OrderIs, ScriptIn, ScriptIs, ScriptsAre, cell_limit, order_limit, script_limit}
 use Rattle.report_text.specs.declared.status.Status.{Status}
-use Rattle.report_text.specs.declared.status.Status.TheVariants.{
-  Done,
-  Usage,
-  Absent,
-  BadCell,
-  BadScript,
-  ReadFault,
-  WriteFault,
-  TooLarge,
-  NoMemory,
-  BadOrder,
-  Stuck,
-  TooManyFindings,
-  BadUpdate,
-  Refused,
-  BadJournal,
-  DiskFault,
-  OpRefused,
-  JournalFull,
-}
+use Rattle.report_text.specs.declared.status.Status.TheVariants.{Done, Usage, Absent, BadCell, BadScript, ReadFault, WriteFault, TooLarge, NoMemory}
+use Rattle.report_text.specs.declared.status.Status.TheVariants.{BadOrder, Stuck, TooManyFindings, BadUpdate, Refused, BadJournal, DiskFault, OpRefused}
+use Rattle.report_text.specs.declared.status.Status.TheVariants.{JournalFull}
 
 -- a relation that has one answer at most
 abbrev pub IsOne : {A : Type 0} → (A → Type 0) → Type 0

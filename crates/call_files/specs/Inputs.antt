@@ -13,26 +13,9 @@ use Rattle.script_text.specs.Faults.{IsFirstFault}
 use Rattle.text_spec.specs.declared.command.Command.{Command}
 use Rattle.history_spec.specs.Steps.{finding_limit}
 use Rattle.report_text.specs.declared.status.Status.{Status}
-use Rattle.report_text.specs.declared.status.Status.TheVariants.{
-  Done,
-  Usage,
-  Absent,
-  BadCell,
-  BadScript,
-  ReadFault,
-  WriteFault,
-  TooLarge,
-  NoMemory,
-  BadOrder,
-  Stuck,
-  TooManyFindings,
-  BadUpdate,
-  Refused,
-  BadJournal,
-  DiskFault,
-  OpRefused,
-  JournalFull,
-}
+use Rattle.report_text.specs.declared.status.Status.TheVariants.{Done, Usage, Absent, BadCell, BadScript, ReadFault, WriteFault, TooLarge, NoMemory}
+use Rattle.report_text.specs.declared.status.Status.TheVariants.{BadOrder, Stuck, TooManyFindings, BadUpdate, Refused, BadJournal, DiskFault, OpRefused}
+use Rattle.report_text.specs.declared.status.Status.TheVariants.{JournalFull}
 
 -- how many bytes input files may have
 abbrev pub cell_limit : ℕ

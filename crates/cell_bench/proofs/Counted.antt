@@ -12,19 +12,8 @@ use Rattle.cell_spec.specs.declared.finding.Row.{Row}
 use Rattle.cell_spec.specs.declared.key.Key.{Key}
 use Rattle.cell_spec.specs.declared.key.Subject.{Subject}
 use Rattle.cell_spec.specs.Edits.{apply_edits, is_applicable, touched_keys}
-use Rattle.rule_spec.specs.Affected.{
-  affected_list,
-  change_by,
-  considered,
-  each_once,
-  exact_row,
-  has_valid_row,
-  is_affected,
-  judged_anew,
-  lookup_budget,
-  plan_budget,
-  reads_counted,
-}
+use Rattle.rule_spec.specs.Affected.{affected_list, change_by, considered, each_once, exact_row, has_valid_row, is_affected, judged_anew, lookup_budget}
+use Rattle.rule_spec.specs.Affected.{plan_budget, reads_counted}
 use Rattle.rule_spec.specs.Findings.{all_findings, finding_total, findings_among, findings_of_subject, is_subject, subjects}
 use Rattle.rule_spec.specs.Reads.{read_set}
 use Rattle.answer_laws.specs.EditedAnswers.{FindTheirRecords}

@@ -1,30 +1,6 @@
 -- What a refusal because of records or the head says of all refusals, and what it says that there is none.
-use Rattle.std.proofs.Common.{
-  ◌≡◌,
-  ℕ,
-  ◌<◌,
-  ◌≤◌,
-  ◌&&◌,
-  Bool,
-  true,
-  false,
-  List,
-  [],
-  ◌∷◌,
-  length,
-  filter_map,
-  Option,
-  None,
-  Some,
-  is_some,
-  sym,
-  ap,
-  ◌∙◌,
-  refl,
-  subst,
-  arith,
-  if◌then◌else◌,
-}
+use Rattle.std.proofs.Common.{◌≡◌, ℕ, ◌<◌, ◌≤◌, ◌&&◌, Bool, true, false, List, [], ◌∷◌, length, filter_map, Option, None, Some, is_some, sym, ap, ◌∙◌, refl}
+use Rattle.std.proofs.Common.{subst, arith, if◌then◌else◌}
 use Rattle.std.specs.Prelude.{nat_lt, not}
 use Rattle.std.specs.Bool.{then_some}
 use Rattle.std.specs.List.{cons_option, list_any}

@@ -1,29 +1,6 @@
 -- The read sets of the subjects of a cell's records are those of all its records, sides and identifiers.
-use Rattle.std.proofs.Common.{
-  ◌≡◌,
-  inl,
-  inr,
-  ◌&&◌,
-  ◌||◌,
-  Bool,
-  true,
-  false,
-  List,
-  [],
-  ◌∷◌,
-  Option,
-  None,
-  Some,
-  cond,
-  is_some,
-  map,
-  length,
-  refl,
-  sym,
-  ap,
-  ◌∙◌,
-  subst,
-}
+use Rattle.std.proofs.Common.{◌≡◌, inl, inr, ◌&&◌, ◌||◌, Bool, true, false, List, [], ◌∷◌, Option, None, Some, cond, is_some, map, length, refl, sym, ap}
+use Rattle.std.proofs.Common.{◌∙◌, subst}
 use Rattle.std.specs.Prelude.{All, IsTrue, nat_lt, flat_map, option_and_then}
 use Rattle.std.proofs.lemmas.List.Elements.{All-from_recursion}
 use Rattle.std.specs.Cmp.{both_ways, eq_by_cmp_equiv}

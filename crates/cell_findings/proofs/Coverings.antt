@@ -1,31 +1,6 @@
 -- Names put at their points give the coverings of a cell.
-use Rattle.std.proofs.Common.{
-  ◌≡◌,
-  ℕ,
-  ◌⊎◌,
-  inl,
-  inr,
-  ◌&&◌,
-  ◌||◌,
-  ◌++◌,
-  Bool,
-  true,
-  false,
-  List,
-  [],
-  ◌∷◌,
-  Option,
-  Some,
-  None,
-  cond,
-  is_some,
-  map,
-  refl,
-  sym,
-  ap,
-  ◌∙◌,
-  arith,
-}
+use Rattle.std.proofs.Common.{◌≡◌, ℕ, ◌⊎◌, inl, inr, ◌&&◌, ◌||◌, ◌++◌, Bool, true, false, List, [], ◌∷◌, Option, Some, None, cond, is_some, map, refl, sym}
+use Rattle.std.proofs.Common.{ap, ◌∙◌, arith}
 use Rattle.std.specs.Prelude.{◌==◌, flat_map, option_and_then, option_to_list}
 use Rattle.std.specs.List.Sorted.{IsStrictlySortedBy}
 use Rattle.std.specs.Option.{option_map_or}

@@ -1,32 +1,6 @@
 -- The generated cell can be written.
-use Rattle.std.proofs.Common.{
-  ◌≡◌,
-  ℕ,
-  zero,
-  suc,
-  ◌+◌,
-  ◌*◌,
-  ◌<◌,
-  ◌≤◌,
-  Bool,
-  true,
-  false,
-  [],
-  ◌++◌,
-  length,
-  map,
-  refl,
-  sym,
-  ap,
-  ◌∙◌,
-  subst,
-  append_assoc,
-  append-nil,
-  inl,
-  inr,
-  arith,
-  ◌&&◌,
-}
+use Rattle.std.proofs.Common.{◌≡◌, ℕ, zero, suc, ◌+◌, ◌*◌, ◌<◌, ◌≤◌, Bool, true, false, [], ◌++◌, length, map, refl, sym, ap, ◌∙◌, subst, append_assoc}
+use Rattle.std.proofs.Common.{append-nil, inl, inr, arith, ◌&&◌}
 use Rattle.std.specs.Prelude.{All, None, Some, Option, is_none}
 use Rattle.std.specs.List.{flat_map, range_with_len, list_all, IsDistinct}
 use Rattle.std.proofs.Math.Nat.{eq-or-lt_of_le, mul-le-mul}
@@ -44,17 +18,8 @@ use Rattle.cell_spec.specs.Names.{same_name}
 use Rattle.cell_spec.specs.Writable.{AreFit, IsWritable}
 use Rattle.cell_make.specs.Parts.{name}
 use Rattle.cell_make.specs.Squares.{row_of, each_place}
-use Rattle.cell_make.specs.GeneratedCell.{
-  node_at,
-  east_edge,
-  north_edge,
-  depth_area,
-  coverage_area,
-  generated_nodes,
-  generated_edges,
-  generated_areas,
-  generated_cell,
-}
+use Rattle.cell_make.specs.GeneratedCell.{node_at, east_edge, north_edge, depth_area, coverage_area, generated_nodes, generated_edges, generated_areas}
+use Rattle.cell_make.specs.GeneratedCell.{generated_cell}
 use Rattle.cell_make.proofs.Numbers.{names_from, node_names, edge_names, area_names, all_distinct}
 
 module _ (P : Rec → Type 0) (item : ℕ → ℕ → Rec) (each : (row column : ℕ) → P (item row column)) where

@@ -1,31 +1,6 @@
 -- Each record is drawn once, each finding is marked once if it is anywhere, and listed once.
-use Rattle.std.proofs.Common.{
-  ◌≡◌,
-  ℕ,
-  ◌+◌,
-  ◌||◌,
-  Bool,
-  true,
-  false,
-  cond,
-  List,
-  [],
-  ◌∷◌,
-  ◌++◌,
-  Option,
-  None,
-  Some,
-  filter,
-  filter_map,
-  map,
-  length,
-  nat_le,
-  is_some,
-  append-nil,
-  refl,
-  ap,
-  ◌∙◌,
-}
+use Rattle.std.proofs.Common.{◌≡◌, ℕ, ◌+◌, ◌||◌, Bool, true, false, cond, List, [], ◌∷◌, ◌++◌, Option, None, Some, filter, filter_map, map, length, nat_le}
+use Rattle.std.proofs.Common.{is_some, append-nil, refl, ap, ◌∙◌}
 use Rattle.std.specs.List.{cons_option, enumerate_from, flat_map}
 use Rattle.std.proofs.lemmas.List.Elements.{filter_map-append}
 use Rattle.s57_types.specs.declared.cell.Cell.{Cell}
@@ -46,28 +21,8 @@ use Rattle.cell_picture.specs.declared.shape.TheConstants.{MARK_LIMIT}
 use Rattle.picture_places.specs.Labels.{anchor_of}
 use Rattle.cell_picture.specs.Laws.{EachIsDrawnOnce, is_drawn, is_numbered_somewhere, is_somewhere, line_marked, name_drawn, number_marked, numbered_line}
 use Rattle.cell_picture.specs.Laws.{numbered_marks, row_listed}
-use Rattle.cell_picture.specs.Shapes.{
-  Shape,
-  area_figure,
-  area_shapes,
-  drawing_order,
-  figure,
-  finding_shapes,
-  mark,
-  mark_at,
-  marks_from,
-  place_of,
-  record_shapes,
-  row,
-  row_of,
-  rows_from,
-  shapes,
-  spot,
-  spot_at,
-  spot_of,
-  taken_with,
-  vector_figure,
-}
+use Rattle.cell_picture.specs.Shapes.{Shape, area_figure, area_shapes, drawing_order, figure, finding_shapes, mark, mark_at, marks_from, place_of}
+use Rattle.cell_picture.specs.Shapes.{record_shapes, row, row_of, rows_from, shapes, spot, spot_at, spot_of, taken_with, vector_figure}
 use Rattle.picture_places.specs.Strokes.{Stroke}
 
 -- what is asked of records alone, of findings alone, of rows alone, the others don't answer

@@ -11,20 +11,8 @@ use Rattle.picture_places.specs.Labels.{anchor_of, field_of, free_field}
 use Rattle.picture_places.specs.declared.page.PagePoint.{PagePoint}
 use Rattle.picture_places.specs.Strokes.{Stroke}
 use Rattle.cell_picture.specs.ShapeText.{mark_text, row_text, shape_text, spot_text}
-use Rattle.cell_picture.specs.Shapes.{
-  drawing_order,
-  finding_shapes,
-  mark_at,
-  mark_in,
-  marks_from,
-  place_of,
-  record_shapes,
-  row_of,
-  rows_from,
-  shapes,
-  spot_at,
-  taken_with,
-}
+use Rattle.cell_picture.specs.Shapes.{drawing_order, finding_shapes, mark_at, mark_in, marks_from, place_of, record_shapes, row_of, rows_from, shapes}
+use Rattle.cell_picture.specs.Shapes.{spot_at, taken_with}
 
 pub rows_more : (k : ℕ) (fs : List SubjectFinding) (d : SubjectFinding) → k < length fs
     → flat_map shape_text (rows_from (k + 1) (drop k fs)) ≡

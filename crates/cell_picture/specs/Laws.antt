@@ -1,26 +1,6 @@
 -- What holds of every picture. This project's own.
-use Rattle.std.specs.Prelude.{
-  ◌≡◌,
-  ℕ,
-  ◌<◌,
-  ◌||◌,
-  ◌==◌,
-  Bool,
-  true,
-  false,
-  List,
-  [],
-  Option,
-  None,
-  Some,
-  filter,
-  filter_map,
-  is_some,
-  length,
-  map,
-  nat_le,
-  if◌then◌else◌,
-}
+use Rattle.std.specs.Prelude.{◌≡◌, ℕ, ◌<◌, ◌||◌, ◌==◌, Bool, true, false, List, [], Option, None, Some, filter, filter_map, is_some, length, map, nat_le}
+use Rattle.std.specs.Prelude.{if◌then◌else◌}
 use Rattle.std.specs.List.{All, enumerate_from}
 use Rattle.s57_types.specs.declared.cell.Cell.{Cell}
 use Rattle.s57_types.specs.declared.name.RecName.{RecName}

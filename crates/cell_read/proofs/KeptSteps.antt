@@ -3,20 +3,8 @@ use Rattle.std.proofs.Common.{◌≡◌, ◌≤◌, ℕ, Bool, true, false, nat_
 use Rattle.std.specs.Prelude.{if◌then◌else◌}
 use Rattle.std.specs.Result.{result_ok, result_unwrap_or}
 use Rattle.std.proofs.lemmas.Bool.Decides.{nat_tests}
-use Rattle.field_spec.specs.Contents.{
-  dsid_content,
-  dssi_content,
-  dspm_content,
-  frid_content,
-  foid_content,
-  attribute_content,
-  partner_content,
-  place_content,
-  vrid_content,
-  end_content,
-  plane_content,
-  deep_content,
-}
+use Rattle.field_spec.specs.Contents.{dsid_content, dssi_content, dspm_content, frid_content, foid_content, attribute_content, partner_content}
+use Rattle.field_spec.specs.Contents.{place_content, vrid_content, end_content, plane_content, deep_content}
 use Rattle.file_spec.specs.declared.tag.FieldTag.{FieldTag}
 use Rattle.file_spec.specs.declared.tag.FieldTag.TheVariants as tags
 use Rattle.cell_read.specs.Kept.{row_limit, kept_with, IsKept, all, enough, AreKept}

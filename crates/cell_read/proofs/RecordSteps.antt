@@ -2,14 +2,8 @@
 use Rattle.std.proofs.Common.{◌≡◌, ℕ, true, false, List, [], Option, None, Result, Ok, Err, refl, sym, ap, ◌∙◌}
 use Rattle.frame_spec.specs.RecordFrame.{Field}
 use Rattle.s57_types.specs.declared.record.Rec.{Rec}
-use Rattle.file_spec.specs.DecodedCell.{
-  general_information,
-  geographic_reference,
-  is_general_information,
-  is_geographic_reference,
-  vector_record,
-  feature_record,
-}
+use Rattle.file_spec.specs.DecodedCell.{general_information, geographic_reference, is_general_information, is_geographic_reference, vector_record}
+use Rattle.file_spec.specs.DecodedCell.{feature_record}
 use Rattle.file_spec.specs.RecordFaults.{◌>>=◌, ◌>>◌, demand}
 use Rattle.file_spec.specs.RecordReading.{record_type, fields_fault}
 use Rattle.file_spec.specs.declared.fault.RecordFault.{RecordFault}

@@ -2,20 +2,8 @@
 use Rattle.std.specs.Prelude.{ℕ, List, [], ◌++◌, take, drop, Option}
 use Rattle.std.specs.Result.{result_ok, result_unwrap_or}
 use Rattle.frame_spec.specs.RecordFrame.{Field}
-use Rattle.field_spec.specs.Contents.{
-  dsid_content,
-  dssi_content,
-  dspm_content,
-  frid_content,
-  foid_content,
-  attribute_content,
-  partner_content,
-  place_content,
-  vrid_content,
-  end_content,
-  plane_content,
-  deep_content,
-}
+use Rattle.field_spec.specs.Contents.{dsid_content, dssi_content, dspm_content, frid_content, foid_content, attribute_content, partner_content}
+use Rattle.field_spec.specs.Contents.{place_content, vrid_content, end_content, plane_content, deep_content}
 use Rattle.file_spec.specs.RecordReading.{fields_fault, value_of, rows_of}
 use Rattle.file_spec.specs.declared.fault.RecordFault.{RecordFault}
 use Rattle.file_spec.specs.declared.tag.FieldTag.{FieldTag}

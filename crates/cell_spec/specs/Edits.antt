@@ -1,28 +1,6 @@
 -- Record edits: which of them a cell takes, what they make of it, and the keys whose answers they can change. This project's own rules.
-use Rattle.std.specs.Prelude.{
-  ◌&&◌,
-  Bool,
-  true,
-  false,
-  not,
-  List,
-  [],
-  ◌∷◌,
-  ◌++◌,
-  Option,
-  None,
-  Some,
-  length,
-  map,
-  filter,
-  find,
-  filter_map,
-  flat_map,
-  option_to_list,
-  is_some,
-  nat_le,
-  nat_lt,
-}
+use Rattle.std.specs.Prelude.{◌&&◌, Bool, true, false, not, List, [], ◌∷◌, ◌++◌, Option, None, Some, length, map, filter, find, filter_map, flat_map}
+use Rattle.std.specs.Prelude.{option_to_list, is_some, nat_le, nat_lt}
 use Rattle.std.specs.List.{list_all, list_any}
 use Rattle.s57_types.specs.declared.name.Kind.{Kind}
 use Rattle.s57_types.specs.declared.name.Kind.TheVariants.{Vi, Vc, Ve, Fe, Head as HeadKind}

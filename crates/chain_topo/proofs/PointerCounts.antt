@@ -1,30 +1,6 @@
 -- A record that can be written has fewer pointers than a record may have bytes: each takes a byte or more.
-use Rattle.std.proofs.Common.{
-  ◌≡◌,
-  ℕ,
-  ◌<◌,
-  ◌≤◌,
-  true,
-  false,
-  Bool,
-  List,
-  [],
-  ◌∷◌,
-  ◌++◌,
-  length,
-  sum_by,
-  codes,
-  map,
-  None,
-  Some,
-  refl,
-  sym,
-  subst,
-  ltb-false,
-  arith,
-  length-append,
-  if◌then◌else◌,
-}
+use Rattle.std.proofs.Common.{◌≡◌, ℕ, ◌<◌, ◌≤◌, true, false, Bool, List, [], ◌∷◌, ◌++◌, length, sum_by, codes, map, None, Some, refl, sym, subst, ltb-false}
+use Rattle.std.proofs.Common.{arith, length-append, if◌then◌else◌}
 use Rattle.std.specs.Prelude.{not, nat_lt}
 use Rattle.std.specs.List.{All, flat_map}
 use Rattle.std.specs.Borrow.{Bor}

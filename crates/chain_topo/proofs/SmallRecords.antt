@@ -1,31 +1,6 @@
 -- Small records can be written, and names that differ in their parts are distinct: for the cells of tests.
-use Rattle.std.proofs.Common.{
-  ◌≡◌,
-  ℕ,
-  ◌+◌,
-  ◌*◌,
-  ◌-◌,
-  ◌<◌,
-  ◌≤◌,
-  ◌&&◌,
-  Bool,
-  true,
-  false,
-  List,
-  [],
-  ◌∷◌,
-  ◌++◌,
-  length,
-  take,
-  map,
-  fold,
-  None,
-  Some,
-  refl,
-  ap,
-  ◌∙◌,
-  arith,
-}
+use Rattle.std.proofs.Common.{◌≡◌, ℕ, ◌+◌, ◌*◌, ◌-◌, ◌<◌, ◌≤◌, ◌&&◌, Bool, true, false, List, [], ◌∷◌, ◌++◌, length, take, map, fold, None, Some, refl, ap}
+use Rattle.std.proofs.Common.{◌∙◌, arith}
 use Rattle.std.specs.Prelude.{◌==◌, cond, not, nat_lt, ℤ, max, sum}
 use Rattle.std.specs.List.{list_all, IsDistinct, AllByRecursion, All}
 use Rattle.std.proofs.Math.Nat.{mul-le-mul}

@@ -1,37 +1,6 @@
 -- The parts of a boundary, place after place, and the rows that they are of.
-use Rattle.std.proofs.Common.{
-  ◌≡◌,
-  ℕ,
-  ◌+◌,
-  ◌<◌,
-  ◌==◌,
-  ◌&&◌,
-  Bool,
-  true,
-  false,
-  List,
-  [],
-  ◌∷◌,
-  ◌++◌,
-  Option,
-  None,
-  Some,
-  length,
-  map,
-  drop,
-  get_or,
-  filter_map,
-  option_map,
-  is_some,
-  cond,
-  refl,
-  sym,
-  ap,
-  ◌∙◌,
-  append_assoc,
-  append-nil,
-  arith,
-}
+use Rattle.std.proofs.Common.{◌≡◌, ℕ, ◌+◌, ◌<◌, ◌==◌, ◌&&◌, Bool, true, false, List, [], ◌∷◌, ◌++◌, Option, None, Some, length, map, drop, get_or}
+use Rattle.std.proofs.Common.{filter_map, option_map, is_some, cond, refl, sym, ap, ◌∙◌, append_assoc, append-nil, arith}
 use Rattle.std.specs.Prelude.{option_and_then, if◌then◌else◌}
 use Rattle.std.specs.BTreeMap.{BTreeMap}
 use Rattle.std.specs.List.{All, AllByRecursion, cons_option, enumerate_from, list_all}
@@ -52,23 +21,8 @@ use Rattle.rule_spec.specs.Reads.{read_set}
 use Rattle.geometry_spec.specs.Points.{Point}
 use Rattle.rule_spec.specs.declared.line.BoundaryRow.{BoundaryRow}
 use Rattle.rule_spec.specs.declared.line.EdgeLine.{EdgeLine}
-use Rattle.rule_spec.specs.Boundary.{
-  boundary_of,
-  boundary_row,
-  has_points,
-  has_usable_boundary,
-  is_clean,
-  line_along,
-  mixed_ring,
-  mixed_ring_of,
-  open_ring,
-  open_ring_of,
-  outer_count,
-  outer_count_of,
-  reversed_line,
-  wrong_turn,
-  wrong_turn_of,
-}
+use Rattle.rule_spec.specs.Boundary.{boundary_of, boundary_row, has_points, has_usable_boundary, is_clean, line_along, mixed_ring, mixed_ring_of, open_ring}
+use Rattle.rule_spec.specs.Boundary.{open_ring_of, outer_count, outer_count_of, reversed_line, wrong_turn, wrong_turn_of}
 use Rattle.rule_spec.specs.EdgePoints.{edge_line_of, line_between, line_of, node_at, node_position}
 use Rattle.rule_spec.specs.Features.{bad_codes, dangling_ref, prim_refs, target}
 use Rattle.rule_spec.specs.Findings.{finding}

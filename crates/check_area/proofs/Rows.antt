@@ -1,78 +1,20 @@
 -- What is found of the rows of a boundary is what is found of their parts.
-use Rattle.std.proofs.Common.{
-  ◌≡◌,
-  ℕ,
-  zero,
-  suc,
-  ◌==◌,
-  Bool,
-  true,
-  false,
-  not,
-  ◌&&◌,
-  ◌||◌,
-  pos,
-  List,
-  [],
-  ◌∷◌,
-  ◌++◌,
-  length,
-  map,
-  filter,
-  take,
-  drop,
-  Option,
-  None,
-  Some,
-  cond,
-  refl,
-  sym,
-  ap,
-  ◌∙◌,
-  ne_eqb,
-  arith,
-}
+use Rattle.std.proofs.Common.{◌≡◌, ℕ, zero, suc, ◌==◌, Bool, true, false, not, ◌&&◌, ◌||◌, pos, List, [], ◌∷◌, ◌++◌, length, map, filter, take, drop, Option}
+use Rattle.std.proofs.Common.{None, Some, cond, refl, sym, ap, ◌∙◌, ne_eqb, arith}
 use Rattle.std.specs.Prelude.{int_lt, if◌then◌else◌}
 use Rattle.std.specs.List.{AllByRecursion, list_any}
 use Rattle.std.proofs.lemmas.List.{append-nil, take-map, drop-map}
 use Rattle.cell_spec.specs.declared.finding.Finding.{Finding}
 use Rattle.rule_spec.specs.declared.kind.TheConstants.{MIXED_RING, OPEN_RING, OUTER_COUNT, WRONG_TURN}
 use Rattle.rule_spec.specs.declared.line.BoundaryRow.{BoundaryRow}
-use Rattle.rule_spec.specs.Boundary.{
-  arc_of,
-  first_place,
-  is_clean,
-  is_exterior,
-  is_interior,
-  is_interior_row,
-  is_mixed,
-  loops_of,
-  mixed_ring_of,
-  open_ring_of,
-  outer_count_of,
-  turns_wrongly,
-  wrong_turn_of,
-}
+use Rattle.rule_spec.specs.Boundary.{arc_of, first_place, is_clean, is_exterior, is_interior, is_interior_row, is_mixed, loops_of, mixed_ring_of}
+use Rattle.rule_spec.specs.Boundary.{open_ring_of, outer_count_of, turns_wrongly, wrong_turn_of}
 use Rattle.rule_spec.specs.Findings.{finding}
 use Rattle.rule_spec.specs.Loops.{blocks_of, first_open_place, loop_lengths}
 use Rattle.rule_spec.specs.Rule.{Found, found_at, found_if}
 use Rattle.check_area.specs.declared.part.Part.{Part}
-use Rattle.check_area.specs.Parts.{
-  arc_of_part,
-  exterior_count,
-  findings_by,
-  findings_of_parts,
-  is_exterior_loop,
-  is_interior_loop,
-  is_interior_part,
-  is_mixed_loop,
-  loops_of_parts,
-  mixed_loops,
-  part_of,
-  place_of_loop,
-  turns_against_usage,
-  wrong_loops,
-}
+use Rattle.check_area.specs.Parts.{arc_of_part, exterior_count, findings_by, findings_of_parts, is_exterior_loop, is_interior_loop, is_interior_part}
+use Rattle.check_area.specs.Parts.{is_mixed_loop, loops_of_parts, mixed_loops, part_of, place_of_loop, turns_against_usage, wrong_loops}
 use Rattle.check_area.proofs.Turns.{HasPoints, turn-rows}
 
 blocks-map : {X Y : Type 0} (f : X → Y) (lengths : List ℕ) (xs : List X) → blocks_of lengths (map f xs) ≡ map (map f) (blocks_of lengths xs)

@@ -1,28 +1,6 @@
 -- The boundary of an area as parts without their points (S-57 Part 3, 7.6.8; Appendix B.1).
-use Rattle.std.specs.Prelude.{
-  ℕ,
-  ◌+◌,
-  ◌-◌,
-  ◌==◌,
-  ◌&&◌,
-  Bool,
-  not,
-  List,
-  [],
-  ◌∷◌,
-  ◌++◌,
-  Option,
-  None,
-  Some,
-  length,
-  map,
-  filter,
-  ℤ,
-  pos,
-  ◌+ℤ◌,
-  int_lt,
-  if◌then◌else◌,
-}
+use Rattle.std.specs.Prelude.{ℕ, ◌+◌, ◌-◌, ◌==◌, ◌&&◌, Bool, not, List, [], ◌∷◌, ◌++◌, Option, None, Some, length, map, filter, ℤ, pos, ◌+ℤ◌, int_lt}
+use Rattle.std.specs.Prelude.{if◌then◌else◌}
 use Rattle.std.specs.List.{list_any, list_all}
 use Rattle.geometry_spec.specs.Areas.{twice_area_step}
 use Rattle.geometry_spec.specs.Points.{Point}

@@ -1,31 +1,6 @@
 -- The findings about a feature, kind after kind.
-use Rattle.std.proofs.Common.{
-  ◌≡◌,
-  ℕ,
-  ◌+◌,
-  Bool,
-  true,
-  false,
-  ◌&&◌,
-  List,
-  [],
-  ◌∷◌,
-  ◌++◌,
-  length,
-  map,
-  take,
-  filter,
-  Option,
-  None,
-  Some,
-  cond,
-  refl,
-  sym,
-  ap,
-  ◌∙◌,
-  append_assoc,
-  arith,
-}
+use Rattle.std.proofs.Common.{◌≡◌, ℕ, ◌+◌, Bool, true, false, ◌&&◌, List, [], ◌∷◌, ◌++◌, length, map, take, filter, Option, None, Some, cond, refl, sym, ap}
+use Rattle.std.proofs.Common.{◌∙◌, append_assoc, arith}
 use Rattle.std.specs.Prelude.{◌==◌}
 use Rattle.std.specs.List.{enumerate_from, list_all, position, position_from}
 use Rattle.std.proofs.lemmas.Iterator.Adapters.{position_from-zero}
@@ -34,32 +9,10 @@ use Rattle.std.proofs.lemmas.List.{append-nil}
 use Rattle.s57_types.specs.declared.record.Feature.{Feature}
 use Rattle.s57_types.specs.declared.cell.Cell.{Cell}
 use Rattle.cell_spec.specs.declared.finding.Finding.{Finding}
-use Rattle.rule_spec.specs.declared.kind.TheConstants.{
-  BAD_CODES,
-  BAD_LEVEL,
-  DANGLING_FEATURE,
-  DANGLING_REF,
-  MIXED_RING,
-  OPEN_RING,
-  OUTER_COUNT,
-  PRIM_REFS,
-  WRONG_GROUP,
-  WRONG_TURN,
-}
-use Rattle.rule_spec.specs.Boundary.{
-  boundary_of,
-  has_points,
-  has_usable_boundary,
-  is_clean,
-  mixed_ring,
-  mixed_ring_of,
-  open_ring,
-  open_ring_of,
-  outer_count,
-  outer_count_of,
-  wrong_turn,
-  wrong_turn_of,
-}
+use Rattle.rule_spec.specs.declared.kind.TheConstants.{BAD_CODES, BAD_LEVEL, DANGLING_FEATURE, DANGLING_REF, MIXED_RING, OPEN_RING, OUTER_COUNT, PRIM_REFS}
+use Rattle.rule_spec.specs.declared.kind.TheConstants.{WRONG_GROUP, WRONG_TURN}
+use Rattle.rule_spec.specs.Boundary.{boundary_of, has_points, has_usable_boundary, is_clean, mixed_ring, mixed_ring_of, open_ring, open_ring_of, outer_count}
+use Rattle.rule_spec.specs.Boundary.{outer_count_of, wrong_turn, wrong_turn_of}
 use Rattle.rule_spec.specs.Features.{bad_codes, bad_level, dangling_feature, dangling_ref, is_beyond_ascii, prim_refs, wrong_group}
 use Rattle.rule_spec.specs.Findings.{finding, findings_of_rules}
 use Rattle.rule_spec.specs.Rule.{Found, places_from}

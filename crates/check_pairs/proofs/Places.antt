@@ -1,28 +1,6 @@
 -- The places of the nodes that two lines share are points of the first.
-use Rattle.std.proofs.Common.{
-  ◌≡◌,
-  ◌-◌,
-  Bool,
-  true,
-  false,
-  cond,
-  List,
-  [],
-  ◌∷◌,
-  ◌++◌,
-  length,
-  Option,
-  None,
-  Some,
-  filter_map,
-  map,
-  refl,
-  ap,
-  subst,
-  ◌∙◌,
-  sym,
-  arith,
-}
+use Rattle.std.proofs.Common.{◌≡◌, ◌-◌, Bool, true, false, cond, List, [], ◌∷◌, ◌++◌, length, Option, None, Some, filter_map, map, refl, ap, subst, ◌∙◌, sym}
+use Rattle.std.proofs.Common.{arith}
 use Rattle.std.specs.List.{slice_get}
 use Rattle.std.specs.Option.{option_map, option_and_then}
 use Rattle.std.proofs.lemmas.List.{append-nil, length_push}

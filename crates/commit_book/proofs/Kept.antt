@@ -16,19 +16,8 @@ use Rattle.history_spec.specs.Entries.{AreTold, AreToldFrom, brief_of, entry_ste
 use Rattle.history_spec.specs.Steps.{History, answer, left_after, opening}
 use Rattle.room_laws.proofs.Steps.{level_left}
 use Rattle.commit_book.specs.declared.accepted.Accepted.{Accepted as Taken}
-use Rattle.commit_book.specs.Books.{
-  AreTakenFrom,
-  HaveLines,
-  IsKept,
-  IsTakenAt,
-  LeavesCommits,
-  accepted_by,
-  accepted_in,
-  accepted_sets,
-  commit_of,
-  entry_of,
-  set_in,
-}
+use Rattle.commit_book.specs.Books.{AreTakenFrom, HaveLines, IsKept, IsTakenAt, LeavesCommits, accepted_by, accepted_in, accepted_sets, commit_of, entry_of}
+use Rattle.commit_book.specs.Books.{set_in}
 use Rattle.commit_book.proofs.Taken.{newest, taken_more}
 
 -- the state after one entry more

@@ -1,33 +1,6 @@
 -- How many look-ups deciding a commit makes at most.
-use Rattle.std.proofs.Common.{
-  ◌≡◌,
-  ℕ,
-  ◌+◌,
-  ◌*◌,
-  ◌≤◌,
-  ◌&&◌,
-  ◌||◌,
-  Bool,
-  true,
-  false,
-  List,
-  [],
-  ◌∷◌,
-  None,
-  cond,
-  drop,
-  filter,
-  filter_map,
-  flat_map,
-  length,
-  map,
-  refl,
-  sym,
-  ap,
-  subst,
-  ◌∙◌,
-  arith,
-}
+use Rattle.std.proofs.Common.{◌≡◌, ℕ, ◌+◌, ◌*◌, ◌≤◌, ◌&&◌, ◌||◌, Bool, true, false, List, [], ◌∷◌, None, cond, drop, filter, filter_map, flat_map, length}
+use Rattle.std.proofs.Common.{map, refl, sym, ap, subst, ◌∙◌, arith}
 use Rattle.std.specs.Prelude.{IsPermutation, MatchBool, not, sum_by}
 use Rattle.std.specs.List.{enumerate_from, list_any}
 use Rattle.std.proofs.lemmas.Cmp.{eq_by_cmp_equiv}
@@ -44,20 +17,8 @@ use Rattle.cell_spec.specs.declared.key.Subject.{Subject}
 use Rattle.cell_spec.specs.Edits.{apply_edits, is_applicable, touched_keys}
 use Rattle.cell_spec.specs.Names.{same_subject}
 use Rattle.cell_spec.proofs.SubjectOrder.{total_subjects}
-use Rattle.rule_spec.specs.Affected.{
-  RowsAreExact,
-  affected_list,
-  change_by,
-  considered,
-  each_once,
-  exact_row,
-  has_valid_row,
-  is_still_valid,
-  judged_anew,
-  lookup_budget,
-  plan_budget,
-  reads_counted,
-}
+use Rattle.rule_spec.specs.Affected.{RowsAreExact, affected_list, change_by, considered, each_once, exact_row, has_valid_row, is_still_valid, judged_anew}
+use Rattle.rule_spec.specs.Affected.{lookup_budget, plan_budget, reads_counted}
 use Rattle.rule_spec.specs.Findings.{is_subject}
 use Rattle.rule_spec.specs.Reads.{read_set}
 use Rattle.history_spec.specs.EntriesReport.{cell_told}

@@ -1,68 +1,14 @@
 -- What is known of the values of fields that have no fault: plain texts, levels in range and names of vector records.
-use Rattle.std.proofs.Common.{
-  ◌≡◌,
-  ℕ,
-  zero,
-  suc,
-  ◌&&◌,
-  ◌||◌,
-  ◌==◌,
-  Bool,
-  true,
-  false,
-  not,
-  List,
-  [],
-  ◌∷◌,
-  ◌++◌,
-  map,
-  length,
-  nat_le,
-  Option,
-  Some,
-  None,
-  Result,
-  Ok,
-  Err,
-  refl,
-  subst,
-}
+use Rattle.std.proofs.Common.{◌≡◌, ℕ, zero, suc, ◌&&◌, ◌||◌, ◌==◌, Bool, true, false, not, List, [], ◌∷◌, ◌++◌, map, length, nat_le, Option, Some, None}
+use Rattle.std.proofs.Common.{Result, Ok, Err, refl, subst}
 use Rattle.std.specs.Prelude.{if◌then◌else◌}
 use Rattle.std.specs.List.{list_all}
 use Rattle.std.specs.Option.{option_map}
 use Rattle.std.specs.Result.{result_map_both}
-use Rattle.s57_types.specs.Subfield.{
-  Form,
-  Subfield,
-  unsigned,
-  signed,
-  text,
-  wide_text,
-  fixed,
-  unsigned_of,
-  signed_of,
-  text_of,
-  wide_text_of,
-  fixed_of,
-  is_plain,
-  row_bytes,
-  field_terminator,
-}
-use Rattle.s57_types.specs.FieldRows.{
-  attribute_forms,
-  attribute_row,
-  partner_forms,
-  partner_row,
-  dsid_forms,
-  dsid_row,
-  dssi_forms,
-  dssi_row,
-  dspm_forms,
-  dspm_row,
-  vrid_forms,
-  end_forms,
-  place_forms,
-}
+use Rattle.s57_types.specs.Subfield.{Form, Subfield, unsigned, signed, text, wide_text, fixed, unsigned_of, signed_of, text_of, wide_text_of, fixed_of}
+use Rattle.s57_types.specs.Subfield.{is_plain, row_bytes, field_terminator}
+use Rattle.s57_types.specs.FieldRows.{attribute_forms, attribute_row, partner_forms, partner_row, dsid_forms, dsid_row, dssi_forms, dssi_row, dspm_forms}
+use Rattle.s57_types.specs.FieldRows.{dspm_row, vrid_forms, end_forms, place_forms}
 use Rattle.s57_types.specs.Fitness.{is_vector_kind}
 use Rattle.s57_types.specs.declared.name.Kind.TheVariants.{Vi, Vc, Ve, Fe}
 use Rattle.s57_types.specs.declared.field.Dsid.{Dsid}
@@ -73,35 +19,9 @@ use Rattle.s57_types.specs.declared.record.Attr.{Attr}
 use Rattle.s57_types.specs.declared.record.End.{End}
 use Rattle.s57_types.specs.declared.record.Spot.{Spot}
 use Rattle.s57_types.specs.declared.record.Partner.{Partner}
-use Rattle.field_spec.specs.Contents.{
-  text_value,
-  text_in,
-  number_in,
-  name_in,
-  judged,
-  judged_row,
-  row_as,
-  rows_as,
-  any_row,
-  names_a_vector,
-  has_good_levels,
-  dsid_value,
-  dsid_content,
-  dssi_value,
-  dssi_content,
-  dspm_value,
-  dspm_content,
-  vrid_value,
-  vrid_content,
-  attribute_value,
-  attribute_content,
-  partner_value,
-  partner_content,
-  place_value,
-  place_content,
-  end_value,
-  end_content,
-}
+use Rattle.field_spec.specs.Contents.{text_value, text_in, number_in, name_in, judged, judged_row, row_as, rows_as, any_row, names_a_vector, has_good_levels}
+use Rattle.field_spec.specs.Contents.{dsid_value, dsid_content, dssi_value, dssi_content, dspm_value, dspm_content, vrid_value, vrid_content}
+use Rattle.field_spec.specs.Contents.{attribute_value, attribute_content, partner_value, partner_content, place_value, place_content, end_value, end_content}
 use Rattle.field_spec.specs.Cutting.{front, split, split_units, cut_row, cut_rows, field_row, field_rows, whole, before_terminator, body_at_level}
 use Rattle.field_spec.specs.declared.fault.FieldFault.TheVariants.{BadField, BadText}
 use Rattle.field_spec.proofs.CutBack.{mapped_back, bound_back}

@@ -1,34 +1,6 @@
 -- The cell of a file grows record by record, and can be written at each.
-use Rattle.std.proofs.Common.{
-  ◌≡◌,
-  ◌≤◌,
-  ℕ,
-  ◌+◌,
-  ◌==◌,
-  ◌&&◌,
-  ◌||◌,
-  Bool,
-  true,
-  false,
-  List,
-  [],
-  ◌∷◌,
-  ◌++◌,
-  length,
-  map,
-  leb,
-  None,
-  Result,
-  Ok,
-  Err,
-  refl,
-  sym,
-  ap,
-  subst,
-  ◌∙◌,
-  arith,
-  length-append,
-}
+use Rattle.std.proofs.Common.{◌≡◌, ◌≤◌, ℕ, ◌+◌, ◌==◌, ◌&&◌, ◌||◌, Bool, true, false, List, [], ◌∷◌, ◌++◌, length, map, leb, None, Result, Ok, Err, refl, sym}
+use Rattle.std.proofs.Common.{ap, subst, ◌∙◌, arith, length-append}
 use Rattle.std.specs.List.{list_all, list_any, AllByRecursion, IsDistinct}
 use Rattle.std.specs.List.Sorted.{IsPermutation}
 use Rattle.std.specs.Result.{result_map_both}
@@ -58,20 +30,9 @@ use Rattle.cell_spec.specs.Lookup.{all_records, is_named, name_of}
 use Rattle.cell_spec.specs.Names.{kind_rank, same_name}
 use Rattle.cell_spec.specs.Writable.{IsWritable, AreFit, HaveDistinctNames, record_limit}
 use Rattle.file_spec.specs.CellRecords.{empty_cell, head_with, with_record, with_record_of_kind}
-use Rattle.file_spec.specs.DecodedCell.{
-  decoded_cell,
-  decoded_records,
-  general_information,
-  geographic_reference,
-  is_general_information,
-  is_geographic_reference,
-  fits_general_information,
-  fits_geographic_reference,
-  record_behind,
-  said_by,
-  said_by_next,
-  with_following,
-}
+use Rattle.file_spec.specs.DecodedCell.{decoded_cell, decoded_records, general_information, geographic_reference, is_general_information}
+use Rattle.file_spec.specs.DecodedCell.{is_geographic_reference, fits_general_information, fits_geographic_reference, record_behind, said_by, said_by_next}
+use Rattle.file_spec.specs.DecodedCell.{with_following}
 use Rattle.file_spec.specs.FileRecords.{FileRecord, file_records}
 use Rattle.file_spec.specs.RecordFaults.{◌>>=◌, ◌>>◌, demand, fault_at, of_frame}
 use Rattle.file_spec.specs.RecordReading.{record_type, fields_fault, required}

@@ -1,32 +1,6 @@
 -- What is known of a record that was read.
-use Rattle.std.proofs.Common.{
-  ◌≡◌,
-  ℕ,
-  ◌==◌,
-  ◌&&◌,
-  Bool,
-  true,
-  false,
-  not,
-  List,
-  [],
-  ◌∷◌,
-  ◌++◌,
-  length,
-  nat_le,
-  nat_lt,
-  find,
-  filter,
-  Option,
-  Some,
-  None,
-  Result,
-  Ok,
-  Err,
-  refl,
-  subst,
-  ◌∙◌,
-}
+use Rattle.std.proofs.Common.{◌≡◌, ℕ, ◌==◌, ◌&&◌, Bool, true, false, not, List, [], ◌∷◌, ◌++◌, length, nat_le, nat_lt, find, filter, Option, Some, None}
+use Rattle.std.proofs.Common.{Result, Ok, Err, refl, subst, ◌∙◌}
 use Rattle.std.specs.List.{list_all, list_any, flat_map}
 use Rattle.std.specs.Option.{ok_or}
 use Rattle.std.specs.Result.{result_ok, result_unwrap_or}
@@ -43,17 +17,8 @@ use Rattle.s57_types.specs.declared.name.Lnam.{Lnam}
 use Rattle.s57_types.specs.declared.record.Rec.{Rec}
 use Rattle.s57_types.specs.declared.record.Rec.TheVariants.{V, F}
 use Rattle.s57_types.specs.declared.cell.Cell.{Cell}
-use Rattle.field_spec.specs.Contents.{
-  frid_content,
-  foid_content,
-  attribute_content,
-  partner_content,
-  place_content,
-  vrid_content,
-  end_content,
-  plane_content,
-  deep_content,
-}
+use Rattle.field_spec.specs.Contents.{frid_content, foid_content, attribute_content, partner_content, place_content, vrid_content, end_content}
+use Rattle.field_spec.specs.Contents.{plane_content, deep_content}
 use Rattle.field_spec.specs.declared.fault.FieldFault.{FieldFault}
 use Rattle.field_spec.proofs.CutBack.{bound_back}
 use Rattle.cell_spec.specs.Lookup.{all_records, name_of, is_named}
@@ -68,18 +33,8 @@ use Rattle.file_spec.specs.declared.tag.FieldTag.{FieldTag}
 use Rattle.file_spec.specs.declared.tag.FieldTag.TheVariants as tags
 use Rattle.file_spec.specs.declared.tag.RecordType.{RecordType}
 use Rattle.file_spec.specs.declared.tag.RecordType.TheVariants as types
-use Rattle.decode_laws.proofs.Contents.{
-  and_true,
-  attribute_is_plain,
-  attributes_are_plain,
-  partner_is_plain,
-  partners_are_plain,
-  end_names_vector,
-  ends_name_vectors,
-  place_names_vector,
-  places_name_vectors,
-  vrid_names_vector,
-}
+use Rattle.decode_laws.proofs.Contents.{and_true, attribute_is_plain, attributes_are_plain, partner_is_plain, partners_are_plain, end_names_vector}
+use Rattle.decode_laws.proofs.Contents.{ends_name_vectors, place_names_vector, places_name_vectors, vrid_names_vector}
 
 -- ---- what steps came from
 pub step : {E A B : Type 0} (r : Result A E) (f : A → Result B E) (y : B) → (r >>= f) ≡ Ok y → (a : A) × (r ≡ Ok a) × (f a ≡ Ok y)

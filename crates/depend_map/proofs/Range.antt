@@ -1,37 +1,6 @@
 -- The pairs of one key stand together, from the first that isn't below it on, and their subjects are the key's readers.
-use Rattle.std.proofs.Common.{
-  ◌≡◌,
-  ◌||◌,
-  ℕ,
-  suc,
-  ◌+◌,
-  Bool,
-  true,
-  false,
-  true≢false,
-  List,
-  [],
-  ◌∷◌,
-  Option,
-  Some,
-  cond,
-  is_some,
-  map,
-  filter,
-  drop,
-  refl,
-  sym,
-  ap,
-  subst,
-  ◌∙◌,
-  arith,
-  Ordering,
-  Less,
-  Equal,
-  Greater,
-  is_eq,
-  is_lt,
-}
+use Rattle.std.proofs.Common.{◌≡◌, ◌||◌, ℕ, suc, ◌+◌, Bool, true, false, true≢false, List, [], ◌∷◌, Option, Some, cond, is_some, map, filter, drop, refl}
+use Rattle.std.proofs.Common.{sym, ap, subst, ◌∙◌, arith, Ordering, Less, Equal, Greater, is_eq, is_lt}
 use Rattle.std.specs.Cmp.{Equal-is}
 use Rattle.std.specs.List.{AllByRecursion, take_while}
 use Rattle.std.specs.List.Sorted.{IsStrictlySortedBy}

@@ -15,22 +15,8 @@ use Rattle.edit_sets.specs.declared.fault.FormFault.{FormFault}
 use Rattle.rule_spec.specs.Findings.{finding_total}
 use Rattle.history_spec.specs.ReportText.{final_cell}
 use Rattle.history_spec.specs.Sessions.{Request, see, offer, request_step, history_after, ordered_requests}
-use Rattle.history_spec.specs.Steps.{
-  History,
-  AcceptedCommit,
-  Event,
-  faulty,
-  commit,
-  answer,
-  left_after,
-  first_of,
-  clash_with,
-  contested_names,
-  newer_answer,
-  state_refusal,
-  commit_answer,
-  opening,
-}
+use Rattle.history_spec.specs.Steps.{History, AcceptedCommit, Event, faulty, commit, answer, left_after, first_of, clash_with, contested_names, newer_answer}
+use Rattle.history_spec.specs.Steps.{state_refusal, commit_answer, opening}
 use Rattle.history_spec.specs.declared.refusal.StateRefusal.{StateRefusal}
 use Rattle.history_spec.specs.declared.reply.Reply.{Reply}
 use Rattle.history_spec.specs.declared.reply.Reply.TheVariants.{Viewed, Formed, Newer, Refused, Accepted}

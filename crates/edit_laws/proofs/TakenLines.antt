@@ -1,27 +1,6 @@
 -- Edits that a writable cell takes each have a line.
-use Rattle.std.proofs.Common.{
-  ◌≡◌,
-  ℕ,
-  Bool,
-  true,
-  false,
-  ◌&&◌,
-  not,
-  List,
-  [],
-  ◌∷◌,
-  ◌++◌,
-  Option,
-  Some,
-  None,
-  length,
-  refl,
-  ap,
-  ◌∙◌,
-  if◌then◌else◌,
-  nat_lt,
-  nat_le,
-}
+use Rattle.std.proofs.Common.{◌≡◌, ℕ, Bool, true, false, ◌&&◌, not, List, [], ◌∷◌, ◌++◌, Option, Some, None, length, refl, ap, ◌∙◌, if◌then◌else◌, nat_lt}
+use Rattle.std.proofs.Common.{nat_le}
 use Rattle.std.specs.Prelude.{All, cond, find, is_some}
 use Rattle.std.specs.List.{AllByRecursion, list_all}
 use Rattle.std.proofs.lemmas.Bool.{and_parts, and_from}

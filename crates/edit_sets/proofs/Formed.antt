@@ -1,32 +1,6 @@
 -- A list of edits without a fault is formed.
-use Rattle.std.proofs.Common.{
-  ◌≡◌,
-  ℕ,
-  ◌+◌,
-  ◌<◌,
-  ◌==◌,
-  Bool,
-  true,
-  false,
-  List,
-  Option,
-  Some,
-  None,
-  length,
-  take,
-  get_or,
-  refl,
-  sym,
-  subst,
-  ◌∙◌,
-  ap,
-  arith,
-  nat_lt,
-  option_map,
-  option_and_then,
-  if◌then◌else◌,
-  zero-add,
-}
+use Rattle.std.proofs.Common.{◌≡◌, ℕ, ◌+◌, ◌<◌, ◌==◌, Bool, true, false, List, Option, Some, None, length, take, get_or, refl, sym, subst, ◌∙◌, ap, arith}
+use Rattle.std.proofs.Common.{nat_lt, option_map, option_and_then, if◌then◌else◌, zero-add}
 use Rattle.std.specs.List.{list_any}
 use Rattle.std.specs.Option.{option_or}
 use Rattle.std.specs.Prelude.{Result, Ok, Err, MatchResult}
@@ -42,20 +16,8 @@ use Rattle.cell_spec.specs.declared.edit.Edit.{Edit}
 use Rattle.edit_sets.specs.declared.fault.FormFault.{FormFault}
 use Rattle.edit_sets.specs.declared.fault.FormFault.TheVariants.{Empty, TooMany, TooManyGuards, Twice, Unfit}
 use Rattle.edit_sets.specs.Counts.{count_fault}
-use Rattle.edit_sets.specs.FormFault.{
-  edit_limit,
-  guard_limit,
-  form_fault,
-  first_edit_fault,
-  fault_at,
-  edit_fault,
-  unfitness_of_edit,
-  has_edit_of,
-  GuardedEdits,
-  IsFormed,
-  IsFormRefusal,
-  IsSetOf,
-}
+use Rattle.edit_sets.specs.FormFault.{edit_limit, guard_limit, form_fault, first_edit_fault, fault_at, edit_fault, unfitness_of_edit, has_edit_of}
+use Rattle.edit_sets.specs.FormFault.{GuardedEdits, IsFormed, IsFormRefusal, IsSetOf}
 use Rattle.edit_sets.specs.Places.{IsEditRefusal}
 use Rattle.edit_sets.specs.declared.fault.FormRefusal.{FormRefusal}
 use Rattle.edit_sets.specs.declared.fault.FormRefusal.TheVariants.{Fault, NoMemory}

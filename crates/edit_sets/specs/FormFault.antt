@@ -1,28 +1,6 @@
 -- What is wrong with the form of edits and the names that guard them, if anything. This project's own rules.
-use Rattle.std.specs.Prelude.{
-  ◌≡◌,
-  ℕ,
-  ◌+◌,
-  ◌<◌,
-  ◌≤◌,
-  ◌==◌,
-  Bool,
-  false,
-  List,
-  length,
-  take,
-  filter_map,
-  slice_get,
-  nat_lt,
-  Option,
-  None,
-  Some,
-  option_map,
-  option_and_then,
-  All,
-  AllPairs,
-  if◌then◌else◌,
-}
+use Rattle.std.specs.Prelude.{◌≡◌, ℕ, ◌+◌, ◌<◌, ◌≤◌, ◌==◌, Bool, false, List, length, take, filter_map, slice_get, nat_lt, Option, None, Some, option_map}
+use Rattle.std.specs.Prelude.{option_and_then, All, AllPairs, if◌then◌else◌}
 use Rattle.std.specs.List.{list_any, range_with_len}
 use Rattle.s57_types.specs.Fitness.{unfitness}
 use Rattle.s57_types.specs.declared.name.RecName.{RecName}

@@ -1,34 +1,7 @@
 -- Good input files leave no refusal, and what is left in OUT is read back.
 use mathlib.Core.List.{IsPrefix}
-use Rattle.std.proofs.Common.{
-  ◌≡◌,
-  ◌⊎◌,
-  inl,
-  inr,
-  ℕ,
-  ◌<◌,
-  ◌≤◌,
-  ◌^◌,
-  Bool,
-  true,
-  false,
-  List,
-  [],
-  ◌∷◌,
-  length,
-  Option,
-  Some,
-  None,
-  Ok,
-  Err,
-  codes,
-  cond,
-  refl,
-  sym,
-  subst,
-  ℤ,
-  arith,
-}
+use Rattle.std.proofs.Common.{◌≡◌, ◌⊎◌, inl, inr, ℕ, ◌<◌, ◌≤◌, ◌^◌, Bool, true, false, List, [], ◌∷◌, length, Option, Some, None, Ok, Err, codes, cond, refl}
+use Rattle.std.proofs.Common.{sym, subst, ℤ, arith}
 use Rattle.std.specs.Prelude.{count_by}
 use Rattle.std.proofs.lemmas.Bool.Decides.{nat_tests}
 use Rattle.std.proofs.lemmas.List.{length-map}
@@ -59,26 +32,9 @@ use Rattle.enc_top.specs.Task.{check_task, drill_task, left_task, make_task, pro
 use Rattle.enc_top.specs.Words.{Form, apply_among, apply_form, check_among, check_form, coordinate_of, drill_among, drill_form, drill_of, edge_among, edge_form, edge_of, form_of, is_between, join_in, make_among, make_form, make_of, no_form, number_up_to, probe_among, probe_form, probe_of, replay_among, replay_form, room_among, room_form, split_in}
 use Rattle.call_files.specs.Words.{is_word}
 use Rattle.report_text.specs.declared.status.Status.{Status}
-use Rattle.report_text.specs.declared.status.Status.TheVariants.{
-  Done,
-  Usage,
-  Absent,
-  BadCell,
-  BadScript,
-  ReadFault,
-  WriteFault,
-  TooLarge,
-  NoMemory,
-  BadOrder,
-  Stuck,
-  TooManyFindings,
-  BadUpdate,
-  Refused,
-  BadJournal,
-  DiskFault,
-  OpRefused,
-  JournalFull,
-}
+use Rattle.report_text.specs.declared.status.Status.TheVariants.{Done, Usage, Absent, BadCell, BadScript, ReadFault, WriteFault, TooLarge, NoMemory}
+use Rattle.report_text.specs.declared.status.Status.TheVariants.{BadOrder, Stuck, TooManyFindings, BadUpdate, Refused, BadJournal, DiskFault, OpRefused}
+use Rattle.report_text.specs.declared.status.Status.TheVariants.{JournalFull}
 use Rattle.enc_top.proofs.OneAnswer.{apart, one_output}
 use Rattle.call_files.proofs.OneAnswer.{ok_not_err, one_cell, one_scripts}
 use Rattle.call_files.proofs.GoodFiles.{cell_is, content_is, not_above, order_is, scripts_are}

@@ -1,42 +1,6 @@
 -- The coordinate that a text is.
-use Rattle.std.proofs.Common.{
-  ◌≡◌,
-  ℕ,
-  suc,
-  ◌<◌,
-  ◌≤◌,
-  ◌^◌,
-  ◌==◌,
-  ◌&&◌,
-  Bool,
-  true,
-  false,
-  List,
-  [],
-  ◌∷◌,
-  length,
-  get_or,
-  cond,
-  drop,
-  Option,
-  Some,
-  None,
-  refl,
-  sym,
-  ap,
-  ◌∙◌,
-  subst,
-  ℤ,
-  pos,
-  negsuc,
-  neg_ℤ,
-  int_le,
-  int_lt,
-  FitsSigned,
-  ne_eqb,
-  w32,
-  arith,
-}
+use Rattle.std.proofs.Common.{◌≡◌, ℕ, suc, ◌<◌, ◌≤◌, ◌^◌, ◌==◌, ◌&&◌, Bool, true, false, List, [], ◌∷◌, length, get_or, cond, drop, Option, Some, None, refl}
+use Rattle.std.proofs.Common.{sym, ap, ◌∙◌, subst, ℤ, pos, negsuc, neg_ℤ, int_le, int_lt, FitsSigned, ne_eqb, w32, arith}
 use Rattle.std.specs.Prelude.{IfSome, nat_eq, slice_index}
 use Rattle.std.specs.Cmp.Lexicographic.{pointwise, same_text}
 use Rattle.std.specs.Fmt.{decimal, signed_decimal}

@@ -1,34 +1,6 @@
 -- The form of the words of a call, by its first word and the others.
-use Rattle.std.proofs.Common.{
-  ◌≡◌,
-  ℕ,
-  ◌-◌,
-  ◌<◌,
-  ◌≤◌,
-  take,
-  take_all,
-  ◌&&◌,
-  Bool,
-  true,
-  false,
-  List,
-  [],
-  ◌∷◌,
-  length,
-  map,
-  get_or,
-  drop,
-  cond,
-  String,
-  Global,
-  Option,
-  string_bytes,
-  refl,
-  sym,
-  ap,
-  ◌∙◌,
-  arith,
-}
+use Rattle.std.proofs.Common.{◌≡◌, ℕ, ◌-◌, ◌<◌, ◌≤◌, take, take_all, ◌&&◌, Bool, true, false, List, [], ◌∷◌, length, map, get_or, drop, cond, String, Global}
+use Rattle.std.proofs.Common.{Option, string_bytes, refl, sym, ap, ◌∙◌, arith}
 use Rattle.std.specs.Prelude.{codes, nat_le}
 use Rattle.std.proofs.lemmas.Bool.Decides.{nat_tests}
 use Rattle.std.proofs.lemmas.List.{length-drop, length-map}

@@ -27,26 +27,9 @@ use Rattle.call_files.specs.Task.{Task, task_of}
 use Rattle.enc_top.specs.Task.{check_task, left_task, make_task, probe_task}
 use Rattle.enc_top.specs.Words.{Form, check_form, replay_form, room_form, make_form, drill_form, edge_form, probe_form, apply_form, no_form, form_of}
 use Rattle.report_text.specs.declared.status.Status.{Status}
-use Rattle.report_text.specs.declared.status.Status.TheVariants.{
-  Done,
-  Usage,
-  Absent,
-  BadCell,
-  BadScript,
-  ReadFault,
-  WriteFault,
-  TooLarge,
-  NoMemory,
-  BadOrder,
-  Stuck,
-  TooManyFindings,
-  BadUpdate,
-  Refused,
-  BadJournal,
-  DiskFault,
-  OpRefused,
-  JournalFull,
-}
+use Rattle.report_text.specs.declared.status.Status.TheVariants.{Done, Usage, Absent, BadCell, BadScript, ReadFault, WriteFault, TooLarge, NoMemory}
+use Rattle.report_text.specs.declared.status.Status.TheVariants.{BadOrder, Stuck, TooManyFindings, BadUpdate, Refused, BadJournal, DiskFault, OpRefused}
+use Rattle.report_text.specs.declared.status.Status.TheVariants.{JournalFull}
 use Rattle.call_files.specs.declared.work.Work.{Work}
 use Rattle.call_files.specs.Outside.{IsCut, IsFinished, IsSilent, IsSmooth, Outside}
 

@@ -1,31 +1,6 @@
 -- The forms of words of a call.
-use Rattle.std.specs.Prelude.{
-  ℕ,
-  ◌^◌,
-  ◌&&◌,
-  Bool,
-  false,
-  nat_eq,
-  nat_le,
-  nat_lt,
-  List,
-  [],
-  ◌∷◌,
-  length,
-  find,
-  Option,
-  None,
-  Some,
-  option_map,
-  option_and_then,
-  codes,
-  ℤ,
-  pos,
-  neg_ℤ,
-  int_le,
-  int_lt,
-  if◌then◌else◌,
-}
+use Rattle.std.specs.Prelude.{ℕ, ◌^◌, ◌&&◌, Bool, false, nat_eq, nat_le, nat_lt, List, [], ◌∷◌, length, find, Option, None, Some, option_map}
+use Rattle.std.specs.Prelude.{option_and_then, codes, ℤ, pos, neg_ℤ, int_le, int_lt, if◌then◌else◌}
 use Rattle.std.specs.List.{range_with_len}
 use Rattle.std.specs.Cmp.Lexicographic.{pointwise}
 use Rattle.std.specs.Fmt.{decimal, signed_decimal}

@@ -17,19 +17,8 @@ use Rattle.field_spec.specs.Contents.{dsid_content, dssi_content, dspm_content}
 use Rattle.cell_spec.specs.Edits.{list_of_kind}
 use Rattle.cell_spec.specs.Lookup.{name_of}
 use Rattle.file_spec.specs.CellRecords.{empty_cell, head_with, with_record, with_record_of_kind}
-use Rattle.file_spec.specs.DecodedCell.{
-  decoded_records,
-  general_information,
-  geographic_reference,
-  is_general_information,
-  is_geographic_reference,
-  fits_general_information,
-  fits_geographic_reference,
-  record_behind,
-  said_by,
-  said_by_next,
-  with_following,
-}
+use Rattle.file_spec.specs.DecodedCell.{decoded_records, general_information, geographic_reference, is_general_information, is_geographic_reference}
+use Rattle.file_spec.specs.DecodedCell.{fits_general_information, fits_geographic_reference, record_behind, said_by, said_by_next, with_following}
 use Rattle.file_spec.specs.FileRecords.{FileRecord, file_records}
 use Rattle.file_spec.specs.RecordFaults.{◌>>=◌, ◌>>◌, demand, fault_at, of_frame}
 use Rattle.file_spec.specs.RecordReading.{record_type, fields_fault, required}

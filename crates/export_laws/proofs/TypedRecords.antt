@@ -1,32 +1,6 @@
 -- A record that was read fits its types.
-use Rattle.std.proofs.Common.{
-  ◌≡◌,
-  ℕ,
-  ◌==◌,
-  Bool,
-  true,
-  false,
-  not,
-  cond,
-  List,
-  [],
-  ◌∷◌,
-  length,
-  nat_le,
-  nat_lt,
-  find,
-  filter,
-  Option,
-  Some,
-  Result,
-  Ok,
-  Err,
-  refl,
-  subst,
-  arith,
-  ◌<◌,
-  ◌^◌,
-}
+use Rattle.std.proofs.Common.{◌≡◌, ℕ, ◌==◌, Bool, true, false, not, cond, List, [], ◌∷◌, length, nat_le, nat_lt, find, filter, Option, Some, Result, Ok, Err}
+use Rattle.std.proofs.Common.{refl, subst, arith, ◌<◌, ◌^◌}
 use Rattle.std.specs.List.{AllByRecursion, list_any, flat_map}
 use Rattle.std.specs.Option.{ok_or, option_and_then}
 use Rattle.std.specs.Result.{result_ok, result_unwrap_or}
@@ -39,17 +13,8 @@ use Rattle.s57_types.specs.declared.name.Lnam.{Lnam}
 use Rattle.s57_types.specs.declared.record.Rec.{Rec}
 use Rattle.s57_types.specs.declared.record.Rec.TheVariants.{V, F}
 use Rattle.s57_types.specs.declared.cell.Cell.{Cell}
-use Rattle.field_spec.specs.Contents.{
-  frid_content,
-  foid_content,
-  attribute_content,
-  partner_content,
-  place_content,
-  vrid_content,
-  end_content,
-  plane_content,
-  deep_content,
-}
+use Rattle.field_spec.specs.Contents.{frid_content, foid_content, attribute_content, partner_content, place_content, vrid_content, end_content}
+use Rattle.field_spec.specs.Contents.{plane_content, deep_content}
 use Rattle.field_spec.specs.declared.fault.FieldFault.{FieldFault}
 use Rattle.cell_spec.specs.Lookup.{all_records, name_of, is_named}
 use Rattle.cell_spec.specs.Writable.{record_limit}
@@ -68,17 +33,8 @@ use Rattle.decode_laws.proofs.Records.{step, passed, demanded}
 use Rattle.cell_spec.proofs.EachItem.{each_append}
 use Rattle.export_laws.specs.DecodedTypes.{AreFileBytes}
 use Rattle.export_laws.proofs.FileBytes.{IsOfBytes, AreOfBytes}
-use Rattle.export_laws.proofs.TypedRows.{
-  frid_typed,
-  foid_typed,
-  vrid_typed,
-  attributes_typed,
-  partners_typed,
-  places_typed,
-  ends_typed,
-  plane_typed,
-  deep_typed,
-}
+use Rattle.export_laws.proofs.TypedRows.{frid_typed, foid_typed, vrid_typed, attributes_typed, partners_typed, places_typed, ends_typed, plane_typed}
+use Rattle.export_laws.proofs.TypedRows.{deep_typed}
 
 -- ---- a field that must be there
 module _ {X : Type 0} (tag : FieldTag) (content : List ℕ → Result X FieldFault) (Has : X → Type 0) (typed : (b : List ℕ) (x : X)

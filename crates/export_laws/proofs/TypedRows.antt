@@ -3,30 +3,9 @@ use Rattle.std.proofs.Common.{◌≡◌, ℕ, List, [], ◌∷◌, map, Ok}
 use Rattle.std.specs.Prelude.{ℤ}
 use Rattle.std.specs.List.{AllByRecursion}
 use Rattle.s57_types.specs.Subfield.{Form, Subfield, unsigned_of, signed_of, text_of, wide_text_of, fixed_of, IsSubfield}
-use Rattle.s57_types.specs.FieldRows.{
-  dsid_forms,
-  dspm_forms,
-  frid_forms,
-  foid_forms,
-  attribute_forms,
-  partner_forms,
-  place_forms,
-  vrid_forms,
-  end_forms,
-  plane_forms,
-  deep_forms,
-  dsid_row,
-  dspm_row,
-  frid_row,
-  foid_row,
-  attribute_row,
-  partner_row,
-  place_row,
-  vrid_row,
-  end_row,
-  plane_row,
-  deep_row,
-}
+use Rattle.s57_types.specs.FieldRows.{dsid_forms, dspm_forms, frid_forms, foid_forms, attribute_forms, partner_forms, place_forms, vrid_forms, end_forms}
+use Rattle.s57_types.specs.FieldRows.{plane_forms, deep_forms, dsid_row, dspm_row, frid_row, foid_row, attribute_row, partner_row, place_row, vrid_row}
+use Rattle.s57_types.specs.FieldRows.{end_row, plane_row, deep_row}
 use Rattle.s57_types.specs.declared.name.Lnam.{Lnam}
 use Rattle.s57_types.specs.declared.record.Attr.{Attr}
 use Rattle.s57_types.specs.declared.record.End.{End}
@@ -36,33 +15,11 @@ use Rattle.s57_types.specs.declared.field.Dsid.{Dsid}
 use Rattle.s57_types.specs.declared.field.Dspm.{Dspm}
 use Rattle.s57_types.specs.declared.field.Frid.{Frid}
 use Rattle.s57_types.specs.declared.field.Vrid.{Vrid}
-use Rattle.field_spec.specs.Contents.{
-  dsid_content,
-  dspm_content,
-  frid_content,
-  foid_content,
-  attribute_content,
-  partner_content,
-  place_content,
-  vrid_content,
-  end_content,
-  plane_content,
-  deep_content,
-}
+use Rattle.field_spec.specs.Contents.{dsid_content, dspm_content, frid_content, foid_content, attribute_content, partner_content, place_content}
+use Rattle.field_spec.specs.Contents.{vrid_content, end_content, plane_content, deep_content}
 use Rattle.field_spec.specs.FieldContent.{IsRow}
-use Rattle.field_spec.proofs.DecidedFields.{
-  dsid_decided,
-  dspm_decided,
-  frid_decided,
-  foid_decided,
-  vrid_decided,
-  attributes_decided,
-  partners_decided,
-  places_decided,
-  ends_decided,
-  plane_decided,
-  deep_decided,
-}
+use Rattle.field_spec.proofs.DecidedFields.{dsid_decided, dspm_decided, frid_decided, foid_decided, vrid_decided, attributes_decided, partners_decided}
+use Rattle.field_spec.proofs.DecidedFields.{places_decided, ends_decided, plane_decided, deep_decided}
 use Rattle.file_spec.specs.RoundTrip.{IsInRange, HasForms}
 use Rattle.cell_spec.proofs.EachItem.{each_weaker}
 use Rattle.export_laws.specs.DecodedTypes.{AreFileBytes}

@@ -16,19 +16,8 @@ use Rattle.file_spec.specs.ReadBack.{frid_of}
 use Rattle.file_spec.specs.RoundTrip.{IsInRange, HasForms, VectorHasForms, FeatureHasForms, RecordHasForms}
 use Rattle.text_spec.specs.declared.command.Command.{Command}
 use Rattle.text_spec.specs.declared.command.Command.TheVariants.{View, Commit, Drop, List as Findings, Push, Guard}
-use Rattle.text_spec.specs.ScriptLines.{
-  IsOfWidth,
-  record_subfields,
-  vector_subfields,
-  feature_subfields,
-  IsEditOfWidth,
-  IsCommand,
-  ScriptLine,
-  skipped,
-  spoken,
-  spoken_command,
-  IsLine,
-}
+use Rattle.text_spec.specs.ScriptLines.{IsOfWidth, record_subfields, vector_subfields, feature_subfields, IsEditOfWidth, IsCommand, ScriptLine, skipped}
+use Rattle.text_spec.specs.ScriptLines.{spoken, spoken_command, IsLine}
 use Rattle.edit_laws.specs.ReadBackAfterRuns.{EditHasItsTypes, CommandHasItsTypes}
 use Rattle.cell_spec.proofs.EachItem.{each_weaker, each_front, each_back}
 use Rattle.export_laws.specs.ScriptTypes.{ScriptHasItsTypes}

@@ -3,34 +3,9 @@ use Rattle.std.proofs.Common.{◌≡◌, ◌↔◌, ◌==◌, ◌&&◌, ◌<◌,
 use Rattle.std.specs.Prelude.{ℤ}
 use Rattle.std.specs.List.{AllByRecursion}
 use Rattle.std.proofs.lemmas.Bool.Decides.{nat_tests}
-use Rattle.s57_types.specs.FieldRows.{
-  number_forms,
-  dsid_forms,
-  dssi_forms,
-  dspm_forms,
-  frid_forms,
-  foid_forms,
-  attribute_forms,
-  partner_forms,
-  place_forms,
-  vrid_forms,
-  end_forms,
-  plane_forms,
-  deep_forms,
-  number_row,
-  dsid_row,
-  dssi_row,
-  dspm_row,
-  frid_row,
-  foid_row,
-  attribute_row,
-  partner_row,
-  place_row,
-  vrid_row,
-  end_row,
-  plane_row,
-  deep_row,
-}
+use Rattle.s57_types.specs.FieldRows.{number_forms, dsid_forms, dssi_forms, dspm_forms, frid_forms, foid_forms, attribute_forms, partner_forms, place_forms}
+use Rattle.s57_types.specs.FieldRows.{vrid_forms, end_forms, plane_forms, deep_forms, number_row, dsid_row, dssi_row, dspm_row, frid_row, foid_row}
+use Rattle.s57_types.specs.FieldRows.{attribute_row, partner_row, place_row, vrid_row, end_row, plane_row, deep_row}
 use Rattle.s57_types.specs.Fitness.{is_vector_kind}
 use Rattle.s57_types.specs.declared.name.Kind.{Kind}
 use Rattle.s57_types.specs.declared.name.Lnam.{Lnam}
@@ -43,55 +18,15 @@ use Rattle.s57_types.specs.declared.field.Dssi.{Dssi}
 use Rattle.s57_types.specs.declared.field.Dspm.{Dspm}
 use Rattle.s57_types.specs.declared.field.Frid.{Frid}
 use Rattle.s57_types.specs.declared.field.Vrid.{Vrid}
-use Rattle.field_spec.specs.Contents.{
-  number_content,
-  dsid_content,
-  dssi_content,
-  dspm_content,
-  frid_content,
-  foid_content,
-  attribute_content,
-  partner_content,
-  place_content,
-  vrid_content,
-  end_content,
-  plane_content,
-  deep_content,
-  number_in,
-  any_row,
-  names_a_vector,
-  has_good_levels,
-  dsid_value,
-  dssi_value,
-  dspm_value,
-  frid_value,
-  lnam_in,
-  attribute_value,
-  partner_value,
-  place_value,
-  vrid_value,
-  end_value,
-  plane_value,
-  deep_value,
-}
+use Rattle.field_spec.specs.Contents.{number_content, dsid_content, dssi_content, dspm_content, frid_content, foid_content, attribute_content}
+use Rattle.field_spec.specs.Contents.{partner_content, place_content, vrid_content, end_content, plane_content, deep_content, number_in, any_row}
+use Rattle.field_spec.specs.Contents.{names_a_vector, has_good_levels, dsid_value, dssi_value, dspm_value, frid_value, lnam_in, attribute_value}
+use Rattle.field_spec.specs.Contents.{partner_value, place_value, vrid_value, end_value, plane_value, deep_value}
 use Rattle.field_spec.specs.Spelling.{SpellsRow, SpellsRows}
 use Rattle.field_spec.proofs.Decided.{row_decided, row_told, rows_decided, rows_told}
-use Rattle.field_spec.proofs.Respelled.{
-  number_respelled,
-  dsid_respelled,
-  dssi_respelled,
-  dspm_respelled,
-  frid_respelled,
-  foid_respelled,
-  vrid_respelled,
-  attribute_respelled,
-  partner_respelled,
-  place_respelled,
-  end_respelled,
-  plane_respelled,
-  deep_respelled,
-  vector_named,
-}
+use Rattle.field_spec.proofs.Respelled.{number_respelled, dsid_respelled, dssi_respelled, dspm_respelled, frid_respelled, foid_respelled, vrid_respelled}
+use Rattle.field_spec.proofs.Respelled.{attribute_respelled, partner_respelled, place_respelled, end_respelled, plane_respelled, deep_respelled}
+use Rattle.field_spec.proofs.Respelled.{vector_named}
 use Rattle.field_spec.proofs.Written.{dssi_value-row, attribute_value-row, attribute_rows_told, kind_of_rcnm-rcnm_of, vector_rcnm}
 
 pub number_decided : (b : List ℕ) (n : ℕ) → All (λ c. c < 256) b → (number_content b ≡ Ok n ↔ SpellsRow number_forms (number_row n) b)

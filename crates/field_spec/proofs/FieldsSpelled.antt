@@ -1,41 +1,6 @@
 -- The bytes of a field that spell rows are cut into these rows.
-use Rattle.std.proofs.Common.{
-  ◌≡◌,
-  ◌⊎◌,
-  inl,
-  inr,
-  ℕ,
-  zero,
-  suc,
-  ◌+◌,
-  ◌-◌,
-  ◌%◌,
-  ◌<◌,
-  ◌≤◌,
-  ◌==◌,
-  ◌&&◌,
-  ◌||◌,
-  Bool,
-  true,
-  false,
-  cond,
-  List,
-  [],
-  ◌∷◌,
-  ◌++◌,
-  length,
-  map,
-  take,
-  nat_lt,
-  slice_index,
-  Some,
-  refl,
-  sym,
-  ap,
-  ◌∙◌,
-  length-append,
-  arith,
-}
+use Rattle.std.proofs.Common.{◌≡◌, ◌⊎◌, inl, inr, ℕ, zero, suc, ◌+◌, ◌-◌, ◌%◌, ◌<◌, ◌≤◌, ◌==◌, ◌&&◌, ◌||◌, Bool, true, false, cond, List, [], ◌∷◌, ◌++◌}
+use Rattle.std.proofs.Common.{length, map, take, nat_lt, slice_index, Some, refl, sym, ap, ◌∙◌, length-append, arith}
 use Rattle.std.proofs.Math.Seq.{take-append_seam, get_or-append_seam}
 use Rattle.std.proofs.lemmas.List.{append-nil, get_or-append-add}
 use Rattle.std.proofs.lemmas.Bool.Decides.{nat_tests}
@@ -44,21 +9,8 @@ use Rattle.std.specs.Option.{option_map, option_and_then}
 use Rattle.std.specs.List.{flat_map, list_all, AllByRecursion}
 use Rattle.std.specs.Int.{w32, cast_unsigned}
 use Rattle.byteorder.specs.Numbers.{length-bytes_low_first}
-use Rattle.s57_types.specs.Subfield.{
-  Form,
-  Subfield,
-  unsigned_of,
-  signed_of,
-  text_of,
-  wide_text_of,
-  fixed_of,
-  form_of,
-  spelling,
-  row_bytes,
-  IsSubfield,
-  unit_terminator,
-  field_terminator,
-}
+use Rattle.s57_types.specs.Subfield.{Form, Subfield, unsigned_of, signed_of, text_of, wide_text_of, fixed_of, form_of, spelling, row_bytes, IsSubfield}
+use Rattle.s57_types.specs.Subfield.{unit_terminator, field_terminator}
 use Rattle.field_spec.specs.Cutting.{cut_row, cut_rows, before_terminator, before_wide_terminator, whole, field_row, field_rows}
 use Rattle.field_spec.specs.FieldContent.{IsRow, IsField, IsFieldOfRows}
 use Rattle.field_spec.specs.FieldFit.{takes_bytes, has_bytes, is_even, fits_level}

@@ -2,75 +2,15 @@
 use Rattle.std.proofs.Common.{◌≡◌, ℕ, suc, ◌==◌, Bool, true, false, cond, List, [], ◌∷◌, map, slice_get, Option, Some, refl, sym, ap, ◌∙◌}
 use Rattle.std.proofs.lemmas.Bool.Decides.{nat_tests}
 use Rattle.std.proofs.Common.{arith}
-use Rattle.s57_types.specs.Subfield.{
-  Form,
-  Subfield,
-  unsigned,
-  signed,
-  text,
-  wide_text,
-  fixed,
-  b11,
-  b12,
-  unsigned_of,
-  signed_of,
-  text_of,
-  wide_text_of,
-  fixed_of,
-  form_of,
-}
-use Rattle.s57_types.specs.FieldRows.{
-  rcnm_of,
-  dsid_forms,
-  dsid_row,
-  dssi_forms,
-  dssi_row,
-  dspm_forms,
-  dspm_row,
-  frid_forms,
-  frid_row,
-  foid_forms,
-  foid_row,
-  attribute_forms,
-  attribute_row,
-  partner_forms,
-  partner_row,
-  place_forms,
-  place_row,
-  vrid_forms,
-  vrid_row,
-  end_forms,
-  end_row,
-  plane_forms,
-  plane_row,
-  deep_forms,
-  deep_row,
-  number_forms,
-  number_row,
-}
+use Rattle.s57_types.specs.Subfield.{Form, Subfield, unsigned, signed, text, wide_text, fixed, b11, b12, unsigned_of, signed_of, text_of, wide_text_of}
+use Rattle.s57_types.specs.Subfield.{fixed_of, form_of}
+use Rattle.s57_types.specs.FieldRows.{rcnm_of, dsid_forms, dsid_row, dssi_forms, dssi_row, dspm_forms, dspm_row, frid_forms, frid_row, foid_forms, foid_row}
+use Rattle.s57_types.specs.FieldRows.{attribute_forms, attribute_row, partner_forms, partner_row, place_forms, place_row, vrid_forms, vrid_row, end_forms}
+use Rattle.s57_types.specs.FieldRows.{end_row, plane_forms, plane_row, deep_forms, deep_row, number_forms, number_row}
 use Rattle.s57_types.specs.Fitness.{is_vector_kind}
-use Rattle.field_spec.specs.Contents.{
-  number_value,
-  signed_value,
-  text_value,
-  number_in,
-  text_in,
-  kind_of_rcnm,
-  is_vector_rcnm,
-  names_a_vector,
-  dsid_value,
-  dssi_value,
-  dspm_value,
-  frid_value,
-  lnam_in,
-  attribute_value,
-  partner_value,
-  place_value,
-  vrid_value,
-  end_value,
-  plane_value,
-  deep_value,
-}
+use Rattle.field_spec.specs.Contents.{number_value, signed_value, text_value, number_in, text_in, kind_of_rcnm, is_vector_rcnm, names_a_vector, dsid_value}
+use Rattle.field_spec.specs.Contents.{dssi_value, dspm_value, frid_value, lnam_in, attribute_value, partner_value, place_value, vrid_value, end_value}
+use Rattle.field_spec.specs.Contents.{plane_value, deep_value}
 use Rattle.field_spec.specs.FieldContent.{IsRow}
 
 -- the subfield of a form that has the value of a subfield

@@ -1,38 +1,6 @@
 -- The bytes that spell subfields are cut into these subfields.
-use Rattle.std.proofs.Common.{
-  ◌≡◌,
-  ℕ,
-  ◌+◌,
-  ◌%◌,
-  ◌^◌,
-  ◌<◌,
-  ◌==◌,
-  ◌&&◌,
-  ◌||◌,
-  Bool,
-  true,
-  false,
-  not,
-  List,
-  [],
-  ◌∷◌,
-  ◌++◌,
-  length,
-  map,
-  take,
-  drop,
-  position,
-  nat_lt,
-  Option,
-  Some,
-  refl,
-  sym,
-  ap,
-  ◌∙◌,
-  append_assoc,
-  length-append,
-  arith,
-}
+use Rattle.std.proofs.Common.{◌≡◌, ℕ, ◌+◌, ◌%◌, ◌^◌, ◌<◌, ◌==◌, ◌&&◌, ◌||◌, Bool, true, false, not, List, [], ◌∷◌, ◌++◌, length, map, take, drop, position}
+use Rattle.std.proofs.Common.{nat_lt, Option, Some, refl, sym, ap, ◌∙◌, append_assoc, length-append, arith}
 use Rattle.std.specs.Prelude.{ℤ, FitsSigned}
 use Rattle.std.proofs.Math.Seq.{take-append_seam, drop-append_seam}
 use Rattle.std.proofs.lemmas.List.{append-nil}
@@ -43,25 +11,8 @@ use Rattle.std.specs.List.{prefix_len, AllByRecursion}
 use Rattle.std.specs.Int.{w32, cast_unsigned, cast_signed, bytes_low_first}
 use Rattle.byteorder.specs.Endian.{little_number, little_from}
 use Rattle.byteorder.specs.Numbers.{little_number-reads_back, length-bytes_low_first}
-use Rattle.s57_types.specs.Subfield.{
-  Subfield,
-  unsigned,
-  signed,
-  text,
-  wide_text,
-  unsigned_of,
-  signed_of,
-  text_of,
-  wide_text_of,
-  fixed_of,
-  form_of,
-  spelling,
-  row_bytes,
-  IsSubfield,
-  unit_terminator,
-  holds,
-  has_unit,
-}
+use Rattle.s57_types.specs.Subfield.{Subfield, unsigned, signed, text, wide_text, unsigned_of, signed_of, text_of, wide_text_of, fixed_of, form_of, spelling}
+use Rattle.s57_types.specs.Subfield.{row_bytes, IsSubfield, unit_terminator, holds, has_unit}
 use Rattle.field_spec.specs.Cutting.{split, split_units, front, cut_row}
 
 -- a subfield and the bytes after it

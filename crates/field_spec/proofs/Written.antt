@@ -1,49 +1,12 @@
 -- Fields that were written are read as their values.
-use Rattle.std.proofs.Common.{
-  ◌≡◌,
-  ◌⊎◌,
-  inl,
-  ℕ,
-  ◌==◌,
-  ◌&&◌,
-  Bool,
-  true,
-  false,
-  not,
-  cond,
-  slice_get,
-  List,
-  [],
-  ◌∷◌,
-  ◌++◌,
-  length,
-  map,
-  Ok,
-  Err,
-  refl,
-  sym,
-  ap,
-  ◌∙◌,
-  arith,
-}
+use Rattle.std.proofs.Common.{◌≡◌, ◌⊎◌, inl, ℕ, ◌==◌, ◌&&◌, Bool, true, false, not, cond, slice_get, List, [], ◌∷◌, ◌++◌, length, map, Ok, Err, refl, sym}
+use Rattle.std.proofs.Common.{ap, ◌∙◌, arith}
 use Rattle.std.specs.Bool.{MatchBool}
 use Rattle.std.proofs.lemmas.List.{length-map}
 use Rattle.std.specs.List.{flat_map, list_all, AllByRecursion}
 use Rattle.std.specs.Result.{result_map_both}
-use Rattle.s57_types.specs.Subfield.{
-  Form,
-  Subfield,
-  form_of,
-  row_bytes,
-  field_terminator,
-  is_plain,
-  text,
-  wide_text,
-  unsigned,
-  unsigned_of,
-  text_of,
-  wide_text_of,
-}
+use Rattle.s57_types.specs.Subfield.{Form, Subfield, form_of, row_bytes, field_terminator, is_plain, text, wide_text, unsigned, unsigned_of, text_of}
+use Rattle.s57_types.specs.Subfield.{wide_text_of}
 use Rattle.s57_types.specs.FieldRows.{dssi_forms, dssi_row, rcnm_of, attribute_forms, attribute_row}
 use Rattle.s57_types.specs.RecordFields.{terminator_of}
 use Rattle.s57_types.specs.Fitness.{is_vector_kind}

@@ -4,21 +4,8 @@ use Rattle.std.specs.Prelude.{ℤ, pos}
 use Rattle.std.specs.List.{list_all}
 use Rattle.std.specs.Result.{result_map_both}
 use Rattle.s57_types.specs.Subfield.{Form, Subfield, unsigned_of, signed_of, text_of, wide_text_of, fixed_of, is_plain}
-use Rattle.s57_types.specs.FieldRows.{
-  number_forms,
-  dsid_forms,
-  dssi_forms,
-  dspm_forms,
-  frid_forms,
-  foid_forms,
-  attribute_forms,
-  partner_forms,
-  place_forms,
-  vrid_forms,
-  end_forms,
-  plane_forms,
-  deep_forms,
-}
+use Rattle.s57_types.specs.FieldRows.{number_forms, dsid_forms, dssi_forms, dspm_forms, frid_forms, foid_forms, attribute_forms, partner_forms, place_forms}
+use Rattle.s57_types.specs.FieldRows.{vrid_forms, end_forms, plane_forms, deep_forms}
 use Rattle.field_spec.specs.Cutting.{field_row, field_rows}
 use Rattle.field_spec.specs.declared.fault.FieldFault.{FieldFault}
 use Rattle.field_spec.specs.declared.fault.FieldFault.TheVariants.{BadField, BadText}

@@ -1,46 +1,11 @@
 -- Bytes cut into subfields by their forms.
-use Rattle.std.specs.Prelude.{
-  ℕ,
-  zero,
-  suc,
-  ◌+◌,
-  ◌-◌,
-  ◌%◌,
-  ◌==◌,
-  ◌&&◌,
-  List,
-  [],
-  ◌∷◌,
-  length,
-  take,
-  drop,
-  position,
-  nat_lt,
-  Option,
-  Some,
-  None,
-  slice_index,
-  if◌then◌else◌,
-}
+use Rattle.std.specs.Prelude.{ℕ, zero, suc, ◌+◌, ◌-◌, ◌%◌, ◌==◌, ◌&&◌, List, [], ◌∷◌, length, take, drop, position, nat_lt, Option, Some, None, slice_index}
+use Rattle.std.specs.Prelude.{if◌then◌else◌}
 use Rattle.std.specs.Option.{option_map, option_and_then}
 use Rattle.std.specs.Int.{w32, cast_signed}
 use Rattle.byteorder.specs.Endian.{little_number}
-use Rattle.s57_types.specs.Subfield.{
-  Form,
-  Subfield,
-  unsigned,
-  signed,
-  text,
-  wide_text,
-  fixed,
-  unsigned_of,
-  signed_of,
-  text_of,
-  wide_text_of,
-  fixed_of,
-  unit_terminator,
-  field_terminator,
-}
+use Rattle.s57_types.specs.Subfield.{Form, Subfield, unsigned, signed, text, wide_text, fixed, unsigned_of, signed_of, text_of, wide_text_of, fixed_of}
+use Rattle.s57_types.specs.Subfield.{unit_terminator, field_terminator}
 
 -- so many bytes, and the bytes after them
 abbrev pub split : ℕ → List ℕ → Option (List ℕ × List ℕ)

@@ -2,26 +2,8 @@
 use Rattle.std.specs.Prelude.{ℕ, List, [], ◌∷◌, ◌++◌, take, replicate, codes}
 use Rattle.std.specs.List.{flat_map}
 use Rattle.frame_spec.specs.RecordFrame.{Field}
-use Rattle.file_samples.specs.SmallFiles.{
-  AreDecoded,
-  fault,
-  field,
-  number,
-  dsid,
-  dsid_of_bad_text,
-  dssi,
-  dspm,
-  vrid,
-  frid,
-  foid,
-  attributes,
-  bare_description,
-  file,
-  general,
-  geographic,
-  file_with,
-  file_behind,
-}
+use Rattle.file_samples.specs.SmallFiles.{AreDecoded, fault, field, number, dsid, dsid_of_bad_text, dssi, dspm, vrid, frid, foid, attributes}
+use Rattle.file_samples.specs.SmallFiles.{bare_description, file, general, geographic, file_with, file_behind}
 
 -- the bytes of one record of one field: 24 of leader, one entry of six, a terminator, and nine
 abbrev pub node_record : List ℕ

@@ -9,17 +9,8 @@ use Rattle.file_spec.specs.EncodedCell.{encoded_cell, record_bytes}
 use Rattle.file_spec.specs.DecodedCell.{decoded_cell}
 use Rattle.cell_make.specs.Parts.{head, node}
 use Rattle.cell_make.specs.Square.{square}
-use Rattle.file_samples.specs.SquareBytes.{
-  square_bytes,
-  square_with,
-  node_bytes,
-  wide_node_bytes,
-  zero_bytes,
-  descriptive_bytes,
-  general_bytes,
-  geographic_bytes,
-  no_counts,
-}
+use Rattle.file_samples.specs.SquareBytes.{square_bytes, square_with, node_bytes, wide_node_bytes, zero_bytes, descriptive_bytes, general_bytes}
+use Rattle.file_samples.specs.SquareBytes.{geographic_bytes, no_counts}
 
 -- how long the fields of the data descriptive record are, all of them, and the record
 abbrev pub DescriptiveRecordHasLengths : Type 0

@@ -9,35 +9,10 @@ use Rattle.std.proofs.lemmas.List.Elements.{All-append, All-cons, All-nil, All-f
 use Rattle.frame_spec.specs.RecordFrame.{Field}
 use Rattle.frame_spec.specs.WrittenRecord.{CanBeWritten, record_length, field_lengths, written_record}
 use Rattle.s57_types.specs.Fitness.{is_fit_head, unfitness, has_good_names, has_good_texts}
-use Rattle.s57_types.specs.RecordFields.{
-  number_field,
-  dsid_of_head,
-  dssi_of_head,
-  dspm_of_head,
-  identification_fields,
-  parameter_fields,
-  record_fields,
-  rows_field,
-  field_of,
-  written_length,
-  identification_length,
-  length_limit,
-}
-use Rattle.s57_types.specs.FieldRows.{
-  number_row,
-  dsid_row,
-  dssi_row,
-  dspm_row,
-  vrid_row,
-  frid_row,
-  foid_row,
-  attribute_row,
-  partner_row,
-  place_row,
-  end_row,
-  plane_row,
-  deep_row,
-}
+use Rattle.s57_types.specs.RecordFields.{number_field, dsid_of_head, dssi_of_head, dspm_of_head, identification_fields, parameter_fields, record_fields}
+use Rattle.s57_types.specs.RecordFields.{rows_field, field_of, written_length, identification_length, length_limit}
+use Rattle.s57_types.specs.FieldRows.{number_row, dsid_row, dssi_row, dspm_row, vrid_row, frid_row, foid_row, attribute_row, partner_row, place_row, end_row}
+use Rattle.s57_types.specs.FieldRows.{plane_row, deep_row}
 use Rattle.s57_types.specs.Subfield.{Subfield, row_bytes, field_terminator}
 use Rattle.s57_types.specs.declared.fault.Unfit.TheVariants.{TooLong, BadText, BadName}
 use Rattle.s57_types.specs.declared.cell.Cell.{Cell}

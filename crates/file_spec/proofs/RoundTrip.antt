@@ -7,47 +7,11 @@ use Rattle.std.proofs.lemmas.List.{length-append}
 use Rattle.std.proofs.lemmas.List.Sums.{count_by-le-length}
 use Rattle.std.proofs.lemmas.List.Folds.{list_all-append}
 use Rattle.std.proofs.lemmas.List.Elements.{recursion_from_All}
-use Rattle.s57_types.specs.Subfield.{
-  Form,
-  Subfield,
-  unsigned_of,
-  signed_of,
-  text_of,
-  wide_text_of,
-  fixed_of,
-  is_plain,
-  holds,
-  has_unit,
-  unit_terminator,
-  field_terminator,
-  IsSubfield,
-}
-use Rattle.s57_types.specs.FieldRows.{
-  dsid_forms,
-  dssi_forms,
-  dspm_forms,
-  frid_forms,
-  foid_forms,
-  attribute_forms,
-  partner_forms,
-  place_forms,
-  vrid_forms,
-  end_forms,
-  plane_forms,
-  deep_forms,
-  dsid_row,
-  dssi_row,
-  dspm_row,
-  frid_row,
-  foid_row,
-  attribute_row,
-  partner_row,
-  place_row,
-  vrid_row,
-  end_row,
-  plane_row,
-  deep_row,
-}
+use Rattle.s57_types.specs.Subfield.{Form, Subfield, unsigned_of, signed_of, text_of, wide_text_of, fixed_of, is_plain, holds, has_unit, unit_terminator}
+use Rattle.s57_types.specs.Subfield.{field_terminator, IsSubfield}
+use Rattle.s57_types.specs.FieldRows.{dsid_forms, dssi_forms, dspm_forms, frid_forms, foid_forms, attribute_forms, partner_forms, place_forms, vrid_forms}
+use Rattle.s57_types.specs.FieldRows.{end_forms, plane_forms, deep_forms, dsid_row, dssi_row, dspm_row, frid_row, foid_row, attribute_row, partner_row}
+use Rattle.s57_types.specs.FieldRows.{place_row, vrid_row, end_row, plane_row, deep_row}
 use Rattle.s57_types.specs.Fitness.{unfitness, is_vector_kind, is_feature_kind, is_fit_head}
 use Rattle.s57_types.specs.RecordFields.{dsid_of_head, dssi_of_head, dspm_of_head}
 use Rattle.s57_types.specs.declared.cell.Cell.{Cell}
@@ -66,20 +30,8 @@ use Rattle.s57_types.specs.declared.record.Rec.{Rec}
 use Rattle.s57_types.specs.declared.record.Rec.TheVariants.{V, F, H}
 use Rattle.cell_spec.specs.Lookup.{all_records}
 use Rattle.cell_spec.specs.Writable.{IsWritable}
-use Rattle.field_spec.specs.Contents.{
-  dsid_content,
-  dssi_content,
-  dspm_content,
-  frid_content,
-  foid_content,
-  attribute_content,
-  partner_content,
-  place_content,
-  vrid_content,
-  end_content,
-  plane_content,
-  deep_content,
-}
+use Rattle.field_spec.specs.Contents.{dsid_content, dssi_content, dspm_content, frid_content, foid_content, attribute_content, partner_content}
+use Rattle.field_spec.specs.Contents.{place_content, vrid_content, end_content, plane_content, deep_content}
 use Rattle.field_spec.specs.FieldBytes.{field_bytes, rows_bytes}
 use Rattle.field_spec.specs.FieldFit.{IsFit}
 use Rattle.file_spec.specs.EncodedCell.{record_counts, is_meta, is_cartographic, is_geo, is_collection}

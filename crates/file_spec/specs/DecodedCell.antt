@@ -15,20 +15,8 @@ use Rattle.s57_types.specs.declared.field.Dsid.{Dsid}
 use Rattle.s57_types.specs.declared.field.Dssi.{Dssi}
 use Rattle.s57_types.specs.declared.field.Dspm.{Dspm}
 use Rattle.s57_types.specs.declared.cell.Cell.{Cell}
-use Rattle.field_spec.specs.Contents.{
-  dsid_content,
-  dssi_content,
-  dspm_content,
-  frid_content,
-  foid_content,
-  attribute_content,
-  partner_content,
-  place_content,
-  vrid_content,
-  end_content,
-  plane_content,
-  deep_content,
-}
+use Rattle.field_spec.specs.Contents.{dsid_content, dssi_content, dspm_content, frid_content, foid_content, attribute_content, partner_content}
+use Rattle.field_spec.specs.Contents.{place_content, vrid_content, end_content, plane_content, deep_content}
 use Rattle.cell_spec.specs.Lookup.{all_records, name_of, is_named}
 use Rattle.cell_spec.specs.Writable.{record_limit}
 use Rattle.file_spec.specs.CellRecords.{empty_cell, head_with, with_record}

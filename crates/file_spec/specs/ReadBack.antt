@@ -2,20 +2,8 @@
 use Rattle.std.specs.Prelude.{◌≡◌, ℕ, List, [], ◌∷◌, ◌++◌, Result, Ok}
 use Rattle.std.specs.List.{AllByRecursion, flat_map}
 use Rattle.s57_types.specs.Subfield.{Subfield, row_bytes, field_terminator}
-use Rattle.s57_types.specs.FieldRows.{
-  dsid_row,
-  dssi_row,
-  dspm_row,
-  frid_row,
-  foid_row,
-  attribute_row,
-  partner_row,
-  place_row,
-  vrid_row,
-  end_row,
-  plane_row,
-  deep_row,
-}
+use Rattle.s57_types.specs.FieldRows.{dsid_row, dssi_row, dspm_row, frid_row, foid_row, attribute_row, partner_row, place_row, vrid_row, end_row, plane_row}
+use Rattle.s57_types.specs.FieldRows.{deep_row}
 use Rattle.s57_types.specs.RecordFields.{terminator_of, dsid_of_head, dssi_of_head, dspm_of_head}
 use Rattle.s57_types.specs.declared.cell.Cell.{Cell}
 use Rattle.s57_types.specs.declared.head.Head.{Head}
@@ -25,20 +13,8 @@ use Rattle.s57_types.specs.declared.record.Feature.{Feature}
 use Rattle.s57_types.specs.declared.record.Vector.{Vector}
 use Rattle.s57_types.specs.declared.record.Rec.{Rec}
 use Rattle.s57_types.specs.declared.record.Rec.TheVariants.{V, F, H}
-use Rattle.field_spec.specs.Contents.{
-  dsid_content,
-  dssi_content,
-  dspm_content,
-  frid_content,
-  foid_content,
-  attribute_content,
-  partner_content,
-  place_content,
-  vrid_content,
-  end_content,
-  plane_content,
-  deep_content,
-}
+use Rattle.field_spec.specs.Contents.{dsid_content, dssi_content, dspm_content, frid_content, foid_content, attribute_content, partner_content}
+use Rattle.field_spec.specs.Contents.{place_content, vrid_content, end_content, plane_content, deep_content}
 use Rattle.field_spec.specs.declared.fault.FieldFault.{FieldFault}
 use Rattle.cell_spec.specs.Lookup.{all_records}
 use Rattle.cell_spec.specs.Writable.{IsWritable}

@@ -6,22 +6,8 @@ use Rattle.field_spec.specs.declared.fault.FieldFault.{FieldFault}
 use Rattle.field_spec.specs.declared.fault.FieldFault.TheVariants as field
 use Rattle.s57_types.specs.declared.fault.CellFault.{CellFault}
 use Rattle.file_spec.specs.declared.fault.RecordFault.{RecordFault}
-use Rattle.file_spec.specs.declared.fault.RecordFault.TheVariants.{
-  Short,
-  BadLeader,
-  BadDirectory,
-  BadField,
-  MissingField,
-  RepeatedField,
-  ForeignTag,
-  NotBase,
-  NotChainNode,
-  TwiceName,
-  HeadOrder,
-  BadText,
-  TooLong,
-  TooMany,
-}
+use Rattle.file_spec.specs.declared.fault.RecordFault.TheVariants.{Short, BadLeader, BadDirectory, BadField, MissingField, RepeatedField, ForeignTag}
+use Rattle.file_spec.specs.declared.fault.RecordFault.TheVariants.{NotBase, NotChainNode, TwiceName, HeadOrder, BadText, TooLong, TooMany}
 
 -- the codes are this project's own
 abbrev pub code_of : RecordFault → ℕ

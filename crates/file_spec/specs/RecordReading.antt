@@ -5,20 +5,8 @@ use Rattle.std.specs.List.{list_any, flat_map}
 use Rattle.std.specs.Option.{option_map, option_or, option_and_then, ok_or}
 use Rattle.std.specs.Result.{result_ok, result_err, result_unwrap_or}
 use Rattle.frame_spec.specs.RecordFrame.{Field}
-use Rattle.field_spec.specs.Contents.{
-  dsid_content,
-  dssi_content,
-  dspm_content,
-  frid_content,
-  foid_content,
-  attribute_content,
-  partner_content,
-  place_content,
-  vrid_content,
-  end_content,
-  plane_content,
-  deep_content,
-}
+use Rattle.field_spec.specs.Contents.{dsid_content, dssi_content, dspm_content, frid_content, foid_content, attribute_content, partner_content}
+use Rattle.field_spec.specs.Contents.{place_content, vrid_content, end_content, plane_content, deep_content}
 use Rattle.field_spec.specs.declared.fault.FieldFault.{FieldFault}
 use Rattle.file_spec.specs.RecordFaults.{of_field}
 use Rattle.file_spec.specs.FieldTags.{is_tagged, tag_in, may_repeat}

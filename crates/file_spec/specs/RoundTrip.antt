@@ -3,30 +3,9 @@ use Rattle.std.specs.Prelude.{◌≡◌, ◌<◌, ◌^◌, ℕ, List, map, Ok, F
 use Rattle.std.specs.Int.{w32}
 use Rattle.std.specs.List.{AllByRecursion}
 use Rattle.s57_types.specs.Subfield.{Form, Subfield, form_of, unsigned_of, signed_of, text_of, wide_text_of, fixed_of}
-use Rattle.s57_types.specs.FieldRows.{
-  dsid_forms,
-  dspm_forms,
-  frid_forms,
-  foid_forms,
-  attribute_forms,
-  partner_forms,
-  place_forms,
-  vrid_forms,
-  end_forms,
-  plane_forms,
-  deep_forms,
-  dsid_row,
-  dspm_row,
-  frid_row,
-  foid_row,
-  attribute_row,
-  partner_row,
-  place_row,
-  vrid_row,
-  end_row,
-  plane_row,
-  deep_row,
-}
+use Rattle.s57_types.specs.FieldRows.{dsid_forms, dspm_forms, frid_forms, foid_forms, attribute_forms, partner_forms, place_forms, vrid_forms, end_forms}
+use Rattle.s57_types.specs.FieldRows.{plane_forms, deep_forms, dsid_row, dspm_row, frid_row, foid_row, attribute_row, partner_row, place_row, vrid_row}
+use Rattle.s57_types.specs.FieldRows.{end_row, plane_row, deep_row}
 use Rattle.s57_types.specs.RecordFields.{dsid_of_head, dspm_of_head}
 use Rattle.s57_types.specs.declared.cell.Cell.{Cell}
 use Rattle.s57_types.specs.declared.record.Attr.{Attr}

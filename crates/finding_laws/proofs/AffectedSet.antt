@@ -17,22 +17,8 @@ use Rattle.cell_spec.specs.Names.{is_head_name, key_order, same_subject, subject
 use Rattle.cell_spec.proofs.Ascending.{holds, holds-ascending}
 use Rattle.cell_spec.proofs.Orders.{exact_keys, total_keys}
 use Rattle.cell_spec.proofs.SubjectOrder.{exact_subjects, total_subjects}
-use Rattle.rule_spec.specs.Affected.{
-  Change,
-  affected_list,
-  change_by,
-  considered,
-  each_once,
-  first_round,
-  is_affected,
-  is_affected_with,
-  is_single,
-  is_single_affected,
-  named_by,
-  pair_of,
-  pairs_with,
-  reads_key,
-}
+use Rattle.rule_spec.specs.Affected.{Change, affected_list, change_by, considered, each_once, first_round, is_affected, is_affected_with, is_single}
+use Rattle.rule_spec.specs.Affected.{is_single_affected, named_by, pair_of, pairs_with, reads_key}
 use Rattle.rule_spec.specs.Candidates.{are_candidates, candidates_of}
 use Rattle.rule_spec.specs.Findings.{is_below, is_subject, subjects}
 use Rattle.rule_spec.specs.Reads.{keys_read, read_set}

@@ -1,31 +1,6 @@
 -- Each affected subject is among those that are looked at.
-use Rattle.std.proofs.Common.{
-  ◌≡◌,
-  inl,
-  inr,
-  ◌&&◌,
-  ◌||◌,
-  Bool,
-  true,
-  false,
-  List,
-  [],
-  ◌∷◌,
-  ◌++◌,
-  Option,
-  None,
-  Some,
-  cond,
-  map,
-  filter,
-  length,
-  is_some,
-  refl,
-  sym,
-  ap,
-  ◌∙◌,
-  subst,
-}
+use Rattle.std.proofs.Common.{◌≡◌, inl, inr, ◌&&◌, ◌||◌, Bool, true, false, List, [], ◌∷◌, ◌++◌, Option, None, Some, cond, map, filter, length, is_some}
+use Rattle.std.proofs.Common.{refl, sym, ap, ◌∙◌, subst}
 use Rattle.std.specs.Prelude.{nat_lt, flat_map, option_and_then}
 use Rattle.std.specs.List.{list_any, AllByRecursion}
 use Rattle.std.specs.declared.cmp.Ordering.{Ordering}
@@ -51,19 +26,8 @@ use Rattle.cell_spec.specs.Lookup.{all_records, head_and_records, is_named, list
 use Rattle.cell_spec.specs.Names.{is_head_name, key_order, name_order, same_key, same_name, subject_order}
 use Rattle.cell_spec.proofs.Orders.{exact_keys, one_when_same, same_from_either, total_names}
 use Rattle.cell_spec.proofs.SubjectOrder.{total_subjects}
-use Rattle.rule_spec.specs.Affected.{
-  change_by,
-  considered,
-  first_round,
-  is_affected,
-  is_affected_with,
-  is_single,
-  is_single_affected,
-  named_by,
-  pair_of,
-  pairs_with,
-  reads_key,
-}
+use Rattle.rule_spec.specs.Affected.{change_by, considered, first_round, is_affected, is_affected_with, is_single, is_single_affected, named_by, pair_of}
+use Rattle.rule_spec.specs.Affected.{pairs_with, reads_key}
 use Rattle.rule_spec.specs.Candidates.{are_candidates, candidates_of}
 use Rattle.rule_spec.specs.Findings.{is_below, is_subject, subjects}
 use Rattle.rule_spec.specs.Reads.{read_set}

@@ -1,28 +1,6 @@
 -- The subjects of a cell, and the candidates for a name, are listed, and nothing else is.
-use Rattle.std.proofs.Common.{
-  ◌≡◌,
-  ℕ,
-  ◌&&◌,
-  ◌||◌,
-  Bool,
-  true,
-  false,
-  [],
-  ◌++◌,
-  Option,
-  None,
-  Some,
-  cond,
-  map,
-  filter,
-  length,
-  is_some,
-  refl,
-  sym,
-  ap,
-  ◌∙◌,
-  subst,
-}
+use Rattle.std.proofs.Common.{◌≡◌, ℕ, ◌&&◌, ◌||◌, Bool, true, false, [], ◌++◌, Option, None, Some, cond, map, filter, length, is_some, refl, sym, ap, ◌∙◌}
+use Rattle.std.proofs.Common.{subst}
 use Rattle.std.specs.Prelude.{not, nat_lt, flat_map, option_and_then, option_map, option_to_list}
 use Rattle.std.specs.Option.{option_map_or}
 use Rattle.std.specs.List.Sorted.{IsStrictlySortedBy}

@@ -23,18 +23,8 @@ use Rattle.geometry_spec.specs.declared.tile.TileRange.{TileRange}
 use Rattle.rule_spec.specs.Candidates.{are_candidates, candidates_of, has_oversized, have_common_tile, segments_named, share_a_tile, tiles_under}
 use Rattle.rule_spec.specs.EdgePoints.{Segment}
 use Rattle.rule_spec.specs.Findings.{record_names}
-use Rattle.finding_laws.specs.Tables.{
-  Covering,
-  IsCoveringsOf,
-  MatesAreCandidates,
-  covering_in,
-  covering_of,
-  coverings_listed,
-  do_ranges_meet,
-  is_mate,
-  is_oversized_range,
-  range_order,
-}
+use Rattle.finding_laws.specs.Tables.{Covering, IsCoveringsOf, MatesAreCandidates, covering_in, covering_of, coverings_listed, do_ranges_meet, is_mate}
+use Rattle.finding_laws.specs.Tables.{is_oversized_range, range_order}
 use Rattle.answer_laws.proofs.Among.{picked}
 use Rattle.answer_laws.proofs.Tests.{any_same}
 use Rattle.finding_laws.proofs.Listed.{named_in, no_segments}

@@ -8,14 +8,8 @@ use Rattle.std.specs.declared.cmp.Ordering.TheVariants.{Less, Equal, Greater}
 use Rattle.std.specs.Ordering.{is_eq, match_ordering}
 use Rattle.std.specs.Cmp.{IsTotalOrder, both_ways, eq_by_cmp_equiv}
 use Rattle.std.proofs.lemmas.Bool.{or_from}
-use Rattle.std.proofs.lemmas.List.Sorted.{
-  IsPermutation-refl,
-  IsPermutation-sym,
-  IsPermutation-trans,
-  IsPermutation-cons,
-  IsPermutation-middle,
-  IsPermutation-append_right,
-}
+use Rattle.std.proofs.lemmas.List.Sorted.{IsPermutation-refl, IsPermutation-sym, IsPermutation-trans, IsPermutation-cons, IsPermutation-middle}
+use Rattle.std.proofs.lemmas.List.Sorted.{IsPermutation-append_right}
 use Rattle.std.proofs.lemmas.Map.Lookups.{CmpEqualImpliesEq}
 use Rattle.cell_spec.specs.Ascending.{ascending, put_in_order}
 use Rattle.cell_spec.proofs.Ascending.{holds, holds-put, holds-ascending, sorted-ascending, same_when_sorted}

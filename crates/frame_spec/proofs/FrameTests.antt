@@ -1,35 +1,6 @@
 -- The tests of a record frame decide what they are named for.
-use Rattle.std.proofs.Common.{
-  ◌≡◌,
-  ◌≤◌,
-  ◌<◌,
-  ℕ,
-  ◌+◌,
-  ◌-◌,
-  ◌%◌,
-  Bool,
-  true,
-  false,
-  not,
-  List,
-  length,
-  get_or,
-  Decides,
-  ◌&&◌,
-  Result,
-  MatchResult,
-  Ok,
-  Err,
-  refl,
-  sym,
-  ◌∙◌,
-  subst,
-  arith,
-  zero-add,
-  cond,
-  nat_lt,
-  nat_le,
-}
+use Rattle.std.proofs.Common.{◌≡◌, ◌≤◌, ◌<◌, ℕ, ◌+◌, ◌-◌, ◌%◌, Bool, true, false, not, List, length, get_or, Decides, ◌&&◌, Result, MatchResult, Ok, Err}
+use Rattle.std.proofs.Common.{refl, sym, ◌∙◌, subst, arith, zero-add, cond, nat_lt, nat_le}
 use Rattle.std.specs.Prelude.{All, slice_index}
 use Rattle.std.specs.List.{list_all, range_with_len}
 use Rattle.std.proofs.lemmas.Bool.Decides.{nat_tests, Decides-eqb, Decides-and, Decides-like, Decides-ltb, not_from_Decides}
@@ -37,27 +8,8 @@ use Rattle.std.proofs.lemmas.Bool.{ltb-false, ltb-true}
 use Rattle.std.proofs.lemmas.List.Sums.{AllPass-from_list_all, list_all-from_AllPass}
 use Rattle.std.proofs.lemmas.List.FromFn.{length-range_with_len, get_or-range_with_len}
 use Rattle.std.specs.Char.{IsAsciiDigit}
-use Rattle.frame_spec.specs.RecordFrame.{
-  FrameView,
-  AreDigits,
-  IsSize,
-  IsLeader,
-  IsEntry,
-  IsDirectory,
-  RecordFrame,
-  in_leader,
-  in_record,
-  bytes_at,
-  kind_of,
-  length_at,
-  base_at,
-  length_text,
-  position_text,
-  field_length,
-  field_position,
-  entry_size_at,
-  count_at,
-}
+use Rattle.frame_spec.specs.RecordFrame.{FrameView, AreDigits, IsSize, IsLeader, IsEntry, IsDirectory, RecordFrame, in_leader, in_record, bytes_at, kind_of}
+use Rattle.frame_spec.specs.RecordFrame.{length_at, base_at, length_text, position_text, field_length, field_position, entry_size_at, count_at}
 use Rattle.frame_spec.specs.FrameDecision.{is_digit, is_size, is_leader, is_entry, is_directory, record_at, frame_at}
 use Rattle.frame_spec.specs.FrameFaults.{HasFrameFault}
 use Rattle.frame_spec.specs.declared.fault.FrameFault.{FrameFault}

@@ -6,27 +6,9 @@ use Rattle.std.proofs.Math.Nat.{mul-mod_left, mul-div_left}
 use Rattle.std.proofs.lemmas.List.{length-append}
 use Rattle.std.proofs.lemmas.List.FromFn.{fill_by_all}
 use Rattle.std.proofs.lemmas.List.Elements.{All-from_recursion}
-use Rattle.frame_spec.specs.RecordFrame.{
-  Field,
-  RecordFrame,
-  IsEntry,
-  AreDigits,
-  bytes_at,
-  decimal_value,
-  length_at,
-  base_at,
-  length_size_at,
-  position_size_at,
-  entry_size_at,
-  count_at,
-  entry_place,
-  field_tag,
-  length_text,
-  position_text,
-  field_length,
-  field_position,
-  field_at,
-}
+use Rattle.frame_spec.specs.RecordFrame.{Field, RecordFrame, IsEntry, AreDigits, bytes_at, decimal_value, length_at, base_at, length_size_at}
+use Rattle.frame_spec.specs.RecordFrame.{position_size_at, entry_size_at, count_at, entry_place, field_tag, length_text, position_text, field_length}
+use Rattle.frame_spec.specs.RecordFrame.{field_position, field_at}
 use Rattle.frame_spec.specs.WrittenRecord.{StandsAt, directory_entries, field_area, digits}
 use Rattle.frame_spec.proofs.WrittenDigits.{AreDigits-digits, decimal_value-digits}
 use Rattle.frame_spec.proofs.PlacedBytes.{stands_left, stands_right, stands_place, stands_byte, stands_next, stands_within}

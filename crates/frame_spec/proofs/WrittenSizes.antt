@@ -1,34 +1,6 @@
 -- The entry map of a record that is written has room for each length and each position.
-use Rattle.std.proofs.Common.{
-  ◌≡◌,
-  ◌≤◌,
-  ◌<◌,
-  ℕ,
-  zero,
-  suc,
-  ◌+◌,
-  ◌-◌,
-  ◌*◌,
-  ◌/◌,
-  ◌%◌,
-  ◌^◌,
-  Bool,
-  List,
-  [],
-  ◌∷◌,
-  ◌++◌,
-  length,
-  take,
-  max,
-  refl,
-  sym,
-  ap,
-  ◌∙◌,
-  subst,
-  arith,
-  add-one,
-  append_assoc,
-}
+use Rattle.std.proofs.Common.{◌≡◌, ◌≤◌, ◌<◌, ℕ, zero, suc, ◌+◌, ◌-◌, ◌*◌, ◌/◌, ◌%◌, ◌^◌, Bool, List, [], ◌∷◌, ◌++◌, length, take, max, refl, sym, ap, ◌∙◌}
+use Rattle.std.proofs.Common.{subst, arith, add-one, append_assoc}
 use Rattle.std.specs.Prelude.{fold, sum}
 use Rattle.std.specs.List.{AllByRecursion}
 use Rattle.std.proofs.Math.Nat.{pow-suc}
@@ -37,22 +9,8 @@ use Rattle.std.proofs.lemmas.List.{length-append, length_push, length-map}
 use Rattle.std.proofs.lemmas.List.Elements.{recursion_from_All}
 use Rattle.std.proofs.lemmas.List.Sums.{sum_by-cons, sum_by-take-le}
 use Rattle.frame_spec.specs.RecordFrame.{Field, RecordFrame}
-use Rattle.frame_spec.specs.WrittenRecord.{
-  CanBeWritten,
-  StandsAt,
-  WrittenHasLength,
-  WrittenIsRead,
-  digit_count,
-  length_digits,
-  position_digits,
-  base_address,
-  record_length,
-  field_lengths,
-  field_area,
-  directory_entries,
-  leader_text,
-  written_record,
-}
+use Rattle.frame_spec.specs.WrittenRecord.{CanBeWritten, StandsAt, WrittenHasLength, WrittenIsRead, digit_count, length_digits, position_digits}
+use Rattle.frame_spec.specs.WrittenRecord.{base_address, record_length, field_lengths, field_area, directory_entries, leader_text, written_record}
 use Rattle.frame_spec.proofs.WrittenEntries.{IsField}
 use Rattle.frame_spec.proofs.WrittenFrame.{AreFields, base_of, length_of, record_text, text_length, record_stands}
 use Rattle.frame_spec.proofs.WrittenLeader.{leader_with}

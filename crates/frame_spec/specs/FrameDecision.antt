@@ -1,20 +1,8 @@
 -- The record at a place, or its first fault, by tests that compute.
 use Rattle.std.specs.Prelude.{ℕ, ◌+◌, ◌-◌, ◌%◌, ◌==◌, ◌&&◌, Bool, List, length, nat_lt, nat_le, not, slice_index, Result, Ok, Err, if◌then◌else◌}
 use Rattle.std.specs.List.{list_all, range_with_len}
-use Rattle.frame_spec.specs.RecordFrame.{
-  FrameView,
-  bytes_at,
-  kind_of,
-  length_at,
-  base_at,
-  length_text,
-  position_text,
-  field_length,
-  field_position,
-  entry_size_at,
-  count_at,
-  fields_at,
-}
+use Rattle.frame_spec.specs.RecordFrame.{FrameView, bytes_at, kind_of, length_at, base_at, length_text, position_text, field_length, field_position}
+use Rattle.frame_spec.specs.RecordFrame.{entry_size_at, count_at, fields_at}
 use Rattle.frame_spec.specs.declared.fault.FrameFault.{FrameFault}
 use Rattle.frame_spec.specs.declared.fault.FrameFault.TheVariants.{Short, BadLeader, BadDirectory}
 

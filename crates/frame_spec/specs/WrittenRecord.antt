@@ -1,33 +1,8 @@
 -- The bytes of a record that is written: the leader, the directory and the field area (ISO/IEC 8211; S-57 Part 3, Annex A).
 -- The writer gives the entry map the digits of the greatest field length and of the greatest position, and writes the
 -- fields one after the other, which is this project's own choice.
-use Rattle.std.specs.Prelude.{
-  ◌≡◌,
-  ℕ,
-  zero,
-  suc,
-  ◌+◌,
-  ◌<◌,
-  ◌≤◌,
-  ◌-◌,
-  ◌*◌,
-  ◌/◌,
-  ◌%◌,
-  Bool,
-  List,
-  [],
-  ◌∷◌,
-  ◌++◌,
-  length,
-  take,
-  map,
-  All,
-  max,
-  sum,
-  fold,
-  codes,
-  if◌then◌else◌,
-}
+use Rattle.std.specs.Prelude.{◌≡◌, ℕ, zero, suc, ◌+◌, ◌<◌, ◌≤◌, ◌-◌, ◌*◌, ◌/◌, ◌%◌, Bool, List, [], ◌∷◌, ◌++◌, length, take, map, All, max, sum, fold, codes}
+use Rattle.std.specs.Prelude.{if◌then◌else◌}
 use Rattle.std.specs.List.{flat_map}
 use Rattle.std.specs.Fmt.{decimal}
 use Rattle.frame_spec.specs.RecordFrame.{Field, RecordFrame, bytes_at}

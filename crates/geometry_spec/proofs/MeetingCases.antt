@@ -12,21 +12,8 @@ use Rattle.geometry_spec.proofs.LineOrder.{none_in_rank, one_in_rank, differ_by_
 use Rattle.geometry_spec.proofs.Shift.{grid_point, in_grid}
 use Rattle.geometry_spec.proofs.ShiftedPoints.{AreCovered, WeightsOf, weights_of, common_point_of, same_points, same_weights}
 use Rattle.geometry_spec.proofs.Sides.{FourSides, four_sides, none_on_one_side, some_across, one_across, on_one_line}
-use Rattle.geometry_spec.proofs.OneLine.{
-  IsRanked,
-  ranked,
-  OnOneLine,
-  IsBound,
-  start_of,
-  end_of,
-  start_is,
-  end_is,
-  low_of,
-  high_of,
-  rank_of,
-  IsCommonAt,
-  common_at_bound,
-}
+use Rattle.geometry_spec.proofs.OneLine.{IsRanked, ranked, OnOneLine, IsBound, start_of, end_of, start_is, end_is, low_of, high_of, rank_of, IsCommonAt}
+use Rattle.geometry_spec.proofs.OneLine.{common_at_bound}
 
 -- ---- a shift and a width for four points
 abbrev pub shift_for : Point → Point → Point → Point → ℕ

@@ -5,21 +5,8 @@ use Rattle.std.proofs.lemmas.Bool.Decides.{nat_tests}
 use borrow.Author.Differences.{up, down}
 use Rattle.geometry_spec.specs.Points.{Point, orientation_of}
 use Rattle.geometry_spec.specs.Signs.{have_one_sign, are_zero}
-use Rattle.geometry_spec.proofs.Weights.{
-  GridPoint,
-  left_sum,
-  right_sum,
-  Weights,
-  IsSameWeighted,
-  four_determinants,
-  determinants_cancel,
-  none_to_the_right,
-  none_to_the_left,
-  crossing_leftwards,
-  crossing_rightwards,
-  same_proportion,
-  same_by_proportion,
-}
+use Rattle.geometry_spec.proofs.Weights.{GridPoint, left_sum, right_sum, Weights, IsSameWeighted, four_determinants, determinants_cancel, none_to_the_right}
+use Rattle.geometry_spec.proofs.Weights.{none_to_the_left, crossing_leftwards, crossing_rightwards, same_proportion, same_by_proportion}
 use Rattle.geometry_spec.proofs.Shift.{IsCovered, grid_point, shifted_orientation}
 use Rattle.geometry_spec.proofs.ShiftedPoints.{AreCovered}
 

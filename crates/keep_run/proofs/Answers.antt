@@ -8,40 +8,15 @@ use Rattle.script_text.specs.declared.script.Script.{Script}
 use Rattle.crash_disk.specs.Disk.{LeavesOnly}
 use Rattle.crash_disk.proofs.Moments.{started, weakened}
 use Rattle.report_text.specs.declared.status.Status.{Status}
-use Rattle.report_text.specs.declared.status.Status.TheVariants.{
-  Done,
-  Usage,
-  Absent,
-  BadCell,
-  BadScript,
-  ReadFault,
-  WriteFault,
-  TooLarge,
-  NoMemory,
-  BadOrder,
-  Stuck,
-  TooManyFindings,
-  BadUpdate,
-  Refused,
-  BadJournal,
-  DiskFault,
-  OpRefused,
-  JournalFull,
-}
+use Rattle.report_text.specs.declared.status.Status.TheVariants.{Done, Usage, Absent, BadCell, BadScript, ReadFault, WriteFault, TooLarge, NoMemory}
+use Rattle.report_text.specs.declared.status.Status.TheVariants.{BadOrder, Stuck, TooManyFindings, BadUpdate, Refused, BadJournal, DiskFault, OpRefused}
+use Rattle.report_text.specs.declared.status.Status.TheVariants.{JournalFull}
 use Rattle.call_files.specs.Inputs.{CellIs, IsFile, IsInputStatus, IsNotOfOrder, ScriptIs, Tells}
 use Rattle.call_files.specs.declared.inputs.Checked.{Checked}
 use Rattle.call_files.specs.declared.work.Work.{Work}
 use Rattle.call_files.specs.Task.{task_of}
 use Rattle.call_files.proofs.Answered.{status_of_more, tells_first, tells_later}
-use Rattle.keep_run.specs.Causes.{
-  AreGiven,
-  InputIs,
-  IsAskedOf,
-  IsImageIn,
-  IsInputOf,
-  IsReached,
-  IsUntouched,
-}
+use Rattle.keep_run.specs.Causes.{AreGiven, InputIs, IsAskedOf, IsImageIn, IsInputOf, IsReached, IsUntouched}
 use Rattle.keep_run.specs.Keeps.{IsKeepEnd, IsKept, IsKeptImage}
 use Rattle.keep_run.specs.Words.{KeepForm}
 use Rattle.keep_run.specs.declared.report.Kept.{Kept}

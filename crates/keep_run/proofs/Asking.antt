@@ -14,18 +14,7 @@ use Rattle.edit_sets.specs.FormFault.{GuardedEdits}
 use Rattle.history_spec.specs.declared.refusal.StateRefusal.{StateRefusal}
 use Rattle.history_spec.specs.declared.reply.Reply.{Reply}
 use Rattle.history_spec.specs.declared.reply.Reply.TheVariants.{Accepted, Refused}
-use Rattle.history_spec.specs.Steps.{
-  AcceptedCommit,
-  Event,
-  History,
-  answer,
-  clash_with,
-  commit,
-  first_of,
-  left_after,
-  newer_answer,
-  state_refusal,
-}
+use Rattle.history_spec.specs.Steps.{AcceptedCommit, Event, History, answer, clash_with, commit, first_of, left_after, newer_answer, state_refusal}
 use Rattle.commit_book.specs.Books.{BookState, history_of}
 use Rattle.crash_disk.specs.Disk.{LeavesOnly}
 use Rattle.crash_disk.proofs.Moments.{weakened}

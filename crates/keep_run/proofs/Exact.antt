@@ -9,26 +9,9 @@ use Rattle.text_spec.specs.declared.command.Command.{Command}
 use Rattle.history_spec.specs.Steps.{AcceptedCommit}
 use Rattle.book_journal.specs.Journals.{IsJournalOf, IsReading}
 use Rattle.report_text.specs.declared.status.Status.{Status}
-use Rattle.report_text.specs.declared.status.Status.TheVariants.{
-  Done,
-  Usage,
-  Absent,
-  BadCell,
-  BadScript,
-  ReadFault,
-  WriteFault,
-  TooLarge,
-  NoMemory,
-  BadOrder,
-  Stuck,
-  TooManyFindings,
-  BadUpdate,
-  Refused,
-  BadJournal,
-  DiskFault,
-  OpRefused,
-  JournalFull,
-}
+use Rattle.report_text.specs.declared.status.Status.TheVariants.{Done, Usage, Absent, BadCell, BadScript, ReadFault, WriteFault, TooLarge, NoMemory}
+use Rattle.report_text.specs.declared.status.Status.TheVariants.{BadOrder, Stuck, TooManyFindings, BadUpdate, Refused, BadJournal, DiskFault, OpRefused}
+use Rattle.report_text.specs.declared.status.Status.TheVariants.{JournalFull}
 use Rattle.call_files.specs.Inputs.{AndThen, CellIs, ScriptIs}
 use Rattle.call_files.specs.Outside.{IsCut, IsDoneWork, IsFinished, IsSilent, IsSmooth, Outside}
 use Rattle.call_files.specs.Task.{Task, task_of}
@@ -36,23 +19,8 @@ use Rattle.call_files.specs.declared.work.Work.{Work}
 use Rattle.call_files.proofs.DoneWork.{of_told}
 use Rattle.call_files.proofs.GoodFiles.{cell_is, script_is}
 use Rattle.call_files.proofs.OneAnswer.{IsOne, ok_not_err, one_cell, one_script, one_then}
-use Rattle.keep_run.specs.Causes.{
-  AreGiven,
-  InputIs,
-  IsAskedIn,
-  IsAskedOf,
-  IsCauseIn,
-  IsCauseOf,
-  IsExpectedIn,
-  IsExpectedOf,
-  IsInputEnd,
-  IsReadBackIn,
-  IsRunOf,
-  IsUntouched,
-  JournalIs,
-  KeepIs,
-  kept_task,
-}
+use Rattle.keep_run.specs.Causes.{AreGiven, InputIs, IsAskedIn, IsAskedOf, IsCauseIn, IsCauseOf, IsExpectedIn, IsExpectedOf, IsInputEnd, IsReadBackIn}
+use Rattle.keep_run.specs.Causes.{IsRunOf, IsUntouched, JournalIs, KeepIs, kept_task}
 use Rattle.keep_run.specs.Complete.{IsGood, IsGoodIn}
 use Rattle.keep_run.specs.Runs.{kept_history}
 use Rattle.keep_run.specs.Words.{KeepForm}

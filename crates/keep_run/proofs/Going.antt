@@ -23,17 +23,7 @@ use Rattle.call_files.specs.Inputs.{IsScriptWithin}
 use Rattle.keep_run.specs.Sessions.{IsAnswered, IsAround, IsDone, IsDoneAlone, IsEntered, IsFit, IsRun, IsRunTo, commits_left, draft_of, event_by}
 use Rattle.keep_run.specs.declared.session.Session.{Session}
 use Rattle.keep_run.proofs.Fits.{fit_edit, fit_guard, fit_none, fit_same, fit_script}
-use Rattle.keep_run.proofs.Steps.{
-  answers_alike,
-  base_left,
-  base_told,
-  cells_alike,
-  commits_alike,
-  prefix_same,
-  prefix_then,
-  step_grows,
-  steps_grow,
-}
+use Rattle.keep_run.proofs.Steps.{answers_alike, base_left, base_told, cells_alike, commits_alike, prefix_same, prefix_then, step_grows, steps_grow}
 
 abbrev requested : List Request → List (ℕ × Request)
 requested = map (λ (request : Request). (1, request))

@@ -8,18 +8,7 @@ use Rattle.history_spec.specs.declared.reply.Reply.{Reply}
 use Rattle.history_spec.specs.declared.reply.Reply.TheVariants.{Viewed, Formed, Newer, Refused, Accepted}
 use Rattle.history_spec.specs.ReportText.{base_after}
 use Rattle.history_spec.specs.Sessions.{Request, event_of, history_after, request_step}
-use Rattle.history_spec.specs.Steps.{
-  AcceptedCommit,
-  Event,
-  History,
-  answer,
-  commit,
-  commit_answer,
-  edits_asked,
-  faulty,
-  left_after,
-  view,
-}
+use Rattle.history_spec.specs.Steps.{AcceptedCommit, Event, History, answer, commit, commit_answer, edits_asked, faulty, left_after, view}
 use Rattle.room_laws.proofs.Parts.{added_by, commits_left}
 use Rattle.room_laws.proofs.Steps.{IsNumbered}
 

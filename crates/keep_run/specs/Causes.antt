@@ -14,21 +14,8 @@ use Rattle.call_files.specs.Outside.{IsCut, IsFinished, IsSilent, IsSmooth, Outs
 use Rattle.call_files.specs.Task.{Task, task_of}
 use Rattle.call_files.specs.declared.work.Work.{Work}
 use Rattle.report_text.specs.declared.status.Status.{Status}
-use Rattle.report_text.specs.declared.status.Status.TheVariants.{
-  Done,
-  Usage,
-  Absent,
-  BadCell,
-  BadScript,
-  ReadFault,
-  WriteFault,
-  TooLarge,
-  NoMemory,
-  TooManyFindings,
-  BadJournal,
-  DiskFault,
-  JournalFull,
-}
+use Rattle.report_text.specs.declared.status.Status.TheVariants.{Done, Usage, Absent, BadCell, BadScript, ReadFault, WriteFault, TooLarge, NoMemory}
+use Rattle.report_text.specs.declared.status.Status.TheVariants.{TooManyFindings, BadJournal, DiskFault, JournalFull}
 use Rattle.keep_run.specs.Keeps.{IsKeptImage, IsLeftWith, IsTooLong}
 use Rattle.keep_run.specs.Runs.{kept_history, kept_text}
 use Rattle.keep_run.specs.Words.{KeepForm, form_of}

@@ -1,42 +1,6 @@
 -- Items judged one after the other.
-use Rattle.std.proofs.Common.{
-  ◌≡◌,
-  ◌<◌,
-  ◌≤◌,
-  ◌+◌,
-  ◌-◌,
-  ◌==◌,
-  ◌&&◌,
-  ℕ,
-  zero,
-  suc,
-  Bool,
-  true,
-  false,
-  not,
-  List,
-  [],
-  ◌∷◌,
-  ◌++◌,
-  Bor,
-  map,
-  option_to_list,
-  Option,
-  Some,
-  None,
-  length,
-  take,
-  get_or,
-  filter_map,
-  count_by,
-  arith,
-  refl,
-  sym,
-  ◌∙◌,
-  ap,
-  cond,
-  nat_le,
-}
+use Rattle.std.proofs.Common.{◌≡◌, ◌<◌, ◌≤◌, ◌+◌, ◌-◌, ◌==◌, ◌&&◌, ℕ, zero, suc, Bool, true, false, not, List, [], ◌∷◌, ◌++◌, Bor, map, option_to_list}
+use Rattle.std.proofs.Common.{Option, Some, None, length, take, get_or, filter_map, count_by, arith, refl, sym, ◌∙◌, ap, cond, nat_le}
 use Rattle.std.specs.List.{find, list_all, range_with_len, cons_option}
 use Rattle.std.proofs.lemmas.List.{get_or-map, take_more, length-map}
 use Rattle.std.proofs.lemmas.List.Elements.{filter_map-append}

@@ -1,43 +1,6 @@
 -- The line of an order is read as that order.
-use Rattle.std.proofs.Common.{
-  ◌≡◌,
-  ◌≢◌,
-  ◌<◌,
-  ◌≤◌,
-  ◌+◌,
-  ◌^◌,
-  ◌==◌,
-  ◌&&◌,
-  ℕ,
-  zero,
-  suc,
-  Bool,
-  true,
-  false,
-  List,
-  [],
-  ◌∷◌,
-  ◌++◌,
-  Some,
-  Result,
-  Ok,
-  length,
-  map,
-  take,
-  drop,
-  get_or,
-  filter_map,
-  count_by,
-  arith,
-  refl,
-  sym,
-  ◌∙◌,
-  ap,
-  nat_le,
-  cond,
-  rules,
-  if◌then◌else◌,
-}
+use Rattle.std.proofs.Common.{◌≡◌, ◌≢◌, ◌<◌, ◌≤◌, ◌+◌, ◌^◌, ◌==◌, ◌&&◌, ℕ, zero, suc, Bool, true, false, List, [], ◌∷◌, ◌++◌, Some, Result, Ok, length, map}
+use Rattle.std.proofs.Common.{take, drop, get_or, filter_map, count_by, arith, refl, sym, ◌∙◌, ap, nat_le, cond, rules, if◌then◌else◌}
 use mathlib.Core.List.{IsPrefix}
 use Rattle.std.specs.Prelude.{codes, nat_eq}
 use Rattle.std.specs.Cmp.Lexicographic.{pointwise}
@@ -52,22 +15,8 @@ use Rattle.std.proofs.Math.Seq.{take-append_seam, drop-append_seam}
 use Rattle.std.proofs.lemmas.List.Sums.{count_by_more_yes, sum_by-append}
 use Rattle.std.proofs.lemmas.Str.Parse.{IsNumeralModel, numerals_by_value, not_in_digits}
 use Rattle.text_spec.specs.Lines.{spaced_words}
-use Rattle.text_spec.specs.OrderLine.{
-  IsOrder,
-  order_line,
-  order_of,
-  order_items,
-  items_among as items_of_pieces,
-  pieces,
-  before_feed,
-  from_feed,
-  session_of,
-  is_bad_item,
-  is_bad_session,
-  are_all_used,
-  ends_well,
-  quota_of,
-}
+use Rattle.text_spec.specs.OrderLine.{IsOrder, order_line, order_of, order_items, items_among as items_of_pieces, pieces, before_feed, from_feed, session_of}
+use Rattle.text_spec.specs.OrderLine.{is_bad_item, is_bad_session, are_all_used, ends_well, quota_of}
 use Rattle.order_text.proofs.Judged.{bad_at, has_used}
 use Rattle.order_text.proofs.Ranges.{find-none}
 use Rattle.order_text.proofs.SessionNames.{session_of-inside}

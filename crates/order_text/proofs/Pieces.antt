@@ -1,32 +1,6 @@
 -- A text cut at its first space.
-use Rattle.std.proofs.Common.{
-  ◌≡◌,
-  ◌<◌,
-  ◌≤◌,
-  ◌+◌,
-  ◌==◌,
-  ℕ,
-  suc,
-  Bool,
-  true,
-  false,
-  List,
-  [],
-  ◌∷◌,
-  length,
-  take,
-  drop,
-  arith,
-  refl,
-  Some,
-  None,
-  cond,
-  nat_lt,
-  ◌++◌,
-  map,
-  ap,
-  Bor,
-}
+use Rattle.std.proofs.Common.{◌≡◌, ◌<◌, ◌≤◌, ◌+◌, ◌==◌, ℕ, suc, Bool, true, false, List, [], ◌∷◌, length, take, drop, arith, refl, Some, None, cond, nat_lt}
+use Rattle.std.proofs.Common.{◌++◌, map, ap, Bor}
 use Rattle.std.proofs.lemmas.List.{length-map, length-append}
 use Rattle.std.proofs.lemmas.Bool.{ltb-false}
 use Rattle.std.specs.List.{position, position_or_len}

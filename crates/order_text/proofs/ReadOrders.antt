@@ -1,47 +1,7 @@
 -- What a text is read as is an order, and the text is its line.
-use Rattle.std.proofs.Common.{
-  ◌≡◌,
-  ◌<◌,
-  ◌≤◌,
-  ◌+◌,
-  ◌-◌,
-  ◌==◌,
-  ◌&&◌,
-  ℕ,
-  zero,
-  suc,
-  Bool,
-  true,
-  false,
-  List,
-  [],
-  ◌∷◌,
-  ◌++◌,
-  Option,
-  Some,
-  None,
-  Result,
-  Ok,
-  Err,
-  length,
-  map,
-  take,
-  drop,
-  get_or,
-  filter_map,
-  count_by,
-  arith,
-  refl,
-  sym,
-  ◌∙◌,
-  ap,
-  subst,
-  zero-add,
-  nat_le,
-  cond,
-  codes,
-  if◌then◌else◌,
-}
+use Rattle.std.proofs.Common.{◌≡◌, ◌<◌, ◌≤◌, ◌+◌, ◌-◌, ◌==◌, ◌&&◌, ℕ, zero, suc, Bool, true, false, List, [], ◌∷◌, ◌++◌, Option, Some, None, Result, Ok, Err}
+use Rattle.std.proofs.Common.{length, map, take, drop, get_or, filter_map, count_by, arith, refl, sym, ◌∙◌, ap, subst, zero-add, nat_le, cond, codes}
+use Rattle.std.proofs.Common.{if◌then◌else◌}
 use Rattle.std.specs.Prelude.{nat_eq, All}
 use Rattle.std.specs.Cmp.Lexicographic.{pointwise, bytes_decides}
 use Rattle.std.specs.Fmt.{decimal}
@@ -53,26 +13,8 @@ use Rattle.std.proofs.lemmas.List.{map-append, take_more, take-append-drop}
 use Rattle.std.proofs.lemmas.List.Elements.{All-append, All-cons, filter_map-append}
 use Rattle.std.proofs.lemmas.List.Sums.{sum_by-append}
 use Rattle.text_spec.specs.Lines.{spaced_words}
-use Rattle.text_spec.specs.OrderLine.{
-  IsOrder,
-  are_all_used,
-  before_feed,
-  ended_order,
-  ends_well,
-  first_bad_item,
-  from_feed,
-  is_bad_item,
-  is_bad_session,
-  items_among,
-  order_among,
-  order_items,
-  order_line,
-  order_of,
-  pieces,
-  quota_of,
-  session_of,
-  with_byte,
-}
+use Rattle.text_spec.specs.OrderLine.{IsOrder, are_all_used, before_feed, ended_order, ends_well, first_bad_item, from_feed, is_bad_item, is_bad_session}
+use Rattle.text_spec.specs.OrderLine.{items_among, order_among, order_items, order_line, order_of, pieces, quota_of, session_of, with_byte}
 use Rattle.order_text.proofs.Judged.{bad_at, has_used}
 use Rattle.order_text.proofs.Ranges.{all-each, find-some, none-each}
 use Rattle.order_text.proofs.SessionNames.{spells}

@@ -1,28 +1,6 @@
 -- An order from its parts.
-use Rattle.std.proofs.Common.{
-  ◌≡◌,
-  ◌+◌,
-  ◌&&◌,
-  ℕ,
-  Bool,
-  true,
-  false,
-  List,
-  Some,
-  None,
-  Ok,
-  Err,
-  length,
-  drop,
-  take,
-  filter_map,
-  refl,
-  sym,
-  ◌∙◌,
-  ap,
-  codes,
-  if◌then◌else◌,
-}
+use Rattle.std.proofs.Common.{◌≡◌, ◌+◌, ◌&&◌, ℕ, Bool, true, false, List, Some, None, Ok, Err, length, drop, take, filter_map, refl, sym, ◌∙◌, ap, codes}
+use Rattle.std.proofs.Common.{if◌then◌else◌}
 use Rattle.std.specs.Prelude.{nat_eq}
 use Rattle.std.specs.Cmp.Lexicographic.{pointwise}
 use Rattle.text_spec.specs.OrderLine.{order_of, order_items, first_bad_item, session_of, are_all_used, ends_well}

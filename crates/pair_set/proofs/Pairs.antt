@@ -1,27 +1,6 @@
 -- Pairs: their order, and what a put and a removal change.
-use Rattle.std.proofs.Common.{
-  ◌≡◌,
-  ◌&&◌,
-  ◌||◌,
-  Bool,
-  true,
-  false,
-  not,
-  List,
-  Option,
-  None,
-  Some,
-  cond,
-  is_some,
-  refl,
-  ap,
-  ◌∙◌,
-  Ordering,
-  Less,
-  Equal,
-  Greater,
-  is_eq,
-}
+use Rattle.std.proofs.Common.{◌≡◌, ◌&&◌, ◌||◌, Bool, true, false, not, List, Option, None, Some, cond, is_some, refl, ap, ◌∙◌, Ordering, Less, Equal}
+use Rattle.std.proofs.Common.{Greater, is_eq}
 use Rattle.std.specs.Ordering.{ordering_then}
 use Rattle.std.specs.Cmp.{IsTotalOrder}
 use Rattle.std.proofs.lemmas.Cmp.{on_total, then_total}

@@ -1,35 +1,6 @@
 -- The pairs of one first stand together, from the first pair that isn't below it on.
-use Rattle.std.proofs.Common.{
-  ◌≡◌,
-  ◌||◌,
-  suc,
-  ◌+◌,
-  Bool,
-  true,
-  false,
-  true≢false,
-  List,
-  [],
-  ◌∷◌,
-  Option,
-  Some,
-  cond,
-  is_some,
-  map,
-  drop,
-  refl,
-  sym,
-  ap,
-  subst,
-  ◌∙◌,
-  arith,
-  Ordering,
-  Less,
-  Equal,
-  Greater,
-  is_eq,
-  is_lt,
-}
+use Rattle.std.proofs.Common.{◌≡◌, ◌||◌, suc, ◌+◌, Bool, true, false, true≢false, List, [], ◌∷◌, Option, Some, cond, is_some, map, drop, refl, sym, ap}
+use Rattle.std.proofs.Common.{subst, ◌∙◌, arith, Ordering, Less, Equal, Greater, is_eq, is_lt}
 use Rattle.std.specs.Cmp.{IsTotalOrder, eq_by_cmp_equiv}
 use Rattle.std.specs.List.{AllByRecursion, take_while}
 use Rattle.std.specs.List.Sorted.{IsStrictlySortedBy}

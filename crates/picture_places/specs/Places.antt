@@ -1,30 +1,6 @@
 -- Where a finding is. This project's own.
-use Rattle.std.specs.Prelude.{
-  ℕ,
-  ◌+◌,
-  ◌-◌,
-  ◌*◌,
-  ◌/◌,
-  ◌==◌,
-  ◌&&◌,
-  ◌||◌,
-  Bool,
-  List,
-  [],
-  ◌∷◌,
-  Option,
-  None,
-  Some,
-  take,
-  drop,
-  unsigned_abs,
-  slice_get,
-  slice_index,
-  slice_index_or,
-  length,
-  pos,
-  if◌then◌else◌,
-}
+use Rattle.std.specs.Prelude.{ℕ, ◌+◌, ◌-◌, ◌*◌, ◌/◌, ◌==◌, ◌&&◌, ◌||◌, Bool, List, [], ◌∷◌, Option, None, Some, take, drop, unsigned_abs, slice_get}
+use Rattle.std.specs.Prelude.{slice_index, slice_index_or, length, pos, if◌then◌else◌}
 use Rattle.std.specs.Option.{option_map_or}
 use Rattle.s57_types.specs.declared.cell.Cell.{Cell}
 use Rattle.s57_types.specs.declared.name.RecName.{RecName}

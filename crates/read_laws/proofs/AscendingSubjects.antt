@@ -30,18 +30,8 @@ use Rattle.rule_spec.specs.Vectors.{Numbered, first_wrong_meeting, found_pair, i
 use Rattle.rule_spec.specs.declared.line.EdgeLine.{EdgeLine}
 use Rattle.rule_spec.specs.declared.side.EdgeUse.{EdgeUse}
 use Rattle.read_laws.specs.FindingsAscend.{FindingsAscend}
-use Rattle.read_laws.proofs.Ascents.{
-  Ascends,
-  none_ascends,
-  one_ascends,
-  when_ascends,
-  unless_ascends,
-  if_ascends,
-  when_if_ascends,
-  at_ascends,
-  first_ascends,
-  places_ascend,
-}
+use Rattle.read_laws.proofs.Ascents.{Ascends, none_ascends, one_ascends, when_ascends, unless_ascends, if_ascends, when_if_ascends, at_ascends}
+use Rattle.read_laws.proofs.Ascents.{first_ascends, places_ascend}
 use Rattle.read_laws.proofs.AscendingLoops.{loops_ascend}
 use Rattle.read_laws.proofs.AscendingRules.{rules_ascend}
 

@@ -1,32 +1,6 @@
 -- The rules on features give the same in two cells that answer alike to what they look up.
-use Rattle.std.proofs.Common.{
-  ◌≡◌,
-  ℕ,
-  ◌==◌,
-  ◌&&◌,
-  Bool,
-  true,
-  false,
-  List,
-  [],
-  ◌∷◌,
-  ◌++◌,
-  Option,
-  None,
-  Some,
-  cond,
-  map,
-  take,
-  not,
-  length,
-  flat_map,
-  is_some,
-  option_map,
-  refl,
-  sym,
-  ap,
-  ◌∙◌,
-}
+use Rattle.std.proofs.Common.{◌≡◌, ℕ, ◌==◌, ◌&&◌, Bool, true, false, List, [], ◌∷◌, ◌++◌, Option, None, Some, cond, map, take, not, length, flat_map}
+use Rattle.std.proofs.Common.{is_some, option_map, refl, sym, ap, ◌∙◌}
 use Rattle.std.specs.List.{AllByRecursion, enumerate_from, list_all}
 use Rattle.s57_types.specs.declared.record.Feature.{Feature}
 use Rattle.s57_types.specs.declared.record.Partner.{Partner}
@@ -40,19 +14,8 @@ use Rattle.cell_spec.specs.declared.key.Key.TheVariants.{Name, Foid}
 use Rattle.cell_spec.specs.Lookup.{lookup_record, lookup_identity}
 use Rattle.rule_spec.specs.declared.line.BoundaryRow.{BoundaryRow}
 use Rattle.rule_spec.specs.declared.line.EdgeLine.{EdgeLine}
-use Rattle.rule_spec.specs.Boundary.{
-  line_along,
-  boundary_row,
-  boundary_of,
-  is_clean,
-  has_points,
-  has_usable_boundary,
-  open_ring_of,
-  mixed_ring_of,
-  outer_count_of,
-  wrong_turn_of,
-  has_whole_loops,
-}
+use Rattle.rule_spec.specs.Boundary.{line_along, boundary_row, boundary_of, is_clean, has_points, has_usable_boundary, open_ring_of, mixed_ring_of}
+use Rattle.rule_spec.specs.Boundary.{outer_count_of, wrong_turn_of, has_whole_loops}
 use Rattle.rule_spec.specs.EdgePoints.{edge_line_of}
 use Rattle.rule_spec.specs.Features.{prim_refs, dangling_ref, bad_codes, bad_level, dangling_feature, is_beyond_ascii, target}
 use Rattle.rule_spec.specs.Findings.{findings_of_record}
@@ -60,19 +23,8 @@ use Rattle.rule_spec.specs.Reads.{end_keys_at, feature_keys}
 use Rattle.rule_spec.specs.Rule.{Found, places_where}
 use Rattle.rule_spec.specs.Rules.{feature_rules}
 use Rattle.cell_spec.specs.AnswersAlike.{AnswerAlike}
-use Rattle.read_laws.proofs.Lists.{
-  each_weaker,
-  each_from_both,
-  each_front,
-  each_back,
-  each_mapped,
-  each_flat,
-  each_numbered,
-  same_filter_map,
-  same_flat_map,
-  same_list_all,
-  same_places,
-}
+use Rattle.read_laws.proofs.Lists.{each_weaker, each_from_both, each_front, each_back, each_mapped, each_flat, each_numbered, same_filter_map, same_flat_map}
+use Rattle.read_laws.proofs.Lists.{same_list_all, same_places}
 use Rattle.read_laws.proofs.EdgeLines.{Alike, same_end_keys, same_line}
 use Rattle.read_laws.proofs.RuleFindings.{same_findings}
 

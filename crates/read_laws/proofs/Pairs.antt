@@ -9,18 +9,8 @@ use Rattle.cell_spec.specs.declared.key.Subject.TheVariants.{Pair}
 use Rattle.cell_spec.specs.Ascending.{ascending}
 use Rattle.cell_spec.specs.Names.{key_order, same_name}
 use Rattle.rule_spec.specs.declared.line.EdgeLine.{EdgeLine}
-use Rattle.rule_spec.specs.Contacts.{
-  shared_nodes,
-  have_illegal_contact,
-  first_illegal_contact,
-  found_contact,
-  contact_of_lines,
-  are_same_place,
-  same_place,
-  names_node,
-  segment_under,
-  node_on_edge,
-}
+use Rattle.rule_spec.specs.Contacts.{shared_nodes, have_illegal_contact, first_illegal_contact, found_contact, contact_of_lines, are_same_place, same_place}
+use Rattle.rule_spec.specs.Contacts.{names_node, segment_under, node_on_edge}
 use Rattle.rule_spec.specs.EdgePoints.{segments_of, node_position, edge_line_of}
 use Rattle.rule_spec.specs.Findings.{is_below, findings_of_rules, findings_of_subject}
 use Rattle.rule_spec.specs.Reads.{record_keys, read_set}

@@ -1,26 +1,6 @@
 -- The rules on the sides of an edge and on identifiers give the same in two cells that answer alike to what they look up.
-use Rattle.std.proofs.Common.{
-  ◌≡◌,
-  ◌==◌,
-  ◌-◌,
-  List,
-  [],
-  ◌∷◌,
-  cond,
-  map,
-  find,
-  not,
-  length,
-  filter_map,
-  nat_lt,
-  is_some,
-  slice_get,
-  option_map,
-  option_and_then,
-  refl,
-  ap,
-  ◌∙◌,
-}
+use Rattle.std.proofs.Common.{◌≡◌, ◌==◌, ◌-◌, List, [], ◌∷◌, cond, map, find, not, length, filter_map, nat_lt, is_some, slice_get, option_map}
+use Rattle.std.proofs.Common.{option_and_then, refl, ap, ◌∙◌}
 use Rattle.std.specs.List.{AllByRecursion}
 use Rattle.s57_types.specs.declared.name.Lnam.{Lnam}
 use Rattle.s57_types.specs.declared.name.RecName.{RecName}

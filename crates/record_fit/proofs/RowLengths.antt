@@ -1,31 +1,6 @@
 -- How many bytes a row and a field of rows have.
-use Rattle.std.proofs.Common.{
-  ◌≡◌,
-  ℕ,
-  zero,
-  suc,
-  get_or,
-  take,
-  ◌+◌,
-  ◌*◌,
-  ◌<◌,
-  ◌==◌,
-  true,
-  false,
-  List,
-  [],
-  ◌∷◌,
-  ◌++◌,
-  length,
-  sum_by,
-  refl,
-  sym,
-  ◌∙◌,
-  ap,
-  arith,
-  length-append,
-  if◌then◌else◌,
-}
+use Rattle.std.proofs.Common.{◌≡◌, ℕ, zero, suc, get_or, take, ◌+◌, ◌*◌, ◌<◌, ◌==◌, true, false, List, [], ◌∷◌, ◌++◌, length, sum_by, refl, sym, ◌∙◌, ap}
+use Rattle.std.proofs.Common.{arith, length-append, if◌then◌else◌}
 use Rattle.std.proofs.lemmas.Bool.{ne_eqb}
 use Rattle.std.proofs.lemmas.List.Concat.{length-flat_map}
 use Rattle.std.proofs.lemmas.List.Sums.{sum_by-cons, sum_by_more}

@@ -1,29 +1,6 @@
 -- The records of a cell after one edit.
-use Rattle.std.proofs.Common.{
-  ◌≡◌,
-  ℕ,
-  Bool,
-  true,
-  false,
-  List,
-  [],
-  ◌∷◌,
-  ◌++◌,
-  inl,
-  Option,
-  None,
-  Some,
-  cond,
-  filter,
-  is_some,
-  map,
-  refl,
-  sym,
-  ap,
-  subst,
-  ◌∙◌,
-  append-nil,
-}
+use Rattle.std.proofs.Common.{◌≡◌, ℕ, Bool, true, false, List, [], ◌∷◌, ◌++◌, inl, Option, None, Some, cond, filter, is_some, map, refl, sym, ap, subst, ◌∙◌}
+use Rattle.std.proofs.Common.{append-nil}
 use Rattle.std.specs.Prelude.{◌==◌, filter_map, not, option_map}
 use Rattle.std.specs.List.{AllByRecursion, IsDistinct, cons_option, list_all}
 use Rattle.std.specs.Ordering.{is_eq, nat_cmp}
@@ -46,21 +23,8 @@ use Rattle.s57_types.specs.declared.cell.Cell.{Cell}
 use Rattle.s57_types.specs.Heads.{edited_head, head_name}
 use Rattle.cell_spec.specs.declared.edit.Edit.{Edit}
 use Rattle.cell_spec.specs.declared.edit.Edit.TheVariants.{Add, Set, Del, Head}
-use Rattle.cell_spec.specs.Edits.{
-  added_by,
-  apply_edits,
-  edit_of,
-  edited_list,
-  edited_record,
-  changed_by,
-  has_its_record,
-  head_after,
-  head_by,
-  is_head_edit,
-  left_by,
-  list_of_kind,
-  name_of_edit,
-}
+use Rattle.cell_spec.specs.Edits.{added_by, apply_edits, edit_of, edited_list, edited_record, changed_by, has_its_record, head_after, head_by, is_head_edit}
+use Rattle.cell_spec.specs.Edits.{left_by, list_of_kind, name_of_edit}
 use Rattle.cell_spec.specs.Lookup.{all_records, is_named, listed_record, name_of}
 use Rattle.cell_spec.specs.Names.{is_of_kind, kind_rank, name_order, same_name}
 use Rattle.cell_spec.specs.Writable.{HaveDistinctNames}

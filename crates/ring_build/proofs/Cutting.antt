@@ -1,47 +1,7 @@
 -- The cut of a boundary: it is what the lengths of its loops say, and there is no other.
-use Rattle.std.proofs.Common.{
-  ◌≡◌,
-  ℕ,
-  zero,
-  suc,
-  ◌+◌,
-  ◌-◌,
-  ◌<◌,
-  ◌≤◌,
-  Bool,
-  true,
-  false,
-  List,
-  [],
-  ◌∷◌,
-  ◌++◌,
-  length,
-  map,
-  take,
-  drop,
-  find,
-  Option,
-  None,
-  Some,
-  cond,
-  All,
-  refl,
-  sym,
-  ap,
-  ◌∙◌,
-  subst,
-  eqb,
-  eq-eqb,
-  ne_eqb,
-  sum_by,
-  flat_map,
-  append_assoc,
-  append-nil,
-  length-append,
-  length-take,
-  take-append-drop,
-  arith,
-}
+use Rattle.std.proofs.Common.{◌≡◌, ℕ, zero, suc, ◌+◌, ◌-◌, ◌<◌, ◌≤◌, Bool, true, false, List, [], ◌∷◌, ◌++◌, length, map, take, drop, find, Option, None}
+use Rattle.std.proofs.Common.{Some, cond, All, refl, sym, ap, ◌∙◌, subst, eqb, eq-eqb, ne_eqb, sum_by, flat_map, append_assoc, append-nil, length-append}
+use Rattle.std.proofs.Common.{length-take, take-append-drop, arith}
 use Rattle.std.specs.Option.{option_map_or}
 use Rattle.std.proofs.lemmas.Bool.{and_parts, not-true, false≢true}
 use Rattle.std.proofs.lemmas.List.{drop_at, take_at, length-drop}

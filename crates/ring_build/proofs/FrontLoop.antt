@@ -1,38 +1,6 @@
 -- The loop at the front of a boundary: found by one walk along it.
-use Rattle.std.proofs.Common.{
-  ◌≡◌,
-  ℕ,
-  suc,
-  ◌+◌,
-  ◌-◌,
-  ◌<◌,
-  ◌≤◌,
-  Bool,
-  true,
-  false,
-  not,
-  ◌&&◌,
-  ◌||◌,
-  List,
-  [],
-  ◌∷◌,
-  ◌++◌,
-  length,
-  map,
-  take,
-  drop,
-  find,
-  Option,
-  None,
-  Some,
-  cond,
-  refl,
-  sym,
-  ap,
-  ◌∙◌,
-  get_or,
-  arith,
-}
+use Rattle.std.proofs.Common.{◌≡◌, ℕ, suc, ◌+◌, ◌-◌, ◌<◌, ◌≤◌, Bool, true, false, not, ◌&&◌, ◌||◌, List, [], ◌∷◌, ◌++◌, length, map, take, drop, find}
+use Rattle.std.proofs.Common.{Option, None, Some, cond, refl, sym, ap, ◌∙◌, get_or, arith}
 use Rattle.std.specs.List.{list_any}
 use Rattle.std.specs.Cmp.Lexicographic.{pointwise}
 use Rattle.s57_types.specs.declared.name.RecName.{RecName}

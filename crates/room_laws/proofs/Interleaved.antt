@@ -1,40 +1,6 @@
 -- Entries of sessions in one history, as a run of their scripts in the entries' order.
-use Rattle.std.proofs.Common.{
-  ◌≡◌,
-  ◌==◌,
-  ℕ,
-  suc,
-  ◌+◌,
-  ◌≤◌,
-  Bool,
-  true,
-  false,
-  if◌then◌else◌,
-  List,
-  [],
-  ◌∷◌,
-  ◌++◌,
-  length,
-  map,
-  filter,
-  filter_map,
-  fold,
-  take,
-  All,
-  Option,
-  Some,
-  count_by,
-  refl,
-  sym,
-  ap,
-  ◌∙◌,
-  subst,
-  arith,
-  append_assoc,
-  append-nil,
-  ◌⊎◌,
-  ⊎_elim,
-}
+use Rattle.std.proofs.Common.{◌≡◌, ◌==◌, ℕ, suc, ◌+◌, ◌≤◌, Bool, true, false, if◌then◌else◌, List, [], ◌∷◌, ◌++◌, length, map, filter, filter_map, fold}
+use Rattle.std.proofs.Common.{take, All, Option, Some, count_by, refl, sym, ap, ◌∙◌, subst, arith, append_assoc, append-nil, ◌⊎◌, ⊎_elim}
 use Rattle.std.specs.Prelude.{slice_get}
 use Rattle.std.specs.List.{cons_option, enumerate_from}
 use Rattle.std.specs.Option.{option_map}
@@ -48,18 +14,8 @@ use Rattle.s57_types.specs.declared.cell.Cell.{Cell}
 use Rattle.text_spec.specs.declared.command.Command.{Command}
 use Rattle.history_spec.specs.declared.entry.Entry.{Entry}
 use Rattle.history_spec.specs.declared.reply.Reply.{Reply}
-use Rattle.history_spec.specs.Entries.{
-  AreInterleaved,
-  AreToldFrom,
-  AreAsked,
-  order_of_entries,
-  entries_of,
-  entry_step,
-  stepped,
-  brief_of,
-  base_told,
-  event_asked,
-}
+use Rattle.history_spec.specs.Entries.{AreInterleaved, AreToldFrom, AreAsked, order_of_entries, entries_of, entry_step, stepped, brief_of, base_told}
+use Rattle.history_spec.specs.Entries.{event_asked}
 use Rattle.history_spec.specs.Sessions.{Request, event_of, request_at, request_step, requests_of, script_of, replies_from, history_after}
 use Rattle.history_spec.specs.Steps.{History, opening, step, answer}
 use Rattle.room_laws.specs.Interleaved.{IsRunOfEntries, told_brief, entered_brief}

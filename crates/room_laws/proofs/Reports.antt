@@ -1,30 +1,6 @@
 -- The report of a history that is kept as entries is that of the run in its entries' order.
-use Rattle.std.proofs.Common.{
-  ◌≡◌,
-  ◌==◌,
-  ℕ,
-  ◌+◌,
-  ◌-◌,
-  Bool,
-  true,
-  false,
-  List,
-  [],
-  ◌∷◌,
-  ◌++◌,
-  length,
-  map,
-  filter,
-  refl,
-  sym,
-  ap,
-  ◌∙◌,
-  subst,
-  arith,
-  append_assoc,
-  ⊎_elim,
-  cond,
-}
+use Rattle.std.proofs.Common.{◌≡◌, ◌==◌, ℕ, ◌+◌, ◌-◌, Bool, true, false, List, [], ◌∷◌, ◌++◌, length, map, filter, refl, sym, ap, ◌∙◌, subst, arith}
+use Rattle.std.proofs.Common.{append_assoc, ⊎_elim, cond}
 use Rattle.std.specs.Prelude.{codes, slice_index_or}
 use Rattle.std.specs.Fmt.{decimal}
 use Rattle.std.specs.List.{flat_map, enumerate_from, range_with_len}
@@ -42,21 +18,8 @@ use Rattle.history_spec.specs.declared.reply.Brief.TheVariants as brief
 use Rattle.history_spec.specs.declared.reply.Reply.{Reply}
 use Rattle.history_spec.specs.declared.reply.Reply.TheVariants as reply
 use Rattle.history_spec.specs.Entries.{entries_of, order_of_entries, replayed, brief_of, base_told}
-use Rattle.history_spec.specs.ReportText.{
-  report,
-  report_with,
-  final_cell,
-  history_text,
-  transcript_from,
-  session_text,
-  reply_line,
-  base_after,
-  refused_line,
-  form_words,
-  refusal_words,
-  list_lines,
-  draft_line,
-}
+use Rattle.history_spec.specs.ReportText.{report, report_with, final_cell, history_text, transcript_from, session_text, reply_line, base_after, refused_line}
+use Rattle.history_spec.specs.ReportText.{form_words, refusal_words, list_lines, draft_line}
 use Rattle.history_spec.specs.Sessions.{replies_to, replies_from, ordered_requests, script_of}
 use Rattle.history_spec.specs.Steps.{opening}
 use Rattle.room_laws.specs.Interleaved.{IsRunOfEntries, told_brief, entered_brief}

@@ -1,28 +1,6 @@
 -- What a step leaves of bases and of the head.
-use Rattle.std.proofs.Common.{
-  ◌≡◌,
-  ◌==◌,
-  ℕ,
-  ◌+◌,
-  Bool,
-  true,
-  false,
-  if◌then◌else◌,
-  List,
-  [],
-  ◌∷◌,
-  length,
-  filter_map,
-  drop,
-  Option,
-  Some,
-  None,
-  refl,
-  sym,
-  ap,
-  ◌∙◌,
-  ⊎_elim,
-}
+use Rattle.std.proofs.Common.{◌≡◌, ◌==◌, ℕ, ◌+◌, Bool, true, false, if◌then◌else◌, List, [], ◌∷◌, length, filter_map, drop, Option, Some, None, refl, sym}
+use Rattle.std.proofs.Common.{ap, ◌∙◌, ⊎_elim}
 use Rattle.std.specs.List.{cons_option, enumerate_from}
 use Rattle.std.specs.Option.{option_map, option_map_or, option_and_then}
 use Rattle.std.proofs.lemmas.Bool.{cases_Bool, eqb-true}
@@ -39,22 +17,8 @@ use Rattle.history_spec.specs.declared.refusal.StateRefusal.{StateRefusal}
 use Rattle.history_spec.specs.declared.reply.Reply.{Reply}
 use Rattle.history_spec.specs.declared.reply.Reply.TheVariants.{Viewed, Formed, Newer, Refused, Accepted}
 use Rattle.history_spec.specs.Entries.{brief_of, base_told}
-use Rattle.history_spec.specs.Steps.{
-  History,
-  Event,
-  AcceptedCommit,
-  view,
-  faulty,
-  commit,
-  answer,
-  left_after,
-  newer_answer,
-  clash_with,
-  first_of,
-  contested_names,
-  state_refusal,
-  edits_asked,
-}
+use Rattle.history_spec.specs.Steps.{History, Event, AcceptedCommit, view, faulty, commit, answer, left_after, newer_answer, clash_with, first_of}
+use Rattle.history_spec.specs.Steps.{contested_names, state_refusal, edits_asked}
 
 -- an edit leaves the head's level of national texts
 level_by : (h : CellHead) (edit : Option Edit) → (head_by h edit).nall ≡ h.nall

@@ -1,33 +1,6 @@
 -- Every change of a table keeps its keys ascending.
-use Rattle.std.proofs.Common.{
-  ◌≡◌,
-  List,
-  [],
-  ◌∷◌,
-  refl,
-  sym,
-  ◌∙◌,
-  Ordering,
-  Less,
-  Equal,
-  Greater,
-  is_eq,
-  Bool,
-  ℕ,
-  true,
-  false,
-  cond,
-  is_lt,
-  ◌+◌,
-  arith,
-  get_or,
-  ap,
-  true≢false,
-  ◌++◌,
-  take,
-  drop,
-  take-append-drop,
-}
+use Rattle.std.proofs.Common.{◌≡◌, List, [], ◌∷◌, refl, sym, ◌∙◌, Ordering, Less, Equal, Greater, is_eq, Bool, ℕ, true, false, cond, is_lt, ◌+◌, arith}
+use Rattle.std.proofs.Common.{get_or, ap, true≢false, ◌++◌, take, drop, take-append-drop}
 use Rattle.std.specs.Cmp.{IsTotalOrder}
 use Rattle.std.specs.Ordering.{match_ordering}
 use Rattle.std.specs.List.{AllByRecursion}

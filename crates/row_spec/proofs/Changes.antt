@@ -1,37 +1,6 @@
 -- What a change of the rows leaves at each key, and how many rows it leaves.
-use Rattle.std.proofs.Common.{
-  ◌≡◌,
-  ℕ,
-  zero,
-  suc,
-  ◌+◌,
-  ◌<◌,
-  List,
-  [],
-  ◌∷◌,
-  length,
-  Some,
-  None,
-  is_some,
-  refl,
-  sym,
-  ap,
-  subst,
-  ◌∙◌,
-  arith,
-  Ordering,
-  Less,
-  Equal,
-  Greater,
-  is_eq,
-  is_lt,
-  Bool,
-  true,
-  false,
-  cond,
-  true≢false,
-  slice_get,
-}
+use Rattle.std.proofs.Common.{◌≡◌, ℕ, zero, suc, ◌+◌, ◌<◌, List, [], ◌∷◌, length, Some, None, is_some, refl, sym, ap, subst, ◌∙◌, arith, Ordering, Less}
+use Rattle.std.proofs.Common.{Equal, Greater, is_eq, is_lt, Bool, true, false, cond, true≢false, slice_get}
 use Rattle.std.specs.Cmp.{IsTotalOrder, tied_itself, alike_right, Equal-is}
 use Rattle.std.specs.Ordering.{match_ordering}
 use Rattle.std.specs.List.{AllByRecursion}

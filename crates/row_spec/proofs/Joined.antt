@@ -1,38 +1,6 @@
 -- Blocks of rows one after another: how many rows stand before a block, after each change of the blocks.
-use Rattle.std.proofs.Common.{
-  ◌≡◌,
-  ℕ,
-  zero,
-  suc,
-  ◌+◌,
-  ◌-◌,
-  ◌<◌,
-  ◌≤◌,
-  List,
-  [],
-  ◌∷◌,
-  ◌++◌,
-  length,
-  take,
-  drop,
-  set,
-  insert,
-  remove,
-  refl,
-  sym,
-  ap,
-  ◌∙◌,
-  arith,
-  length-append,
-  append_assoc,
-  append-nil,
-  take-append-drop,
-  length-take,
-  length-drop,
-  slice_get,
-  ◌*◌,
-  length-set,
-}
+use Rattle.std.proofs.Common.{◌≡◌, ℕ, zero, suc, ◌+◌, ◌-◌, ◌<◌, ◌≤◌, List, [], ◌∷◌, ◌++◌, length, take, drop, set, insert, remove, refl, sym, ap, ◌∙◌, arith}
+use Rattle.std.proofs.Common.{length-append, append_assoc, append-nil, take-append-drop, length-take, length-drop, slice_get, ◌*◌, length-set}
 use Rattle.row_spec.specs.Blocks.{joined, block_at, rows_before, excess, claim_of, replaced, halved}
 
 -- what stood in a place that is taken out is not seen

@@ -1,48 +1,7 @@
 -- What a search finds among ascending rows, and what the definitions of a table give at that place.
-use Rattle.std.proofs.Common.{
-  ◌≡◌,
-  ℕ,
-  zero,
-  suc,
-  ◌+◌,
-  ◌<◌,
-  ◌≤◌,
-  List,
-  [],
-  ◌∷◌,
-  ◌++◌,
-  length,
-  get_or,
-  set,
-  take,
-  drop,
-  insert,
-  remove,
-  Some,
-  None,
-  Result,
-  Ok,
-  Err,
-  MatchResult,
-  refl,
-  sym,
-  ap,
-  ◌∙◌,
-  arith,
-  Ordering,
-  Less,
-  Equal,
-  Greater,
-  is_lt,
-  take-append-drop,
-  drop-cons,
-  length-take,
-  true≢false,
-  true,
-  false,
-  cond,
-  is_gt,
-}
+use Rattle.std.proofs.Common.{◌≡◌, ℕ, zero, suc, ◌+◌, ◌<◌, ◌≤◌, List, [], ◌∷◌, ◌++◌, length, get_or, set, take, drop, insert, remove, Some, None, Result, Ok}
+use Rattle.std.proofs.Common.{Err, MatchResult, refl, sym, ap, ◌∙◌, arith, Ordering, Less, Equal, Greater, is_lt, take-append-drop, drop-cons, length-take}
+use Rattle.std.proofs.Common.{true≢false, true, false, cond, is_gt}
 use Rattle.std.specs.Cmp.{IsTotalOrder, alike_right}
 use Rattle.std.specs.Ordering.{ordering_index, ordering_reverse}
 use Rattle.std.specs.List.{AllByRecursion, AllWithin, HoldsAt}

@@ -1,44 +1,11 @@
 -- What a change of the block for a key makes of all rows.
-use Rattle.std.proofs.Common.{
-  ◌≡◌,
-  ℕ,
-  suc,
-  ◌+◌,
-  List,
-  [],
-  ◌∷◌,
-  ◌++◌,
-  take,
-  drop,
-  set,
-  Some,
-  refl,
-  sym,
-  ap,
-  ◌∙◌,
-  Ordering,
-  Less,
-  Equal,
-  Greater,
-  is_eq,
-  is_lt,
-  cond,
-  true,
-  false,
-}
+use Rattle.std.proofs.Common.{◌≡◌, ℕ, suc, ◌+◌, List, [], ◌∷◌, ◌++◌, take, drop, set, Some, refl, sym, ap, ◌∙◌, Ordering, Less, Equal, Greater, is_eq, is_lt}
+use Rattle.std.proofs.Common.{cond, true, false}
 use Rattle.std.specs.Ordering.{match_ordering}
 use Rattle.row_spec.specs.Rows.{value_of, with_row, without_key, lower_bound, EachKeyIs}
 use Rattle.row_spec.specs.Blocks.{joined, block_at, rows_before, replaced, IsBlockFor}
-use Rattle.row_spec.proofs.Place.{
-  value_of-append_below,
-  value_of-above,
-  with_row-append_below,
-  with_row-above,
-  without_key-append_below,
-  without_key-above,
-  lower_bound-append_below,
-  lower_bound-above,
-}
+use Rattle.row_spec.proofs.Place.{value_of-append_below, value_of-above, with_row-append_below, with_row-above, without_key-append_below, without_key-above}
+use Rattle.row_spec.proofs.Place.{lower_bound-append_below, lower_bound-above}
 use Rattle.row_spec.proofs.Joined.{joined_parted, joined-set, joined-replaced}
 
 module _ {K V : Type 0} (cmp : K → K → Ordering) where

@@ -1,24 +1,6 @@
 -- The half of a cut block that a key goes to.
-use Rattle.std.proofs.Common.{
-  ◌≡◌,
-  ℕ,
-  suc,
-  ◌+◌,
-  ◌<◌,
-  List,
-  length,
-  take,
-  drop,
-  ◌++◌,
-  subst,
-  arith,
-  Ordering,
-  true,
-  false,
-  append_assoc,
-  take-append-drop,
-  length-drop,
-}
+use Rattle.std.proofs.Common.{◌≡◌, ℕ, suc, ◌+◌, ◌<◌, List, length, take, drop, ◌++◌, subst, arith, Ordering, true, false, append_assoc, take-append-drop}
+use Rattle.std.proofs.Common.{length-drop}
 use Rattle.std.specs.Cmp.{IsTotalOrder}
 use Rattle.row_spec.specs.Rows.{IsAscending, begins_by}
 use Rattle.row_spec.specs.Blocks.{joined, block_at, halved, IsBlockFor}

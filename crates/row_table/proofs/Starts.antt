@@ -1,60 +1,15 @@
 -- The starts of the blocks after each change of the blocks.
-use Rattle.std.proofs.Common.{
-  ◌≡◌,
-  ℕ,
-  zero,
-  suc,
-  ◌+◌,
-  ◌-◌,
-  ◌^◌,
-  ◌<◌,
-  ◌≤◌,
-  List,
-  [],
-  ◌∷◌,
-  length,
-  set,
-  insert,
-  remove,
-  get_or,
-  refl,
-  sym,
-  ap,
-  subst,
-  ◌∙◌,
-  arith,
-  inl,
-  inr,
-  length-set,
-  add-one,
-  true,
-  false,
-  leb,
-  leb-true,
-  leb-false,
-}
+use Rattle.std.proofs.Common.{◌≡◌, ℕ, zero, suc, ◌+◌, ◌-◌, ◌^◌, ◌<◌, ◌≤◌, List, [], ◌∷◌, length, set, insert, remove, get_or, refl, sym, ap, subst, ◌∙◌}
+use Rattle.std.proofs.Common.{arith, inl, inr, length-set, add-one, true, false, leb, leb-true, leb-false}
 use Rattle.std.specs.List.Sorted.{IsPartitionedBy, IsPartitionPoint}
 use Rattle.std.proofs.lemmas.List.Sorted.{IsPartitionedBy-leb, IsNonDecreasingBy-from_default}
 use Rattle.std.specs.List.{SameBelow, ShiftedDown}
 use Rattle.std.proofs.lemmas.Bool.{cases_lt}
 use Rattle.std.proofs.lemmas.List.Edits.{length-insert, get_or-insert_below, get_or-insert_at, get_or-insert_above, length-remove}
 use Rattle.row_spec.specs.Blocks.{joined, block_at, rows_before, halved, AreStarts, IsBlockAt}
-use Rattle.row_spec.proofs.Joined.{
-  rows_before-set_low,
-  rows_before-set_high,
-  rows_before-remove_low,
-  rows_before-remove_high,
-  rows_before-halved_low,
-  rows_before-halved_middle,
-  rows_before-halved_high,
-  length-joined-set,
-  length-joined-remove,
-  length-halved,
-  joined-halved,
-  rows_before-mono,
-  rows_before-suc,
-  rows_before-length,
-}
+use Rattle.row_spec.proofs.Joined.{rows_before-set_low, rows_before-set_high, rows_before-remove_low, rows_before-remove_high, rows_before-halved_low}
+use Rattle.row_spec.proofs.Joined.{rows_before-halved_middle, rows_before-halved_high, length-joined-set, length-joined-remove, length-halved, joined-halved}
+use Rattle.row_spec.proofs.Joined.{rows_before-mono, rows_before-suc, rows_before-length}
 
 module _ {X : Type 0} (blocks : List (List X)) (starts new : List ℕ) (i : ℕ) (old : AreStarts blocks starts) (in_range : i < length blocks) where
   -- a block that has as many rows as before leaves the starts

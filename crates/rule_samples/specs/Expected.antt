@@ -8,30 +8,9 @@ use Rattle.cell_spec.specs.declared.key.Subject.{Subject}
 use Rattle.cell_spec.specs.declared.key.Subject.TheVariants.{Rec, Side, Pair, Ident}
 use Rattle.rule_spec.specs.Findings.{all_findings, finding, finding_total}
 use Rattle.sample_cells.specs.Parts.{head, vi, vc, ve, fe, lnam, at, node, edge, end_of, vector, outer, inner, feature, depth_area, square}
-use Rattle.sample_cells.specs.Samples.{
-  empty_cell,
-  grid,
-  grid_after,
-  dangling,
-  closed_edge,
-  used_by_line,
-  accented_line,
-  at_level,
-  stacked_edge,
-  diagonals,
-  node_on_line,
-  touching_edges,
-  overlapping_edges,
-  self_named,
-  knotted_edges,
-  misshapen,
-  nodes_at_one_place,
-  two_squares,
-  ring_area,
-  eight,
-  faulty_features,
-  truncated_square,
-}
+use Rattle.sample_cells.specs.Samples.{empty_cell, grid, grid_after, dangling, closed_edge, used_by_line, accented_line, at_level, stacked_edge, diagonals}
+use Rattle.sample_cells.specs.Samples.{node_on_line, touching_edges, overlapping_edges, self_named, knotted_edges, misshapen, nodes_at_one_place}
+use Rattle.sample_cells.specs.Samples.{two_squares, ring_area, eight, faulty_features, truncated_square}
 use Rattle.cell_spec.specs.Edits.{apply_edits}
 
 -- a subject with its findings

@@ -1,28 +1,6 @@
 -- Which subjects are judged anew after edits, in which order, with which rows, and within how many lookups. This project's own rules.
-use Rattle.std.specs.Prelude.{
-  ◌≡◌,
-  ℕ,
-  ◌+◌,
-  ◌*◌,
-  ◌&&◌,
-  ◌||◌,
-  Bool,
-  true,
-  false,
-  not,
-  List,
-  [],
-  ◌∷◌,
-  ◌++◌,
-  length,
-  map,
-  filter,
-  flat_map,
-  sum_by,
-  IsPermutation,
-  MatchBool,
-  if◌then◌else◌,
-}
+use Rattle.std.specs.Prelude.{◌≡◌, ℕ, ◌+◌, ◌*◌, ◌&&◌, ◌||◌, Bool, true, false, not, List, [], ◌∷◌, ◌++◌, length, map, filter, flat_map, sum_by}
+use Rattle.std.specs.Prelude.{IsPermutation, MatchBool, if◌then◌else◌}
 use Rattle.std.specs.List.{list_any}
 use Rattle.s57_types.specs.declared.name.RecName.{RecName}
 use Rattle.s57_types.specs.declared.cell.Cell.{Cell}

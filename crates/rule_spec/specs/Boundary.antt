@@ -1,27 +1,6 @@
 -- The boundary of an area (S-57 Part 3, 7.6.8; Appendix B.1): closed loops, one of them exterior and clockwise, the interior ones counterclockwise.
-use Rattle.std.specs.Prelude.{
-  ℕ,
-  ◌==◌,
-  ◌&&◌,
-  Bool,
-  not,
-  List,
-  [],
-  ◌∷◌,
-  Option,
-  length,
-  map,
-  filter,
-  filter_map,
-  flat_map,
-  reverse,
-  is_some,
-  ℤ,
-  pos,
-  int_lt,
-  option_map,
-  if◌then◌else◌,
-}
+use Rattle.std.specs.Prelude.{ℕ, ◌==◌, ◌&&◌, Bool, not, List, [], ◌∷◌, Option, length, map, filter, filter_map, flat_map, reverse, is_some, ℤ, pos, int_lt}
+use Rattle.std.specs.Prelude.{option_map, if◌then◌else◌}
 use Rattle.std.specs.List.{enumerate_from, list_any, list_all}
 use Rattle.s57_types.specs.declared.record.Feature.{Feature}
 use Rattle.s57_types.specs.declared.record.Spot.{Spot}

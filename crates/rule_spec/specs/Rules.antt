@@ -13,34 +13,10 @@ use Rattle.rule_spec.specs.Features.{prim_refs, dangling_ref, bad_codes, danglin
 use Rattle.rule_spec.specs.Records.{is_node_name, is_edge_name}
 use Rattle.rule_spec.specs.Rule.{Found}
 use Rattle.rule_spec.specs.RuleRow.{RuleRow, row}
-use Rattle.rule_spec.specs.declared.kind.TheConstants.{
-  BAD_SHAPE,
-  END_COUNT,
-  DANGLING_END,
-  STACKED,
-  SELF_MEET,
-  NODE_POINTER,
-  CROSS,
-  TOUCH,
-  COINCIDE,
-  SAME_PLACE,
-  NODE_ON_EDGE,
-  PRIM_REFS,
-  DANGLING_REF,
-  BAD_CODES,
-  OPEN_RING,
-  MIXED_RING,
-  OUTER_COUNT,
-  WRONG_TURN,
-  DANGLING_FEATURE,
-  WRONG_GROUP,
-  ORPHAN,
-  SIDE_OVERLAP,
-  SIDE_UNBALANCED,
-  FALSE_TRUNCATION,
-  TWICE_FOID,
-  BAD_LEVEL,
-}
+use Rattle.rule_spec.specs.declared.kind.TheConstants.{BAD_SHAPE, END_COUNT, DANGLING_END, STACKED, SELF_MEET, NODE_POINTER, CROSS, TOUCH, COINCIDE}
+use Rattle.rule_spec.specs.declared.kind.TheConstants.{SAME_PLACE, NODE_ON_EDGE, PRIM_REFS, DANGLING_REF, BAD_CODES, OPEN_RING, MIXED_RING, OUTER_COUNT}
+use Rattle.rule_spec.specs.declared.kind.TheConstants.{WRONG_TURN, DANGLING_FEATURE, WRONG_GROUP, ORPHAN, SIDE_OVERLAP, SIDE_UNBALANCED, FALSE_TRUNCATION}
+use Rattle.rule_spec.specs.declared.kind.TheConstants.{TWICE_FOID, BAD_LEVEL}
 use Rattle.rule_spec.specs.Sides.{orphan, side_overlap, side_unbalanced, false_truncation, twice_foid}
 use Rattle.rule_spec.specs.Vectors.{bad_shape, stacked, self_meet, node_pointer}
 

@@ -1,28 +1,7 @@
 -- The areas at the two sides of an edge, and the features that bear an identifier (S-57 Appendix B.1, 3.10.1: Group 1 areas cover the
 -- area that has data without gaps and overlaps; Part 3, 4.3: identifiers are unique).
-use Rattle.std.specs.Prelude.{
-  ℕ,
-  ◌+◌,
-  ◌-◌,
-  ◌==◌,
-  ◌&&◌,
-  ◌||◌,
-  Bool,
-  not,
-  List,
-  [],
-  ◌∷◌,
-  Option,
-  length,
-  filter_map,
-  find,
-  count_by,
-  nat_lt,
-  slice_get,
-  option_map,
-  option_and_then,
-  if◌then◌else◌,
-}
+use Rattle.std.specs.Prelude.{ℕ, ◌+◌, ◌-◌, ◌==◌, ◌&&◌, ◌||◌, Bool, not, List, [], ◌∷◌, Option, length, filter_map, find, count_by, nat_lt, slice_get}
+use Rattle.std.specs.Prelude.{option_map, option_and_then, if◌then◌else◌}
 use Rattle.std.specs.Option.{option_map_or}
 use Rattle.s57_types.specs.declared.name.RecName.{RecName}
 use Rattle.s57_types.specs.declared.name.Lnam.{Lnam}

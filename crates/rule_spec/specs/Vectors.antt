@@ -1,29 +1,6 @@
 -- Rules on single nodes and edges, beside those on the ends of an edge.
-use Rattle.std.specs.Prelude.{
-  ℕ,
-  ◌+◌,
-  ◌==◌,
-  ◌&&◌,
-  ◌||◌,
-  Bool,
-  true,
-  false,
-  not,
-  List,
-  [],
-  ◌∷◌,
-  Option,
-  None,
-  Some,
-  length,
-  map,
-  flat_map,
-  find,
-  nat_lt,
-  is_some,
-  slice_index_or,
-  if◌then◌else◌,
-}
+use Rattle.std.specs.Prelude.{ℕ, ◌+◌, ◌==◌, ◌&&◌, ◌||◌, Bool, true, false, not, List, [], ◌∷◌, Option, None, Some, length, map, flat_map, find, nat_lt}
+use Rattle.std.specs.Prelude.{is_some, slice_index_or, if◌then◌else◌}
 use Rattle.std.specs.List.{enumerate_from, position_from}
 use Rattle.std.specs.Option.{option_map_or}
 use Rattle.s57_types.specs.declared.name.Kind.TheVariants.{Vi, Vc}

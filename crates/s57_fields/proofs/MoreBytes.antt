@@ -1,43 +1,6 @@
 -- A row that was cut from bytes is cut from them where more bytes follow, too.
-use Rattle.std.proofs.Common.{
-  ◌≡◌,
-  ℕ,
-  zero,
-  suc,
-  ◌+◌,
-  ◌*◌,
-  ◌/◌,
-  ◌<◌,
-  ◌≤◌,
-  ◌==◌,
-  ◌&&◌,
-  Bool,
-  true,
-  false,
-  not,
-  cond,
-  List,
-  [],
-  ◌∷◌,
-  ◌++◌,
-  length,
-  take,
-  drop,
-  nat_lt,
-  Option,
-  Some,
-  None,
-  get_or,
-  refl,
-  sym,
-  ap,
-  ◌∙◌,
-  subst,
-  arith,
-  length-append,
-  length-drop,
-  drop-drop,
-}
+use Rattle.std.proofs.Common.{◌≡◌, ℕ, zero, suc, ◌+◌, ◌*◌, ◌/◌, ◌<◌, ◌≤◌, ◌==◌, ◌&&◌, Bool, true, false, not, cond, List, [], ◌∷◌, ◌++◌, length, take, drop}
+use Rattle.std.proofs.Common.{nat_lt, Option, Some, None, get_or, refl, sym, ap, ◌∙◌, subst, arith, length-append, length-drop, drop-drop}
 use Rattle.std.proofs.lemmas.List.{take-append-le, drop-append-le, take-append-drop}
 use Rattle.std.proofs.lemmas.Bool.Decides.{nat_tests}
 use Rattle.std.proofs.Math.Nat.{le-div_iff_mul-le, le-mul_of_pos_right}
@@ -46,22 +9,8 @@ use Rattle.std.specs.List.{list_all, position_or_len}
 use Rattle.std.specs.Int.{w32, cast_signed}
 use Rattle.std.specs.Simd.{first_chunks}
 use Rattle.byteorder.specs.Endian.{little_number}
-use Rattle.s57_types.specs.Subfield.{
-  Form,
-  Subfield,
-  unsigned,
-  signed,
-  text,
-  wide_text,
-  fixed,
-  unsigned_of,
-  signed_of,
-  text_of,
-  wide_text_of,
-  fixed_of,
-  unit_terminator,
-  is_plain,
-}
+use Rattle.s57_types.specs.Subfield.{Form, Subfield, unsigned, signed, text, wide_text, fixed, unsigned_of, signed_of, text_of, wide_text_of, fixed_of}
+use Rattle.s57_types.specs.Subfield.{unit_terminator, is_plain}
 use Rattle.field_spec.specs.Cutting.{split, split_units, front, cut_row}
 use Rattle.field_spec.proofs.CutBack.{mapped_back, bound_back}
 use Rattle.s57_fields.specs.RowCutting.{take_row}

@@ -5,21 +5,8 @@ use Rattle.std.specs.List.{flat_map}
 use Rattle.frame_spec.specs.RecordFrame.{Field}
 use Rattle.frame_spec.specs.WrittenRecord.{record_length, field_lengths}
 use Rattle.s57_types.specs.Subfield.{Subfield, row_bytes, field_terminator}
-use Rattle.s57_types.specs.FieldRows.{
-  number_row,
-  dsid_row,
-  dssi_row,
-  dspm_row,
-  frid_row,
-  foid_row,
-  attribute_row,
-  partner_row,
-  place_row,
-  vrid_row,
-  end_row,
-  plane_row,
-  deep_row,
-}
+use Rattle.s57_types.specs.FieldRows.{number_row, dsid_row, dssi_row, dspm_row, frid_row, foid_row, attribute_row, partner_row, place_row, vrid_row, end_row}
+use Rattle.s57_types.specs.FieldRows.{plane_row, deep_row}
 use Rattle.s57_types.specs.declared.head.Head.{Head}
 use Rattle.s57_types.specs.declared.record.Vector.{Vector}
 use Rattle.s57_types.specs.declared.record.Feature.{Feature}

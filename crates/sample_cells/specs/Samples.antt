@@ -7,27 +7,8 @@ use Rattle.s57_types.specs.declared.record.Spot.{Spot}
 use Rattle.cell_spec.specs.declared.edit.Edit.{Edit}
 use Rattle.cell_spec.specs.declared.edit.Edit.TheVariants.{Add, Head}
 use Rattle.cell_spec.specs.Edits.{apply_edits}
-use Rattle.sample_cells.specs.Parts.{
-  head,
-  head_values,
-  vi,
-  vc,
-  ve,
-  at,
-  node,
-  edge,
-  end_of,
-  vector,
-  spot,
-  objnam,
-  outer,
-  feature,
-  depth_area,
-  coverage_area,
-  partnered,
-  named_alike,
-  square,
-}
+use Rattle.sample_cells.specs.Parts.{head, head_values, vi, vc, ve, at, node, edge, end_of, vector, spot, objnam, outer, feature, depth_area, coverage_area}
+use Rattle.sample_cells.specs.Parts.{partnered, named_alike, square}
 
 abbrev pub cell : List Rec → List Rec → List Rec → Cell
 cell nodes edges features = record { head = head; vi = []; vc = nodes; ve = edges; fe = features }

@@ -1,32 +1,6 @@
 -- Values with the same words are the same.
-use Rattle.std.proofs.Common.{
-  ◌≡◌,
-  ℕ,
-  ℤ,
-  pos,
-  negsuc,
-  ◌<◌,
-  ◌^◌,
-  false,
-  List,
-  [],
-  ◌∷◌,
-  ◌++◌,
-  length,
-  map,
-  get_or,
-  drop,
-  cond,
-  eqb,
-  All,
-  refl,
-  sym,
-  ap,
-  ◌∙◌,
-  arith,
-  w32,
-  FitsSigned,
-}
+use Rattle.std.proofs.Common.{◌≡◌, ℕ, ℤ, pos, negsuc, ◌<◌, ◌^◌, false, List, [], ◌∷◌, ◌++◌, length, map, get_or, drop, cond, eqb, All, refl, sym, ap, ◌∙◌}
+use Rattle.std.proofs.Common.{arith, w32, FitsSigned}
 use Rattle.std.specs.List.{flat_map}
 use Rattle.std.specs.Fmt.{decimal, signed_decimal}
 use Rattle.std.proofs.lemmas.Fmt.{decimal_injective, signed_decimal_injective}
@@ -46,19 +20,8 @@ use Rattle.text_spec.specs.EditLine.{attribute_item, end_item, plane_item, deep_
 use Rattle.script_text.specs.Cuts.{IsFrom}
 use Rattle.script_text.specs.Widths.{IsAttributeOfWidth, IsEndOfWidth, IsPointOfWidth, IsSoundingOfWidth, IsPartnerOfWidth, IsPlaceOfWidth}
 use Rattle.script_text.proofs.Cuts.{cut_between, cut_of}
-use Rattle.script_text.proofs.Words.{
-  IsFree,
-  free_kind,
-  free_decimal,
-  free_signed,
-  from_parts,
-  same_end,
-  same_point,
-  same_sounding,
-  same_attribute,
-  same_place,
-  same_partner,
-}
+use Rattle.script_text.proofs.Words.{IsFree, free_kind, free_decimal, free_signed, from_parts, same_end, same_point, same_sounding, same_attribute}
+use Rattle.script_text.proofs.Words.{same_place, same_partner}
 use Rattle.script_text.proofs.Texts.{same_text}
 use Rattle.script_text.proofs.Frees.{AreWithout}
 use lib.Signed.{mag}

@@ -14,72 +14,24 @@ use Rattle.cell_spec.specs.declared.edit.Edit.{Edit}
 use Rattle.cell_spec.specs.declared.edit.Edit.TheVariants.{Add, Set, Del, Head}
 use Rattle.text_spec.specs.CellText.{kind_word, name_words}
 use Rattle.text_spec.specs.Lines.{spaced_words}
-use Rattle.text_spec.specs.EditLine.{
-  attribute_item,
-  end_item,
-  plane_item,
-  deep_item,
-  partner_item,
-  place_item,
-  vector_words,
-  feature_words,
-  record_words,
-  head_words,
-  record_has_line,
-  is_feature,
-  is_head,
-}
+use Rattle.text_spec.specs.EditLine.{attribute_item, end_item, plane_item, deep_item, partner_item, place_item, vector_words, feature_words, record_words}
+use Rattle.text_spec.specs.EditLine.{head_words, record_has_line, is_feature, is_head}
 use Rattle.text_spec.specs.ScriptLines.{command_line, IsCommand}
 use Rattle.text_spec.specs.declared.command.Command.{Command}
 use Rattle.text_spec.specs.declared.command.Command.TheVariants.{View, Commit, Drop, List as Findings, Push, Guard}
 use Rattle.script_text.specs.Items.{with_letter}
 use Rattle.script_text.specs.Guess.{command_text, first_word, other_words}
-use Rattle.script_text.specs.Widths.{
-  IsNameOfWidth,
-  IsAttributeOfWidth,
-  IsEndOfWidth,
-  IsPointOfWidth,
-  IsSoundingOfWidth,
-  IsPartnerOfWidth,
-  IsPlaceOfWidth,
-  IsVectorOfWidth,
-  IsFeatureOfWidth,
-  IsRecordOfWidth,
-}
+use Rattle.script_text.specs.Widths.{IsNameOfWidth, IsAttributeOfWidth, IsEndOfWidth, IsPointOfWidth, IsSoundingOfWidth, IsPartnerOfWidth, IsPlaceOfWidth}
+use Rattle.script_text.specs.Widths.{IsVectorOfWidth, IsFeatureOfWidth, IsRecordOfWidth}
 use Rattle.script_text.proofs.Frees.{AreWithout, vector_items, feature_items, without_name, without_record, without_number}
 use Rattle.script_text.proofs.Vectors.{same_vector, sorted_vector}
 use Rattle.script_text.proofs.Features.{same_feature, sorted_feature}
 use Rattle.script_text.proofs.Heads.{without_head, alike_heads}
 use Rattle.script_text.proofs.Widths.{name_of_width, record_of_width}
-use Rattle.script_text.proofs.Commands.{
-  line_is,
-  text_cut,
-  own_vector,
-  own_feature,
-  no_head_feature,
-  view_of,
-  commit_of,
-  drop_of,
-  list_found,
-  guard_found,
-  push_found,
-  add_found,
-  del_found,
-}
-use Rattle.script_text.proofs.Alike.{
-  alike_parts,
-  alike_list,
-  same_number,
-  same_kind,
-  same_name,
-  same_identity,
-  alike_attribute,
-  alike_end,
-  alike_point,
-  alike_sounding,
-  alike_partner,
-  alike_place,
-}
+use Rattle.script_text.proofs.Commands.{line_is, text_cut, own_vector, own_feature, no_head_feature, view_of, commit_of, drop_of, list_found, guard_found}
+use Rattle.script_text.proofs.Commands.{push_found, add_found, del_found}
+use Rattle.script_text.proofs.Alike.{alike_parts, alike_list, same_number, same_kind, same_name, same_identity, alike_attribute, alike_end, alike_point}
+use Rattle.script_text.proofs.Alike.{alike_sounding, alike_partner, alike_place}
 
 alike_vectors : (v v' : Vector) → IsVectorOfWidth v → IsVectorOfWidth v' → vector_words v ≡ vector_words v' → v ≡ v'
 alike_vectors v v' w w' same =

@@ -1,36 +1,6 @@
 -- Which command the words of a line are.
-use Rattle.std.proofs.Common.{
-  ◌≡◌,
-  ℕ,
-  ◌<◌,
-  ◌^◌,
-  ◌&&◌,
-  not,
-  true,
-  false,
-  Bool,
-  ◌↔◌,
-  Option,
-  Result,
-  Ok,
-  Err,
-  IfOk,
-  Some,
-  List,
-  [],
-  ◌∷◌,
-  ◌++◌,
-  length,
-  codes,
-  get_or,
-  drop,
-  All,
-  refl,
-  sym,
-  ap,
-  ◌∙◌,
-  arith,
-}
+use Rattle.std.proofs.Common.{◌≡◌, ℕ, ◌<◌, ◌^◌, ◌&&◌, not, true, false, Bool, ◌↔◌, Option, Result, Ok, Err, IfOk, Some, List, [], ◌∷◌, ◌++◌, length, codes}
+use Rattle.std.proofs.Common.{get_or, drop, All, refl, sym, ap, ◌∙◌, arith}
 use Rattle.std.specs.Fmt.{decimal}
 use Rattle.std.specs.List.{list_all}
 use Rattle.std.proofs.lemmas.Bool.{le-leb, false≢true, not-true, and_parts}

@@ -12,31 +12,11 @@ use Rattle.s57_types.specs.declared.record.Feature.{Feature}
 use Rattle.s57_types.specs.declared.record.Rec.{Rec}
 use Rattle.s57_types.specs.declared.record.Rec.TheVariants.{V, F, H}
 use Rattle.text_spec.specs.CellText.{kind_word, name_words}
-use Rattle.text_spec.specs.EditLine.{
-  attribute_item,
-  end_item,
-  plane_item,
-  deep_item,
-  partner_item,
-  place_item,
-  text_word,
-  vector_words,
-  feature_words,
-  record_words,
-}
+use Rattle.text_spec.specs.EditLine.{attribute_item, end_item, plane_item, deep_item, partner_item, place_item, text_word, vector_words, feature_words}
+use Rattle.text_spec.specs.EditLine.{record_words}
 use Rattle.text_spec.specs.Lines.{spaced_words}
-use Rattle.script_text.specs.Widths.{
-  IsNameOfWidth,
-  IsAttributeOfWidth,
-  IsEndOfWidth,
-  IsPointOfWidth,
-  IsSoundingOfWidth,
-  IsPartnerOfWidth,
-  IsPlaceOfWidth,
-  IsVectorOfWidth,
-  IsFeatureOfWidth,
-  IsRecordOfWidth,
-}
+use Rattle.script_text.specs.Widths.{IsNameOfWidth, IsAttributeOfWidth, IsEndOfWidth, IsPointOfWidth, IsSoundingOfWidth, IsPartnerOfWidth, IsPlaceOfWidth}
+use Rattle.script_text.specs.Widths.{IsVectorOfWidth, IsFeatureOfWidth, IsRecordOfWidth}
 use Rattle.script_text.proofs.Words.{IsFree, free_nothing, free_cons, free_part, free_kind, free_decimal, free_signed, free_end, free_point}
 use Rattle.script_text.proofs.Texts.{free_text}
 

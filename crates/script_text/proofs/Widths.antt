@@ -17,19 +17,8 @@ use Rattle.s57_types.specs.declared.record.Feature.{Feature}
 use Rattle.s57_types.specs.declared.record.Rec.{Rec}
 use Rattle.s57_types.specs.declared.record.Rec.TheVariants.{V, F, H}
 use Rattle.text_spec.specs.ScriptLines.{IsOfWidth, vector_subfields, feature_subfields, record_subfields}
-use Rattle.script_text.specs.Widths.{
-  IsNameOfWidth,
-  IsIdentityOfWidth,
-  IsAttributeOfWidth,
-  IsEndOfWidth,
-  IsPointOfWidth,
-  IsSoundingOfWidth,
-  IsPartnerOfWidth,
-  IsPlaceOfWidth,
-  IsVectorOfWidth,
-  IsFeatureOfWidth,
-  IsRecordOfWidth,
-}
+use Rattle.script_text.specs.Widths.{IsNameOfWidth, IsIdentityOfWidth, IsAttributeOfWidth, IsEndOfWidth, IsPointOfWidth, IsSoundingOfWidth, IsPartnerOfWidth}
+use Rattle.script_text.specs.Widths.{IsPlaceOfWidth, IsVectorOfWidth, IsFeatureOfWidth, IsRecordOfWidth}
 
 -- what holds of each element of two lists
 pub all_front : {X : Type 0} (P : X → Type 0) (xs ys : List X) → All P (xs ++ ys) → All P xs

@@ -1,52 +1,11 @@
 -- Editors that are numbered from 1 on: one more, and one of them served.
-use Rattle.std.proofs.Common.{
-  ◌≡◌,
-  ◌≢◌,
-  ◌⊎◌,
-  ◌==◌,
-  ℕ,
-  suc,
-  ◌+◌,
-  ◌-◌,
-  ◌<◌,
-  ◌≤◌,
-  true,
-  false,
-  List,
-  [],
-  ◌∷◌,
-  ◌++◌,
-  length,
-  map,
-  take,
-  set,
-  get_or,
-  count_by,
-  All,
-  sym,
-  ap,
-  ◌∙◌,
-  subst,
-  arith,
-  ⊎_elim,
-}
+use Rattle.std.proofs.Common.{◌≡◌, ◌≢◌, ◌⊎◌, ◌==◌, ℕ, suc, ◌+◌, ◌-◌, ◌<◌, ◌≤◌, true, false, List, [], ◌∷◌, ◌++◌, length, map, take, set, get_or, count_by}
+use Rattle.std.proofs.Common.{All, sym, ap, ◌∙◌, subst, arith, ⊎_elim}
 use Rattle.std.specs.Prelude.{slice_index_or}
 use Rattle.std.proofs.lemmas.Bool.{cases_lt, cases_Bool, eqb-true}
 use Rattle.std.proofs.lemmas.Bool.Decides.{nat_tests}
-use Rattle.std.proofs.lemmas.List.{
-  get_or_append_left,
-  get_or_push,
-  get_or-set_same,
-  get_or-set_other,
-  get_or-map,
-  length-append,
-  length-map,
-  length-set,
-  map-append,
-  map-set,
-  set-get_or,
-  take_more,
-}
+use Rattle.std.proofs.lemmas.List.{get_or_append_left, get_or_push, get_or-set_same, get_or-set_other, get_or-map, length-append, length-map, length-set}
+use Rattle.std.proofs.lemmas.List.{map-append, map-set, set-get_or, take_more}
 use Rattle.s57_types.specs.declared.cell.Cell.{Cell}
 use Rattle.text_spec.specs.declared.command.Command.{Command}
 use Rattle.text_spec.specs.OrderLine.{IsOrder}
@@ -56,19 +15,8 @@ use Rattle.history_spec.specs.declared.entry.Entry.{Entry}
 use Rattle.history_spec.specs.Entries.{AreAsked, AreTold, entries_of, order_of_entries}
 use Rattle.history_spec.specs.Sessions.{requests_of, script_of}
 use Rattle.room_laws.specs.Orders.{quotas_of}
-use Rattle.sessions.specs.Replays.{
-  AreEditors,
-  AreEnded,
-  AreEndedAs,
-  AreServed,
-  IsEditor,
-  IsEndedAs,
-  IsReplayed,
-  IsServedOnce,
-  IsShortScript,
-  scripts_of,
-  session_limit,
-}
+use Rattle.sessions.specs.Replays.{AreEditors, AreEnded, AreEndedAs, AreServed, IsEditor, IsEndedAs, IsReplayed, IsServedOnce, IsShortScript, scripts_of}
+use Rattle.sessions.specs.Replays.{session_limit}
 use Rattle.sessions.specs.declared.run.Replayed.{Replayed}
 use Rattle.sessions.specs.declared.editor.Editor.{Editor}
 use Rattle.sessions.proofs.Editors.{other_served}

@@ -1,35 +1,6 @@
 -- Rows that are cut into runs, and pieces that are gathered into layers, one after the other.
-use Rattle.std.proofs.Common.{
-  ◌≡◌,
-  ℕ,
-  suc,
-  zero,
-  ◌+◌,
-  ◌<◌,
-  List,
-  [],
-  ◌∷◌,
-  ◌++◌,
-  length,
-  get_or,
-  take,
-  refl,
-  sym,
-  ap,
-  subst,
-  ◌∙◌,
-  arith,
-  Ordering,
-  add-one,
-  append_assoc,
-  length-append,
-  append-nil,
-  Some,
-  None,
-  is_some,
-  slice_get,
-  true≢false,
-}
+use Rattle.std.proofs.Common.{◌≡◌, ℕ, suc, zero, ◌+◌, ◌<◌, List, [], ◌∷◌, ◌++◌, length, get_or, take, refl, sym, ap, subst, ◌∙◌, arith, Ordering, add-one}
+use Rattle.std.proofs.Common.{append_assoc, length-append, append-nil, Some, None, is_some, slice_get, true≢false}
 use Rattle.std.proofs.lemmas.List.Elements.{All-cons, All-head, All-tail, All-nil}
 use Rattle.row_spec.specs.Rows.{IsAscending}
 use Rattle.row_spec.proofs.Ascending.{IsAscending-left, IsAscending-right}

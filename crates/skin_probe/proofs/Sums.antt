@@ -1,44 +1,6 @@
 -- Sums of whole numbers over lists.
-use Rattle.std.proofs.Common.{
-  ◌≡◌,
-  ◌*◌,
-  Bool,
-  true,
-  false,
-  ◌||◌,
-  ℕ,
-  ◌+◌,
-  ◌<◌,
-  ◌≤◌,
-  List,
-  [],
-  ◌∷◌,
-  ◌++◌,
-  length,
-  get_or,
-  drop,
-  drop_of_length-le,
-  Option,
-  None,
-  Some,
-  cond,
-  map,
-  filter,
-  fold,
-  refl,
-  sym,
-  ap,
-  ◌∙◌,
-  inl,
-  inr,
-  ℤ,
-  pos,
-  negsuc,
-  ◌+ℤ◌,
-  ◌-ℤ◌,
-  ◌*ℤ◌,
-  arith,
-}
+use Rattle.std.proofs.Common.{◌≡◌, ◌*◌, Bool, true, false, ◌||◌, ℕ, ◌+◌, ◌<◌, ◌≤◌, List, [], ◌∷◌, ◌++◌, length, get_or, drop, drop_of_length-le, Option}
+use Rattle.std.proofs.Common.{None, Some, cond, map, filter, fold, refl, sym, ap, ◌∙◌, inl, inr, ℤ, pos, negsuc, ◌+ℤ◌, ◌-ℤ◌, ◌*ℤ◌, arith}
 use Rattle.std.specs.Prelude.{filter_map, flat_map}
 use Rattle.std.specs.Option.{option_map_or}
 use Rattle.std.specs.List.{AllByRecursion, IsDistinct, cons_option}

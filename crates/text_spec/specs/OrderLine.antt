@@ -1,36 +1,6 @@
 -- The order line of a report: of which session each shared command was. This project's own text.
-use Rattle.std.specs.Prelude.{
-  ◌≡◌,
-  ℕ,
-  ◌≤◌,
-  ◌+◌,
-  ◌-◌,
-  ◌==◌,
-  ◌&&◌,
-  Bool,
-  true,
-  nat_eq,
-  nat_le,
-  List,
-  [],
-  ◌∷◌,
-  map,
-  length,
-  take,
-  drop,
-  find,
-  codes,
-  count_by,
-  slice_index_or,
-  All,
-  Option,
-  None,
-  Some,
-  Result,
-  Ok,
-  Err,
-  if◌then◌else◌,
-}
+use Rattle.std.specs.Prelude.{◌≡◌, ℕ, ◌≤◌, ◌+◌, ◌-◌, ◌==◌, ◌&&◌, Bool, true, nat_eq, nat_le, List, [], ◌∷◌, map, length, take, drop, find, codes, count_by}
+use Rattle.std.specs.Prelude.{slice_index_or, All, Option, None, Some, Result, Ok, Err, if◌then◌else◌}
 use Rattle.std.specs.Fmt.{decimal}
 use Rattle.std.specs.List.{range_with_len, filter_map, list_all, position_or_len}
 use Rattle.std.specs.Option.{option_map_or}

@@ -1,29 +1,6 @@
 -- The keys of the rows that pass a test.
-use Rattle.std.proofs.Common.{
-  ◌≡◌,
-  ◌&&◌,
-  ◌||◌,
-  Bool,
-  true,
-  false,
-  not,
-  List,
-  [],
-  ◌∷◌,
-  Option,
-  Some,
-  cond,
-  is_some,
-  map,
-  filter,
-  refl,
-  sym,
-  ap,
-  ◌∙◌,
-  Ordering,
-  Less,
-  is_eq,
-}
+use Rattle.std.proofs.Common.{◌≡◌, ◌&&◌, ◌||◌, Bool, true, false, not, List, [], ◌∷◌, Option, Some, cond, is_some, map, filter, refl, sym, ap, ◌∙◌, Ordering}
+use Rattle.std.proofs.Common.{Less, is_eq}
 use Rattle.std.specs.Cmp.{Equal-is, IsTotalOrder, eq_by_cmp_equiv}
 use Rattle.std.specs.List.{AllByRecursion}
 use Rattle.std.specs.List.Sorted.{IsStrictlySortedBy}

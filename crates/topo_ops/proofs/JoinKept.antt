@@ -1,35 +1,6 @@
 -- What a join keeps.
-use Rattle.std.proofs.Common.{
-  ◌≡◌,
-  inl,
-  inr,
-  ℕ,
-  ◌+◌,
-  ◌-◌,
-  Bool,
-  true,
-  false,
-  ◌&&◌,
-  ◌||◌,
-  List,
-  [],
-  ◌∷◌,
-  ◌++◌,
-  Option,
-  None,
-  Some,
-  cond,
-  drop,
-  find,
-  is_some,
-  map,
-  refl,
-  sym,
-  ap,
-  ◌∙◌,
-  arith,
-  append_assoc,
-}
+use Rattle.std.proofs.Common.{◌≡◌, inl, inr, ℕ, ◌+◌, ◌-◌, Bool, true, false, ◌&&◌, ◌||◌, List, [], ◌∷◌, ◌++◌, Option, None, Some, cond, drop, find, is_some}
+use Rattle.std.proofs.Common.{map, refl, sym, ap, ◌∙◌, arith, append_assoc}
 use Rattle.std.specs.Prelude.{◌==◌, not, option_and_then, option_map, slice_get}
 use Rattle.std.specs.List.{AllByRecursion, list_all, list_any}
 use Rattle.std.specs.Option.{option_map_or}
@@ -62,23 +33,8 @@ use Rattle.topo_ops.specs.Causes.{form_refused, version_end}
 use Rattle.topo_ops.specs.Chains.{Chain, chain_named, edge_name}
 use Rattle.topo_ops.specs.Features.{feature_with, names_pointing}
 use Rattle.topo_ops.specs.FeatureTrace.{feature_trace, trace_along, trace_named}
-use Rattle.topo_ops.specs.Join.{
-  attrs_differ,
-  chains_fault,
-  edits_of_join,
-  feature_unpaired,
-  features_fault,
-  features_of_join,
-  is_end_of,
-  is_other_pointer,
-  join_by,
-  join_fault,
-  joined_edge,
-  joined_places,
-  node_used,
-  not_a_chain,
-  unpaired_from,
-}
+use Rattle.topo_ops.specs.Join.{attrs_differ, chains_fault, edits_of_join, feature_unpaired, features_fault, features_of_join, is_end_of, is_other_pointer}
+use Rattle.topo_ops.specs.Join.{join_by, join_fault, joined_edge, joined_places, node_used, not_a_chain, unpaired_from}
 use Rattle.topo_ops.specs.Kept.{JoinKeeps, counts_of}
 use Rattle.topo_ops.specs.Refusals.{first_of}
 use Rattle.topo_ops.specs.Split.{split_places}

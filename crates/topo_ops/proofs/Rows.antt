@@ -7,18 +7,8 @@ use Rattle.s57_types.specs.declared.name.RecName.{RecName}
 use Rattle.topo_ops.specs.Chains.{Chain, no_chain}
 use Rattle.topo_ops.specs.Refusals.{first_of, IsRefusal}
 use Rattle.topo_ops.specs.declared.refusal.OpRefusal.{OpRefusal}
-use Rattle.topo_ops.specs.declared.refusal.OpRefusal.TheVariants.{
-  NoEdge,
-  BadPlace,
-  NameTaken,
-  NotAChain,
-  NodeUsed,
-  AttrsDiffer,
-  NotPaired,
-  VersionEnd,
-  Form,
-  NoMemory,
-}
+use Rattle.topo_ops.specs.declared.refusal.OpRefusal.TheVariants.{NoEdge, BadPlace, NameTaken, NotAChain, NodeUsed, AttrsDiffer, NotPaired, VersionEnd, Form}
+use Rattle.topo_ops.specs.declared.refusal.OpRefusal.TheVariants.{NoMemory}
 
 pub first_here : {X : Type 0} (o : Option X) (rest : List (Option X)) (x : X) → o ≡ Some x → first_of (o ∷ rest) ≡ Some x
 first_here None rest x e = cc

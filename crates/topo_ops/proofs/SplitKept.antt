@@ -1,39 +1,6 @@
 -- What a split keeps.
-use Rattle.std.proofs.Common.{
-  ◌≡◌,
-  inl,
-  ℕ,
-  ◌+◌,
-  ◌-◌,
-  ◌<◌,
-  ◌≤◌,
-  Bool,
-  true,
-  false,
-  ◌&&◌,
-  ◌||◌,
-  List,
-  [],
-  ◌∷◌,
-  ◌++◌,
-  Option,
-  None,
-  Some,
-  cond,
-  drop,
-  get_or,
-  is_some,
-  length,
-  map,
-  take,
-  refl,
-  sym,
-  ap,
-  ◌∙◌,
-  arith,
-  append_assoc,
-  length-append,
-}
+use Rattle.std.proofs.Common.{◌≡◌, inl, ℕ, ◌+◌, ◌-◌, ◌<◌, ◌≤◌, Bool, true, false, ◌&&◌, ◌||◌, List, [], ◌∷◌, ◌++◌, Option, None, Some, cond, drop, get_or}
+use Rattle.std.proofs.Common.{is_some, length, map, take, refl, sym, ap, ◌∙◌, arith, append_assoc, length-append}
 use Rattle.std.specs.Prelude.{◌==◌, nat_le, nat_lt, not, option_and_then, option_map, option_to_list, slice_get}
 use Rattle.std.specs.List.{AllByRecursion, list_all, list_any}
 use Rattle.std.proofs.lemmas.Bool.{and_parts, false_from_ne_true, leb-true, ltb-false, or_parts}

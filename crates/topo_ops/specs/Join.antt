@@ -1,32 +1,6 @@
 -- Joining two edges that follow each other, by which the connected node between them goes. This project's own rules.
-use Rattle.std.specs.Prelude.{
-  ℕ,
-  ◌+◌,
-  ◌-◌,
-  ◌==◌,
-  ◌&&◌,
-  ◌||◌,
-  ◌++◌,
-  Bool,
-  false,
-  not,
-  List,
-  [],
-  ◌∷◌,
-  Option,
-  None,
-  Some,
-  length,
-  map,
-  drop,
-  filter,
-  find,
-  slice_get,
-  nat_lt,
-  is_some,
-  option_map,
-  if◌then◌else◌,
-}
+use Rattle.std.specs.Prelude.{ℕ, ◌+◌, ◌-◌, ◌==◌, ◌&&◌, ◌||◌, ◌++◌, Bool, false, not, List, [], ◌∷◌, Option, None, Some, length, map, drop, filter, find}
+use Rattle.std.specs.Prelude.{slice_get, nat_lt, is_some, option_map, if◌then◌else◌}
 use Rattle.std.specs.Option.{option_map_or}
 use Rattle.s57_types.specs.declared.name.RecName.{RecName}
 use Rattle.s57_types.specs.declared.record.End.{End}

@@ -3,18 +3,8 @@ use Rattle.std.specs.Prelude.{◌≡◌, ℕ, List, [], ◌∷◌, Option, None,
 use Rattle.edit_sets.specs.declared.fault.FormRefusal.{FormRefusal}
 use Rattle.edit_sets.specs.declared.fault.FormRefusal.TheVariants.{Fault as FormFault, NoMemory as FormNoMemory}
 use Rattle.topo_ops.specs.declared.refusal.OpRefusal.{OpRefusal}
-use Rattle.topo_ops.specs.declared.refusal.OpRefusal.TheVariants.{
-  NoEdge,
-  BadPlace,
-  NameTaken,
-  NotAChain,
-  NodeUsed,
-  AttrsDiffer,
-  NotPaired,
-  VersionEnd,
-  Form,
-  NoMemory,
-}
+use Rattle.topo_ops.specs.declared.refusal.OpRefusal.TheVariants.{NoEdge, BadPlace, NameTaken, NotAChain, NodeUsed, AttrsDiffer, NotPaired, VersionEnd, Form}
+use Rattle.topo_ops.specs.declared.refusal.OpRefusal.TheVariants.{NoMemory}
 
 -- the first that there is
 abbrev pub first_of : {X : Type 0} → List (Option X) → Option X

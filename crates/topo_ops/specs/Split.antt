@@ -1,26 +1,6 @@
 -- Splitting an edge at one of its points by a new connected node and a new edge. This project's own rules.
-use Rattle.std.specs.Prelude.{
-  ℕ,
-  ◌+◌,
-  ◌-◌,
-  ◌==◌,
-  ◌&&◌,
-  List,
-  [],
-  ◌∷◌,
-  Option,
-  None,
-  Some,
-  length,
-  map,
-  flat_map,
-  take,
-  drop,
-  slice_get,
-  nat_le,
-  option_to_list,
-  if◌then◌else◌,
-}
+use Rattle.std.specs.Prelude.{ℕ, ◌+◌, ◌-◌, ◌==◌, ◌&&◌, List, [], ◌∷◌, Option, None, Some, length, map, flat_map, take, drop, slice_get, nat_le}
+use Rattle.std.specs.Prelude.{option_to_list, if◌then◌else◌}
 use Rattle.std.specs.Option.{option_map_or}
 use Rattle.s57_types.specs.declared.name.RecName.{RecName}
 use Rattle.s57_types.specs.declared.record.End.{End}

@@ -2,33 +2,8 @@
 use mathlib.Core.List.{IsPrefix}
 use mathlib.Core.Logic.{dite}
 use native.Mathlib.Decide.{ℕ_discrete}
-use Rattle.std.proofs.Common.{
-  ◌≡◌,
-  ◌≢◌,
-  ◌==◌,
-  ℕ,
-  ◌<◌,
-  Bool,
-  List,
-  [],
-  ◌∷◌,
-  ◌++◌,
-  cond,
-  if◌then◌else◌,
-  map,
-  All,
-  Contains,
-  eq-eqb,
-  ne_eqb,
-  sym,
-  refl,
-  ap,
-  ◌∙◌,
-  ⊎_elim,
-  arith,
-  append-nil,
-  append_assoc,
-}
+use Rattle.std.proofs.Common.{◌≡◌, ◌≢◌, ◌==◌, ℕ, ◌<◌, Bool, List, [], ◌∷◌, ◌++◌, cond, if◌then◌else◌, map, All, Contains, eq-eqb, ne_eqb, sym, refl, ap, ◌∙◌}
+use Rattle.std.proofs.Common.{⊎_elim, arith, append-nil, append_assoc}
 use Rattle.std.proofs.lemmas.List.Elements.{filter-append, All-head, All-tail, All-map, All-contains}
 use Rattle.turn_gate.specs.declared.view.OwnList.{OwnList}
 use Rattle.turn_gate.specs.Histories.{numbers_of, extended, entries_by, IsExact, exact_list, IsAtMostOne, Appends}

@@ -5,48 +5,9 @@ use mathlib.Core.Option.{some, none, some-injective}
 use native.Mathlib.Decide.{ℕ_discrete}
 use lib.ListN.{get_elem?}
 use lib.Seq.{set-get_or}
-use Rattle.std.proofs.Common.{
-  ◌≡◌,
-  ◌≢◌,
-  ◌⊎◌,
-  ℕ,
-  ◌+◌,
-  ◌%◌,
-  ◌^◌,
-  ◌<◌,
-  ◌≤◌,
-  ◌||◌,
-  if◌then◌else◌,
-  Bool,
-  true,
-  false,
-  List,
-  [],
-  ◌∷◌,
-  ◌++◌,
-  length,
-  replicate,
-  get_or,
-  set,
-  All,
-  Contains,
-  Option,
-  Some,
-  None,
-  sym,
-  refl,
-  ap,
-  ◌∙◌,
-  subst,
-  inl,
-  inr,
-  ⊎_elim,
-  arith,
-  length-set,
-  length-append,
-  get_or-set_other,
-  get_or-set_same,
-}
+use Rattle.std.proofs.Common.{◌≡◌, ◌≢◌, ◌⊎◌, ℕ, ◌+◌, ◌%◌, ◌^◌, ◌<◌, ◌≤◌, ◌||◌, if◌then◌else◌, Bool, true, false, List, [], ◌∷◌, ◌++◌, length, replicate}
+use Rattle.std.proofs.Common.{get_or, set, All, Contains, Option, Some, None, sym, refl, ap, ◌∙◌, subst, inl, inr, ⊎_elim, arith, length-set, length-append}
+use Rattle.std.proofs.Common.{get_or-set_other, get_or-set_same}
 use Rattle.std.proofs.lemmas.Bool.{cases_Bool}
 use Rattle.std.proofs.lemmas.List.Elements.{Contains-append_left, Contains-append_right, All-weaker, All-nil, All-cons, All-append, All-same}
 use Rattle.atomic_table.specs.Table.{State, Me, step, Allows, Splits, Joins, Final, Seen, opening, keeps}
@@ -58,23 +19,8 @@ use Rattle.turn_gate.specs.TicketLockRule.{LockState, Keeps, IsSound, IsAt, Tick
 use Rattle.turn_gate.specs.Outcomes.{DrawsNumber, ComparesHistories, giving_view, new_view, joined_view, spent_view}
 use Rattle.turn_gate.proofs.Prefixes.{longer_prefix}
 use Rattle.turn_gate.proofs.Entries.{entries_by-unused, entries_by-none_before, exact_between}
-use Rattle.turn_gate.proofs.Views.{
-  put,
-  put_here,
-  put_else,
-  moved,
-  moved_here,
-  moved_else,
-  set_at,
-  at_end,
-  only,
-  each_stays,
-  at_stays,
-  at_stays_longer,
-  none_marked,
-  waiting_set,
-  waiting_more,
-}
+use Rattle.turn_gate.proofs.Views.{put, put_here, put_else, moved, moved_here, moved_else, set_at, at_end, only, each_stays, at_stays, at_stays_longer}
+use Rattle.turn_gate.proofs.Views.{none_marked, waiting_set, waiting_more}
 
 abbrev value_of : {O : Type 0} → O → Option O → O
 value_of d (Some o) = o

@@ -5,40 +5,8 @@ use mathlib.Core.Option.{some, none, some-injective}
 use native.Mathlib.Decide.{ℕ_discrete}
 use lib.ListN.{get_elem?}
 use lib.Seq.{set-get_or}
-use Rattle.std.proofs.Common.{
-  ◌≡◌,
-  ◌≢◌,
-  ℕ,
-  ◌+◌,
-  ◌%◌,
-  ◌^◌,
-  ◌<◌,
-  ◌≤◌,
-  true,
-  false,
-  List,
-  [],
-  ◌∷◌,
-  ◌++◌,
-  get_or,
-  set,
-  Contains,
-  Option,
-  Some,
-  None,
-  sym,
-  refl,
-  ap,
-  ◌∙◌,
-  subst,
-  ⊎_elim,
-  arith,
-  append-nil,
-  unwrap_or,
-  length-set,
-  get_or-set_other,
-  get_or-set_same,
-}
+use Rattle.std.proofs.Common.{◌≡◌, ◌≢◌, ℕ, ◌+◌, ◌%◌, ◌^◌, ◌<◌, ◌≤◌, true, false, List, [], ◌∷◌, ◌++◌, get_or, set, Contains, Option, Some, None, sym, refl}
+use Rattle.std.proofs.Common.{ap, ◌∙◌, subst, ⊎_elim, arith, append-nil, unwrap_or, length-set, get_or-set_other, get_or-set_same}
 use Rattle.std.proofs.lemmas.Bool.{cases_Bool}
 use Rattle.std.proofs.lemmas.List.Elements.{All-weaker, All-push, All-map, All-same, All-nil}
 use Rattle.atomic_table.specs.Table.{State, Me, step, Allows, keeps, takes, gives, stepped, rest}

@@ -40,25 +40,9 @@ use Rattle.answer_laws.proofs.FreeNames.{IsFree, no_edit, nothing_added, record_
 use Rattle.update_spec.specs.ControlFields.{instruction_of, has_controls}
 use Rattle.update_spec.specs.UpdateFaults.{of_record}
 use Rattle.update_spec.specs.UpdateFields.{checked_fields}
-use Rattle.update_spec.specs.UpdateRecords.{
-  are_mixed,
-  feature_edit,
-  feature_in,
-  feature_name,
-  feature_update,
-  identifiers,
-  inserted_feature,
-  inserted_vector,
-  is_next,
-  modified_feature,
-  modified_vector,
-  record_update,
-  update_limit,
-  update_of_type,
-  vector_edit,
-  vector_in,
-  vector_update,
-}
+use Rattle.update_spec.specs.UpdateRecords.{are_mixed, feature_edit, feature_in, feature_name, feature_update, identifiers, inserted_feature}
+use Rattle.update_spec.specs.UpdateRecords.{inserted_vector, is_next, modified_feature, modified_vector, record_update, update_limit, update_of_type}
+use Rattle.update_spec.specs.UpdateRecords.{vector_edit, vector_in, vector_update}
 use Rattle.update_spec.specs.declared.control.Instruction.{Instruction}
 use Rattle.update_spec.specs.declared.control.Instruction.TheVariants.{Insert, Delete, Modify}
 use Rattle.update_spec.specs.declared.fault.UpdateFault.{UpdateFault}

@@ -35,76 +35,26 @@ use Rattle.file_spec.specs.declared.fault.RecordFault.TheVariants.{NotBase, Twic
 use Rattle.file_spec.specs.declared.tag.FieldTag.TheVariants as tags
 use Rattle.file_spec.specs.declared.tag.RecordType.{RecordType}
 use Rattle.file_spec.specs.declared.tag.RecordType.TheVariants as types
-use Rattle.decode_laws.proofs.Contents.{
-  and_true,
-  attribute_is_plain,
-  attributes_are_plain,
-  end_names_vector,
-  ends_name_vectors,
-  partner_is_plain,
-  partners_are_plain,
-  place_names_vector,
-  places_name_vectors,
-  vrid_names_vector,
-}
+use Rattle.decode_laws.proofs.Contents.{and_true, attribute_is_plain, attributes_are_plain, end_names_vector, ends_name_vectors, partner_is_plain}
+use Rattle.decode_laws.proofs.Contents.{partners_are_plain, place_names_vector, places_name_vectors, vrid_names_vector}
 use Rattle.decode_laws.proofs.Records.{IsGood, demanded, passed, required_is, step}
-use Rattle.update_apply.proofs.GoodRecords.{
-  attributes_pass,
-  feature_rows,
-  fits_when_short,
-  nationals_are_plain,
-  rows_pass,
-  target_feature_is_good,
-  target_vector_is_good,
-  texts_flat,
-  texts_joined,
-  updated_pass,
-  vector_rows,
-}
+use Rattle.update_apply.proofs.GoodRecords.{attributes_pass, feature_rows, fits_when_short, nationals_are_plain, rows_pass, target_feature_is_good}
+use Rattle.update_apply.proofs.GoodRecords.{target_vector_is_good, texts_flat, texts_joined, updated_pass, vector_rows}
 use Rattle.update_spec.specs.ControlFields.{instruction_of, control_among, has_controls}
 use Rattle.update_spec.specs.UpdateFaults.{of_record}
 use Rattle.update_spec.specs.UpdateFields.{checked_fields}
 use Rattle.update_spec.specs.UpdatedAttributes.{updated_attributes}
 use Rattle.update_spec.specs.UpdatedRows.{Coordinates, updated_rows, updated_coordinates}
-use Rattle.update_spec.specs.UpdateRecords.{
-  are_mixed,
-  feature_edit,
-  feature_in,
-  feature_name,
-  feature_update,
-  given_coordinates,
-  identifiers,
-  inserted_feature,
-  inserted_vector,
-  is_new,
-  is_next,
-  is_short,
-  modified_feature,
-  modified_vector,
-  no_update,
-  record_update,
-  target_feature,
-  target_vector,
-  update_limit,
-  update_of_type,
-  vector_edit,
-  vector_in,
-  vector_update,
-}
+use Rattle.update_spec.specs.UpdateRecords.{are_mixed, feature_edit, feature_in, feature_name, feature_update, given_coordinates, identifiers}
+use Rattle.update_spec.specs.UpdateRecords.{inserted_feature, inserted_vector, is_new, is_next, is_short, modified_feature, modified_vector, no_update}
+use Rattle.update_spec.specs.UpdateRecords.{record_update, target_feature, target_vector, update_limit, update_of_type, vector_edit, vector_in}
+use Rattle.update_spec.specs.UpdateRecords.{vector_update}
 use Rattle.update_spec.specs.declared.control.ControlTag.TheVariants.{Vrpc, Sgcc, Ffpc, Fspc}
 use Rattle.update_spec.specs.declared.control.Instruction.{Instruction}
 use Rattle.update_spec.specs.declared.control.Instruction.TheVariants.{Insert, Delete, Modify}
 use Rattle.update_spec.specs.declared.fault.UpdateFault.{UpdateFault}
-use Rattle.update_spec.specs.declared.fault.UpdateFault.TheVariants.{
-  Record,
-  NoTarget,
-  TargetThere,
-  WrongVersion,
-  OtherIdentity,
-  BadControl,
-  LevelMix,
-  TooManyEdits,
-}
+use Rattle.update_spec.specs.declared.fault.UpdateFault.TheVariants.{Record, NoTarget, TargetThere, WrongVersion, OtherIdentity, BadControl, LevelMix}
+use Rattle.update_spec.specs.declared.fault.UpdateFault.TheVariants.{TooManyEdits}
 use Rattle.update_spec.specs.declared.identifiers.Identifiers.{Identifiers}
 
 -- ---- what steps came from

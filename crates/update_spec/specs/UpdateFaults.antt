@@ -5,18 +5,8 @@ use Rattle.s57_types.specs.declared.fault.CellFault.{CellFault}
 use Rattle.file_spec.specs.RecordFaults.{code_of}
 use Rattle.file_spec.specs.declared.fault.RecordFault.{RecordFault}
 use Rattle.update_spec.specs.declared.fault.UpdateFault.{UpdateFault}
-use Rattle.update_spec.specs.declared.fault.UpdateFault.TheVariants.{
-  Record,
-  NoTarget,
-  TargetThere,
-  WrongVersion,
-  OtherIdentity,
-  BadControl,
-  LevelMix,
-  WrongEdition,
-  WrongUpdate,
-  TooManyEdits,
-}
+use Rattle.update_spec.specs.declared.fault.UpdateFault.TheVariants.{Record, NoTarget, TargetThere, WrongVersion, OtherIdentity, BadControl, LevelMix}
+use Rattle.update_spec.specs.declared.fault.UpdateFault.TheVariants.{WrongEdition, WrongUpdate, TooManyEdits}
 
 -- the codes are this project's own; they go on from those of a cell file
 abbrev pub update_code : UpdateFault → ℕ

@@ -15,17 +15,8 @@ use Rattle.s57_types.specs.declared.record.Rec.TheVariants.{V, F, H}
 use Rattle.s57_types.specs.declared.field.Frid.{Frid}
 use Rattle.s57_types.specs.declared.field.Vrid.{Vrid}
 use Rattle.s57_types.specs.declared.cell.Cell.{Cell}
-use Rattle.field_spec.specs.Contents.{
-  frid_content,
-  foid_content,
-  attribute_content,
-  partner_content,
-  place_content,
-  vrid_content,
-  end_content,
-  plane_content,
-  deep_content,
-}
+use Rattle.field_spec.specs.Contents.{frid_content, foid_content, attribute_content, partner_content, place_content, vrid_content, end_content}
+use Rattle.field_spec.specs.Contents.{plane_content, deep_content}
 use Rattle.cell_spec.specs.declared.edit.Edit.{Edit}
 use Rattle.cell_spec.specs.declared.edit.Edit.TheVariants.{Add, Set, Del}
 use Rattle.cell_spec.specs.Lookup.{lookup_record}
@@ -48,16 +39,8 @@ use Rattle.update_spec.specs.declared.control.Instruction.{Instruction}
 use Rattle.update_spec.specs.declared.identifiers.Identifiers.{Identifiers}
 use Rattle.update_spec.specs.declared.control.Instruction.TheVariants.{Insert, Delete, Modify}
 use Rattle.update_spec.specs.declared.fault.UpdateFault.{UpdateFault}
-use Rattle.update_spec.specs.declared.fault.UpdateFault.TheVariants.{
-  Record,
-  NoTarget,
-  TargetThere,
-  WrongVersion,
-  OtherIdentity,
-  BadControl,
-  LevelMix,
-  TooManyEdits,
-}
+use Rattle.update_spec.specs.declared.fault.UpdateFault.TheVariants.{Record, NoTarget, TargetThere, WrongVersion, OtherIdentity, BadControl, LevelMix}
+use Rattle.update_spec.specs.declared.fault.UpdateFault.TheVariants.{TooManyEdits}
 
 -- ---- the record of the cell that an update record is about. A vector or feature record is never named like the head
 abbrev pub vector_in : Rec → Option Vector

@@ -1,29 +1,6 @@
 -- What a control field makes of the rows of a record, with the rows that the update gives (S-57 Part 3, 8.4.2 and 8.4.3).
-use Rattle.std.specs.Prelude.{
-  ℕ,
-  ℤ,
-  ◌+◌,
-  ◌-◌,
-  ◌==◌,
-  ◌&&◌,
-  ◌||◌,
-  Bool,
-  true,
-  false,
-  not,
-  nat_le,
-  List,
-  ◌++◌,
-  length,
-  take,
-  drop,
-  Option,
-  Some,
-  None,
-  Result,
-  Ok,
-  Err,
-}
+use Rattle.std.specs.Prelude.{ℕ, ℤ, ◌+◌, ◌-◌, ◌==◌, ◌&&◌, ◌||◌, Bool, true, false, not, nat_le, List, ◌++◌, length, take, drop, Option, Some, None, Result}
+use Rattle.std.specs.Prelude.{Ok, Err}
 use Rattle.file_spec.specs.RecordFaults.{◌>>=◌, ◌>>◌, demand}
 use Rattle.update_spec.specs.ControlFields.{instruction_of}
 use Rattle.update_spec.specs.declared.control.Control.{Control}

@@ -1,26 +1,5 @@
-use Rattle.std.proofs.Common.{
-  ◌≡◌,
-  ℕ,
-  ◌+◌,
-  ◌<◌,
-  ◌++◌,
-  [],
-  ◌∷◌,
-  None,
-  Option,
-  length,
-  take,
-  get_or,
-  take_all,
-  below_more,
-  refl,
-  sym,
-  ap,
-  subst,
-  ◌∙◌,
-  arith,
-  zero-add,
-}
+use Rattle.std.proofs.Common.{◌≡◌, ℕ, ◌+◌, ◌<◌, ◌++◌, [], ◌∷◌, None, Option, length, take, get_or, take_all, below_more, refl, sym, ap, subst, ◌∙◌, arith}
+use Rattle.std.proofs.Common.{zero-add}
 use Rattle.std.proofs.lemmas.List.{length-take, take_more}
 use Rattle.cell_spec.specs.Edits.{name_of_edit}
 use Rattle.edit_sets.specs.FormFault.{edit_fault, fault_at}

@@ -1,47 +1,14 @@
 use Rattle.std.proofs.Common.{refl, ap}
-use Rattle.s57_types.specs.FieldRows.{
-  attribute_forms,
-  partner_forms,
-  place_forms,
-  end_forms,
-  plane_forms,
-  deep_forms,
-  attribute_row,
-  partner_row,
-  place_row,
-  end_row,
-  plane_row,
-  deep_row,
-}
+use Rattle.s57_types.specs.FieldRows.{attribute_forms, partner_forms, place_forms, end_forms, plane_forms, deep_forms, attribute_row, partner_row, place_row}
+use Rattle.s57_types.specs.FieldRows.{end_row, plane_row, deep_row}
 use Rattle.s57_types.specs.Fitness.{is_vector_kind}
 use Rattle.s57_types.specs.declared.name.Kind.{Kind}
 use Rattle.s57_types.specs.declared.record.End.{End}
 use Rattle.s57_types.specs.declared.record.Spot.{Spot}
-use Rattle.field_spec.specs.Contents.{
-  attribute_content,
-  partner_content,
-  place_content,
-  end_content,
-  plane_content,
-  deep_content,
-  any_row,
-  names_a_vector,
-  attribute_value,
-  partner_value,
-  place_value,
-  end_value,
-  plane_value,
-  deep_value,
-}
-use Rattle.field_spec.proofs.Written.{
-  rows_written,
-  have_values,
-  have_tested_values,
-  attribute_value-row,
-  attribute_rows_told,
-  kind_of_rcnm-rcnm_of,
-  vector_rcnm,
-}
+use Rattle.field_spec.specs.Contents.{attribute_content, partner_content, place_content, end_content, plane_content, deep_content, any_row, names_a_vector}
+use Rattle.field_spec.specs.Contents.{attribute_value, partner_value, place_value, end_value, plane_value, deep_value}
+use Rattle.field_spec.proofs.Written.{rows_written, have_values, have_tested_values, attribute_value-row, attribute_rows_told, kind_of_rcnm-rcnm_of}
+use Rattle.field_spec.proofs.Written.{vector_rcnm}
 use Rattle.field_spec.proofs.law.repeating_rows_read_back.Goals as goal
 
 pub returns-clause-attributes : goal.returns-clause-attributes

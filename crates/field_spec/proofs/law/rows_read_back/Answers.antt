@@ -1,41 +1,10 @@
 use Rattle.std.proofs.Common.{◌≡◌, ◌==◌, ◌&&◌, true, nat_le, refl, ap, arith}
 use Rattle.std.proofs.lemmas.Bool.Decides.{nat_tests}
-use Rattle.s57_types.specs.FieldRows.{
-  number_forms,
-  dsid_forms,
-  dssi_forms,
-  dspm_forms,
-  frid_forms,
-  foid_forms,
-  vrid_forms,
-  number_row,
-  dsid_row,
-  dssi_row,
-  dspm_row,
-  frid_row,
-  foid_row,
-  vrid_row,
-}
+use Rattle.s57_types.specs.FieldRows.{number_forms, dsid_forms, dssi_forms, dspm_forms, frid_forms, foid_forms, vrid_forms, number_row, dsid_row, dssi_row}
+use Rattle.s57_types.specs.FieldRows.{dspm_row, frid_row, foid_row, vrid_row}
 use Rattle.s57_types.specs.declared.name.Kind.{Kind}
-use Rattle.field_spec.specs.Contents.{
-  number_content,
-  dsid_content,
-  dssi_content,
-  dspm_content,
-  frid_content,
-  foid_content,
-  vrid_content,
-  number_in,
-  any_row,
-  dsid_value,
-  dssi_value,
-  dspm_value,
-  frid_value,
-  lnam_in,
-  vrid_value,
-  has_good_levels,
-  names_a_vector,
-}
+use Rattle.field_spec.specs.Contents.{number_content, dsid_content, dssi_content, dspm_content, frid_content, foid_content, vrid_content, number_in, any_row}
+use Rattle.field_spec.specs.Contents.{dsid_value, dssi_value, dspm_value, frid_value, lnam_in, vrid_value, has_good_levels, names_a_vector}
 use Rattle.field_spec.proofs.Written.{row_written, dssi_value-row, kind_of_rcnm-rcnm_of, vector_rcnm}
 use Rattle.field_spec.proofs.law.rows_read_back.Goals as goal
 

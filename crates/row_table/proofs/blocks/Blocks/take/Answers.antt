@@ -2,19 +2,8 @@ use Rattle.std.proofs.Common.{arith, ap, sym, ◌∙◌, ◌≡◌, ◌<◌, ◌
 use Rattle.row_spec.specs.Blocks.{rows_of, block_at, AreStarts}
 use Rattle.row_spec.proofs.Joined.{rows_before-behind, remove-set, claim_of-set, claim_of-remove}
 use Rattle.row_table.proofs.Starts.{starts_lowered, starts_removed, starts_same}
-use Rattle.row_spec.proofs.Runs.{
-  block_at-rows_of,
-  filled_at,
-  filled_set,
-  filled_remove,
-  rows_of-set,
-  rows_of-remove,
-  replaced_some,
-  replaced_none,
-  emptied,
-  empty_push,
-  in_runs,
-}
+use Rattle.row_spec.proofs.Runs.{block_at-rows_of, filled_at, filled_set, filled_remove, rows_of-set, rows_of-remove, replaced_some, replaced_none, emptied}
+use Rattle.row_spec.proofs.Runs.{empty_push, in_runs}
 use Rattle.std.proofs.lemmas.Grind.{get_or-set_at}
 use Rattle.row_table.proofs.blocks.Blocks.take.Goals as goal
 

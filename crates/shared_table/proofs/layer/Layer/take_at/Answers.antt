@@ -1,18 +1,8 @@
 use Rattle.std.proofs.Common.{◌<◌, length, arith, ap}
 use Rattle.row_spec.proofs.Runs.{nil_from_length}
 use Rattle.row_spec.proofs.Joined.{remove-set}
-use Rattle.shared_table.proofs.Parts.{
-  length-blocks,
-  part_rows,
-  take_rows,
-  take_parts,
-  gone_rows,
-  gone_parts,
-  length-block,
-  length-changed,
-  length-gone,
-  length-less,
-}
+use Rattle.shared_table.proofs.Parts.{length-blocks, part_rows, take_rows, take_parts, gone_rows, gone_parts, length-block, length-changed, length-gone}
+use Rattle.shared_table.proofs.Parts.{length-less}
 use Rattle.shared_table.proofs.layer.Layer.take_at.Goals as goal
 
 pub overflow_sub-self : goal.overflow_sub-self
