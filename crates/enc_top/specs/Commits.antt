@@ -1,11 +1,8 @@
 -- Edits as the first commit of a cell's history: why it is refused, and what it leaves. This project's own rules.
-use Rattle.std.specs.Prelude.{◌≡◌, [], ℕ, List, Option, None, Some, Result, Ok, Err}
+use Rattle.std.specs.Prelude.{[], ℕ, List, Option, None, Some, Result, Ok, Err}
 use Rattle.std.specs.Option.{option_map_or}
 use Rattle.cell_spec.specs.Edits.{apply_edits}
 use Rattle.cell_spec.specs.declared.edit.Edit.{Edit}
-use Rattle.commit_book.specs.Books.{BookState, IsEntered}
-use Rattle.edit_sets.specs.FormFault.{GuardedEdits}
-use Rattle.history_spec.specs.declared.entry.Asked.TheVariants as asked
 use Rattle.history_spec.specs.Steps.{answer, commit, opening}
 use Rattle.history_spec.specs.declared.refusal.StateRefusal.{StateRefusal}
 use Rattle.history_spec.specs.declared.refusal.StateRefusal.TheVariants as state
@@ -22,12 +19,6 @@ refusal_told (reply.Formed fault) = None
 refusal_told (reply.Newer number name desk edit) = None
 refusal_told (reply.Refused why) = Some why
 refusal_told (reply.Accepted number findings) = None
-
--- a log has entered a commit of its one desk, and has told why it refuses it, if it does
-pub record TellsRefusal (old : BookState) (base : ℕ) (edits : GuardedEdits) (new : BookState) (refusal : Option StateRefusal) : Type 0 where
-  pub reply : Reply
-  pub entered : IsEntered old 1 (asked.Commit base edits) new reply
-  pub told : refusal ≡ refusal_told reply
 
 -- why the first step of a cell's history refuses a commit of edits, if it does
 abbrev pub commit_refusal : Cell → List Edit → Option StateRefusal

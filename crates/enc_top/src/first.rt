@@ -2,11 +2,11 @@
 
 ghost use Rattle.std.specs.Prelude.{◌≡◌, ◌≤◌, [], IfErr, IfOk, Ok, length, true};
 ghost use Rattle.cell_spec.specs.Edits.{find_their_records};
-ghost use Rattle.commit_book.specs.Books.{history_of};
+ghost use Rattle.commit_book.specs.Books.{IsEntered, history_of};
 ghost use Rattle.commit_book.specs.Prepared.{AreRight};
 ghost use Rattle.file_spec.specs.DecodedCell.{decoded_cell};
 ghost use Rattle.file_spec.specs.EncodedCell.{encoded_cell};
-ghost use Rattle.enc_top.specs.Commits.{IsCommitStatus, TellsRefusal, committed, refusal_told};
+ghost use Rattle.enc_top.specs.Commits.{IsCommitStatus, committed, refusal_told};
 ghost use Rattle.call_files.specs.Inputs.{IsJudged};
 ghost use Rattle.enc_top.specs.Task.{left_task};
 ghost use Rattle.call_files.specs.Task.{task_of};
@@ -18,6 +18,7 @@ use chain_topo::Steps;
 use commit_book::{Book, BookRefusal, Prepared, Reply, StateRefusal};
 use edit_sets::EditSet;
 use file_spec::writable_cell_is_read_back;
+use history_spec::Asked;
 use recheck::prepare;
 use report_text::{Status, print_findings};
 use std::alloc::{AllocError, Global};
@@ -43,29 +44,28 @@ pub(crate) fn commit<R: Threads + Sync, L: Ledger>(
 {
     let prepared = prepare(rt, alloc, &bench, 0, set)?;
     let mut book = Book::of_bench(alloc, bench);
-    let refusal = enter(alloc, &mut book, prepared, steps)?;
-    match refusal {
+    let reply = enter(alloc, &mut book, prepared, steps)?;
+    match refusal_of(&reply) {
         Some(refusal) => Err(Status::Refused(refusal)),
         None => Ok(book.into_bench()),
     }
 }
 
-/// Enters what was prepared as the first commit of a log, and tells why the log refuses it, if it does. The log's answer, which may have an
-/// edit, is dropped here.
+/// Enters what was prepared as the first commit of a log, and tells the log's answer.
 fn enter<L: Ledger>(
     alloc: Global,
     book: &mut Book,
     prepared: Prepared,
     steps: &mut Steps<L>,
-) -> Result<Option<StateRefusal>, AllocError>
+) -> Result<Reply, AllocError>
     requires none { book.old.entries ≡ [] }
     requires base { prepared.base ≤ length (history_of book.old).commits }
     requires level { prepared.edits.nall ≡ book.old.opening.head.nall }
     requires rows { AreRight book.old.opening book.old.entries prepared }
-    ensures { IfOk result (λ refusal. TellsRefusal book.old prepared.base prepared.edits book.new refusal) }
+    ensures { IfOk result (λ reply. IsEntered book.old 1 (Asked.Commit prepared.base prepared.edits) book.new reply) }
 {
     match book.commit(alloc, DESK, &prepared, steps) {
-        Ok(told) => Ok(refusal_of(&told.reply)),
+        Ok(told) => Ok(told.reply),
         Err(BookRefusal::NoMemory) => Err(AllocError),
         Err(BookRefusal::LogFull) => unreachable!(),
     }

@@ -16,10 +16,10 @@ returns-in-None-clause-judged g c =
     let set = c.args.set in
     let prepared = c.in_ok-prepared.prepared in
     let new = c.enter.new.book in
-    let said = c.in_ok-refusal.ensures in
+    let reply = c.in_ok-reply.reply in
     settled_as c.args.bench c.of_bench-book.result 1 prepared.base prepared.edits set c.of_bench-book.ensures.state
-    c.in_ok-prepared.ensures.base c.in_ok-prepared.ensures.edits c.requires.no_guards new said.reply said.entered
-    ∙ ap (λ refusal. left_unless refusal (history_of new).cell) (sym said.told ∙ c.in-None.is)
+    c.in_ok-prepared.ensures.base c.in_ok-prepared.ensures.edits c.requires.no_guards new reply c.in_ok-reply.ensures
+    ∙ ap (λ refusal. left_unless refusal (history_of new).cell) (sym c.refusal_of.ensures ∙ c.in-None.is)
     ∙ ap Ok (sym c.into_bench.ensures)
 
 pub returns-in-Some-clause-judged : goal.returns-in-Some-clause-judged
@@ -27,17 +27,17 @@ returns-in-Some-clause-judged g c =
     let set = c.args.set in
     let prepared = c.in_ok-prepared.prepared in
     let new = c.enter.new.book in
-    let said = c.in_ok-refusal.ensures in
+    let reply = c.in_ok-reply.reply in
     inl (settled_as c.args.bench c.of_bench-book.result 1 prepared.base prepared.edits set c.of_bench-book.ensures.state
-    c.in_ok-prepared.ensures.base c.in_ok-prepared.ensures.edits c.requires.no_guards new said.reply said.entered
-    ∙ ap (λ refusal. left_unless refusal (history_of new).cell) (sym said.told ∙ c.in-Some.is))
+    c.in_ok-prepared.ensures.base c.in_ok-prepared.ensures.edits c.requires.no_guards new reply c.in_ok-reply.ensures
+    ∙ ap (λ refusal. left_unless refusal (history_of new).cell) (sym c.refusal_of.ensures ∙ c.in-Some.is))
 
 pub returns-in-Some-clause-ends : goal.returns-in-Some-clause-ends
 returns-in-Some-clause-ends g c =
     let set = c.args.set in
     let prepared = c.in_ok-prepared.prepared in
     let new = c.enter.new.book in
-    let said = c.in_ok-refusal.ensures in
+    let reply = c.in_ok-reply.reply in
     large_as c.args.bench c.of_bench-book.result 1 prepared.base prepared.edits set c.of_bench-book.ensures.state
-    c.in_ok-prepared.ensures.base c.in_ok-prepared.ensures.edits c.requires.no_guards new said.reply said.entered
-    c.in-Some.refusal c.requires.found (sym said.told ∙ c.in-Some.is)
+    c.in_ok-prepared.ensures.base c.in_ok-prepared.ensures.edits c.requires.no_guards new reply c.in_ok-reply.ensures
+    c.in-Some.refusal c.requires.found (sym c.refusal_of.ensures ∙ c.in-Some.is)
