@@ -14,8 +14,12 @@ use Rattle.cell_spec.specs.Names.{identity_order, same_key}
 use Rattle.cell_spec.proofs.Orders.{exact_identities, total_identities}
 use Rattle.row_spec.specs.Rows.{value_of, with_row}
 use Rattle.row_spec.proofs.Changes.{value_of-with_row}
-use Rattle.edit_answers.proofs.Ties.{identities_flip, or_none}
+use Rattle.edit_answers.proofs.Ties.{identities_flip}
 use Rattle.affected_subjects.specs.EditedCells.{KnowsBearers, is_borne_after}
+
+or_none : (b : Bool) → b ≡ (b || (false || false))
+or_none true = refl
+or_none false = refl
 
 put_by : (hit old was is : Bool) → (hit ≡ true → was ≡ is) → cond hit (Some was) (cond old (Some is) None) ≡ cond (old || (hit || false)) (Some is) None
 put_by true true was is same = ap Some (same refl)

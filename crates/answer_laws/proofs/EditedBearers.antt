@@ -43,11 +43,11 @@ pub held : (c : Cell) (l : Lnam) (q : RecName) → holds name_order q (lookup_id
 held c l q = holds-ascending name_order exact_names q (map name_of (filter (bears l) (all_records c))) ∙ any_named q l (all_records c)
 
 module _ (edits : List Edit) (c : Cell) (fit : FindTheirRecords edits c) (l : Lnam) where
-  abbrev d : Cell
-  d = apply_edits edits c
-
   abbrev left : List Rec
   left = filter_map left_by edits
+
+  abbrev d : Cell
+  d = apply_edits edits c
 
   pub held_after : (q : RecName) → holds name_order q (lookup_identity d l)
       ≡ ((is_unedited edits q && list_any (bears_as q l) (all_records c)) || list_any (bears_as q l) left)

@@ -22,11 +22,8 @@ use Rattle.edit_sets.specs.FormFault.{unfitness_of_edit}
 
 -- the level of national attributes stays
 level_kept_by : (h : CellHead) (edit : Option Edit) → (head_by h edit).nall ≡ h.nall
-level_kept_by h None = refl
-level_kept_by h (Some (Add r)) = refl
-level_kept_by h (Some (Set r)) = refl
-level_kept_by h (Some (Del n)) = refl
 level_kept_by h (Some (Head e)) = refl
+level_kept_by h edit = refl
 
 pub level_kept : (edits : List Edit) (h : CellHead) → (head_after edits h).nall ≡ h.nall
 level_kept edits h = level_kept_by h (edit_of head_name edits)
@@ -68,19 +65,8 @@ plain_together : (dsnm edtn updn uadt isdt sted psdn pred comt new_edtn new_updn
     → (dsnm && (edtn && (updn && (uadt && (isdt && (sted && (psdn && (pred && (comt && true))))))))) ≡ true
     → (new_edtn && (new_updn && (new_uadt && (new_isdt && (new_comt && true))))) ≡ true
     → (dsnm && (new_edtn && (new_updn && (new_uadt && (new_isdt && (sted && (psdn && (pred && (new_comt && true))))))))) ≡ true
-plain_together false edtn updn uadt isdt sted psdn pred comt a b c d e old new = absurd cc
-plain_together true false updn uadt isdt sted psdn pred comt a b c d e old new = absurd cc
-plain_together true true false uadt isdt sted psdn pred comt a b c d e old new = absurd cc
-plain_together true true true false isdt sted psdn pred comt a b c d e old new = absurd cc
-plain_together true true true true false sted psdn pred comt a b c d e old new = absurd cc
-plain_together true true true true true false psdn pred comt a b c d e old new = absurd cc
-plain_together true true true true true true false pred comt a b c d e old new = absurd cc
-plain_together true true true true true true true false comt a b c d e old new = absurd cc
-plain_together true true true true true true true true comt false b c d e old new = absurd cc
-plain_together true true true true true true true true comt true false c d e old new = absurd cc
-plain_together true true true true true true true true comt true true false d e old new = absurd cc
-plain_together true true true true true true true true comt true true true false e old new = absurd cc
 plain_together true true true true true true true true comt true true true true e old new = new
+plain_together dsnm edtn updn uadt isdt sted psdn pred comt a b c d e old new = absurd cc
 
 within_limit : (n : ℕ) → nat_lt length_limit n ≡ false → nat_le n length_limit ≡ true
 within_limit n h = le-leb n length_limit (ltb-false length_limit n h)

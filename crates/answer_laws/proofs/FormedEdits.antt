@@ -1,5 +1,6 @@
 -- What the edits of an edit set make of a readable cell.
-use Rattle.std.proofs.Common.{◌≡◌, inl, inr, ℕ, ◌==◌, ◌<◌, ◌&&◌, Bool, true, false, List, Option, None, Some, cond, length, map, refl, ap, ◌∙◌, subst, arith}
+use Rattle.std.proofs.Common.{◌≡◌, inl, inr, ℕ, ◌==◌, ◌<◌, ◌&&◌, Bool, true, false, List, Option, None, Some, cond, length, map}
+use Rattle.std.proofs.Common.{refl, sym, ap, ◌∙◌, subst, arith}
 use Rattle.std.specs.Prelude.{filter_map, not}
 use Rattle.std.specs.List.{IsDistinct, list_all}
 use Rattle.std.proofs.lemmas.List.{get_or-map, length-map}
@@ -11,7 +12,7 @@ use Rattle.s57_types.specs.Heads.{head_name}
 use Rattle.s57_types.specs.declared.fault.Unfit.{Unfit}
 use Rattle.s57_types.specs.declared.fault.Unfit.TheVariants.{BadName}
 use Rattle.s57_types.specs.declared.name.Kind.{Kind}
-use Rattle.s57_types.specs.declared.name.Kind.TheVariants.{Vi, Vc, Ve, Fe, Head as HeadKind}
+use Rattle.s57_types.specs.declared.name.Kind.TheVariants.{Head as HeadKind}
 use Rattle.s57_types.specs.declared.name.RecName.{RecName}
 use Rattle.s57_types.specs.declared.record.Rec.{Rec}
 use Rattle.s57_types.specs.declared.record.Rec.TheVariants.{V, F, H}
@@ -39,35 +40,25 @@ good_names : (nall : ℕ) (r : Rec) → unfitness nall r ≡ None → has_good_n
 unfolding unfitness
 good_names nall r fit = good_by (has_good_names r) _ fit
 
-vector_listed : (k : Kind) (rest : Bool) → (is_vector_kind k && rest) ≡ true → not (kind_rank k == 4) ≡ true
-vector_listed Vi rest e = refl
-vector_listed Vc rest e = refl
-vector_listed Ve rest e = refl
-vector_listed Fe rest e = refl
-vector_listed HeadKind rest e = cc
-
-feature_listed : (k : Kind) (rest : Bool) → (is_feature_kind k && rest) ≡ true → not (kind_rank k == 4) ≡ true
-feature_listed Vi rest e = refl
-feature_listed Vc rest e = refl
-feature_listed Ve rest e = refl
-feature_listed Fe rest e = refl
-feature_listed HeadKind rest e = cc
+listed_by : (is : Kind → Bool) (k : Kind) (rest : Bool) → is HeadKind ≡ false → (is k && rest) ≡ true → not (kind_rank k == 4) ≡ true
+listed_by is HeadKind rest none e = let failed = sym (ap (λ b. b && rest) none) ∙ e in cc
+listed_by is k rest none e = refl
 
 good_is_listed : (r : Rec) → has_good_names r ≡ true → has_a_list r ≡ true
-good_is_listed (V v) good = vector_listed v.name.kind _ good
-good_is_listed (F f) good = feature_listed f.name.kind _ good
+good_is_listed (V v) good = listed_by is_vector_kind v.name.kind _ refl good
+good_is_listed (F f) good = listed_by is_feature_kind f.name.kind _ refl good
 good_is_listed (H h) good = cc
 
 fit_is_listed : (nall : ℕ) (r : Rec) → unfitness nall r ≡ None → has_a_list r ≡ true
 fit_is_listed nall r fit = good_is_listed r (good_names nall r fit)
 
 -- ---- edits of an edit set
-different_names : (nall : ℕ) (edits : List Edit) (guards : List RecName) → IsFormed nall edits guards → IsDistinct same_name (map name_of_edit edits)
-different_names nall edits guards form =
-    IsDistinct-from_apart same_name (map name_of_edit edits) (λ i j d before within.
+pub different_names : (nall : ℕ) (edits : List Edit) (guards : List RecName) → IsFormed nall edits guards
+    → IsDistinct same_name (map name_of_edit edits)
+different_names nall edits guards form = IsDistinct-from_apart same_name (map name_of_edit edits) (λ i j d before within.
     let there : j < length edits = omega (arith, length-map edits name_of_edit, within) in
-    (λ k. same_name (get_or-map name_of_edit edits i (Del d) d (omega (arith, there, before)) k) (get_or-map name_of_edit edits j (Del d) d there k))
-    ∙ form.distinct i j (Del d) before there)
+    let named = get_or-map name_of_edit edits i (Del d) d (omega (arith, there, before)) in
+    (λ k. same_name (named k) (get_or-map name_of_edit edits j (Del d) d there k)) ∙ form.distinct i j (Del d) before there)
 
 module _ (c : Cell) (edits : List Edit) (guards : List RecName) (readable : IsReadable c) (form : IsFormed c.head.nall edits guards) where
   abbrev fits : Rec → Type 0

@@ -84,9 +84,8 @@ module _ (edits : List Edit) (c : Cell) (fit : FindTheirRecords edits c) (n : Re
   free e at = false_from_ne_true (same_name (name_of_edit e) n) (unnamed e at)
 
   old_kept : (r : Rec) → same_name n (name_of r) ≡ true → edited_answer edits r ≡ Some r
-  old_kept (V v) named = record_stays edits n free (V v) named
-  old_kept (F f) named = record_stays edits n free (F f) named
   old_kept (H h) named = ap (λ e. Some (H (head_by h e))) (ap (λ m. edit_of m edits) (sym (one_when_same n head_name named)) ∙ no_edit edits n free)
+  old_kept r named = record_stays edits n free r named
 
   name_by : (o : Option Rec) → lookup_record c n ≡ o → record_after edits n o ≡ o
   name_by None is = nothing_added edits n free

@@ -34,9 +34,11 @@ module _ {D : Type 0} (content : D → Option (List ℕ)) (images : D → List �
     part_written time = more old wrote none_yet time wrote_leaves
 
     module _ (kept : D) (no_more : NoMore (images wrote) (images kept)) where
-      pub part_kept : AreMoments wrote → Elapses (moment wrote) (moment kept) (left_since wrote) (left_since kept) (images kept) → AreMoments kept
-      part_kept so_far time =
-          more wrote kept so_far time (if_some _ _ (content old) wrote_leaves (λ file told leaves image now. leaves image (no_more image now)))
+      pub part_kept : Elapses (moment old) (moment wrote) (left_since old) (left_since wrote) (images wrote)
+          → Elapses (moment wrote) (moment kept) (left_since wrote) (left_since kept) (images kept) → AreMoments kept
+      part_kept first second =
+          more wrote kept (part_written first) second
+          (if_some _ _ (content old) wrote_leaves (λ file told leaves image now. leaves image (no_more image now)))
 
       module _ (written : Told (Holds (end + 1) part) (content old) (content wrote)) (told_still : IsSome (content wrote) ↔ IsSome (content old))
           (same : content kept ≡ content wrote) where
@@ -71,16 +73,22 @@ module _ {D : Type 0} (content : D → Option (List ℕ)) (images : D → List �
               let there = told_at _ (content old) (content wrote) file told told_still.1 written in
               mark_crash file end part is.0 there.0 (images kept) (images marked) there.2 (some_at _ (content wrote) there.0 there.1 durable) mark)
 
-          pub mark_written : AreMoments kept → Elapses (moment kept) (moment marked) (left_since kept) (left_since marked) (images marked) → AreMoments marked
-          mark_written so_far time = more kept marked so_far time marked_leaves
+          pub mark_written : Elapses (moment old) (moment wrote) (left_since old) (left_since wrote) (images wrote)
+              → Elapses (moment wrote) (moment kept) (left_since wrote) (left_since kept) (images kept)
+              → Elapses (moment kept) (moment marked) (left_since kept) (left_since marked) (images marked) → AreMoments marked
+          mark_written first second third = more kept marked (part_kept first second) third marked_leaves
 
-          pub mark_kept : (new : D) → AreMoments marked → NoMore (images marked) (images new)
-              → Elapses (moment marked) (moment new) (left_since marked) (left_since new) (images new) → AreMoments new
-          mark_kept new so_far none time =
-              more marked new so_far time (if_some _ _ (content old) marked_leaves (λ file told leaves image now. leaves image (none image now)))
+          pub mark_kept : Elapses (moment old) (moment wrote) (left_since old) (left_since wrote) (images wrote)
+              → Elapses (moment wrote) (moment kept) (left_since wrote) (left_since kept) (images kept)
+              → Elapses (moment kept) (moment marked) (left_since kept) (left_since marked) (images marked) → (new : D)
+              → NoMore (images marked) (images new) → Elapses (moment marked) (moment new) (left_since marked) (left_since new) (images new)
+              → AreMoments new
+          mark_kept first second third new none last =
+              more marked new (mark_written first second third) last
+              (if_some _ _ (content old) marked_leaves (λ file told leaves image now. leaves image (none image now)))
 
           -- and then the file has the entry
-          pub marked_bytes : Told (Holds end (1 ∷ [])) (content kept) (content marked) → (IsSome (content kept) → IsSome (content marked))
+          marked_bytes : Told (Holds end (1 ∷ [])) (content kept) (content marked) → (IsSome (content kept) → IsSome (content marked))
               → (file : List ℕ) → content old ≡ Some file → content marked ≡ Some (with_entry file end part)
           marked_bytes held on file told =
               let within = (some_at _ (content old) file told standing).0 in
@@ -88,12 +96,12 @@ module _ {D : Type 0} (content : D → Option (List ℕ)) (images : D → List �
               there.1 ∙ ap Some (marked_is file end part within (overlaid (end + 1) part file) there.0 refl there.2)
 
           -- once it is kept, the file has the entry, and a crash leaves nothing else
-          pub marked_told : (marked_bytes_are : (file : List ℕ) → content old ≡ Some file → content marked ≡ Some (with_entry file end part)) (new : D)
+          pub marked_told : Told (Holds end (1 ∷ [])) (content kept) (content marked) → (IsSome (content kept) → IsSome (content marked)) → (new : D)
               → content new ≡ content marked → IfSome (content old) (λ (file : List ℕ). content new ≡ Some (with_entry file end part))
-          marked_told are new same_bytes = if_some _ _ (content old) standing (λ file told is. same_bytes ∙ are file told)
+          marked_told held on new same_bytes = if_some _ _ (content old) standing (λ file told is. same_bytes ∙ marked_bytes held on file told)
 
-          pub marked_only : (marked_bytes_are : (file : List ℕ) → content old ≡ Some file → content marked ≡ Some (with_entry file end part)) (new : D)
+          pub marked_only : Told (Holds end (1 ∷ [])) (content kept) (content marked) → (IsSome (content kept) → IsSome (content marked)) → (new : D)
               → IfSome (content marked) (λ (bytes : List ℕ). Only bytes (images new))
               → IfSome (content old) (λ (file : List ℕ). Only (with_entry file end part) (images new))
-          marked_only are new only = if_some _ _ (content old) standing (λ file told is.
-              some_at _ (content marked) (with_entry file end part) (are file told) only)
+          marked_only held on new only = if_some _ _ (content old) standing (λ file told is.
+              some_at _ (content marked) (with_entry file end part) (marked_bytes held on file told) only)

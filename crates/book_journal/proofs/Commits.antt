@@ -3,7 +3,7 @@ use Rattle.std.proofs.Common.{◌≡◌, ℕ, ◌+◌, ◌<◌, ◌≤◌, ◌^�
 use Rattle.std.proofs.Common.{Err, refl, sym, ap, subst, ◌∙◌, arith, length-append}
 use Rattle.std.proofs.lemmas.Bool.{false≢true}
 use Rattle.s57_types.specs.declared.cell.Cell.{Cell}
-use Rattle.edit_sets.specs.FormFault.{form_fault}
+use Rattle.edit_sets.specs.FormFault.{GuardedEdits, form_fault}
 use Rattle.edit_sets.specs.declared.fault.FormFault.{FormFault}
 use Rattle.cell_bench.specs.Benches.{PreparedCommit}
 use Rattle.history_spec.specs.declared.entry.Asked.{Asked}
@@ -129,6 +129,16 @@ asked_accepted old new desk prepared reply entered is desk_fits level lines form
       none = subst (λ (d : Cell). state_refusal d prepared.edits.edits ≡ None) cell
           (none_against (history_of old) prepared.base prepared.edits.edits prepared.edits.guards (subst IsAcceptance entered.reply_is is));
     })
+
+-- the same where a set with these edits and guards was seen to have no fault of form
+pub set_accepted : (old new : BookState) (desk : ℕ) (prepared : PreparedCommit) (reply : Reply)
+    → IsEntered old desk (Commit prepared.base prepared.edits) new reply → IsAcceptance reply → desk < 2 ^ 32
+    → prepared.edits.nall ≡ old.opening.head.nall → HaveLines prepared.edits.edits → (seen : GuardedEdits) → seen ≡ prepared.edits
+    → form_fault seen.nall seen.edits seen.guards ≡ None → length (text_asked prepared) ≤ text_limit
+    → IsAcceptedBehind old.opening (history_of old).commits (commit_asked desk prepared)
+set_accepted old new desk prepared reply entered is desk_fits level lines seen same form short =
+    asked_accepted old new desk prepared reply entered is desk_fits level lines
+    (subst (λ (set : GuardedEdits). form_fault set.nall set.edits set.guards ≡ None) same form) short
 
 -- the journal once the entry is kept
 pub still_more : {D : Type 0} (content : D → Option (List ℕ)) (images : D → List ℕ → Type 0) (old new : Journal D) → IsStill content images old → old.broken

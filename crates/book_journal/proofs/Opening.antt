@@ -44,7 +44,7 @@ module _ {D : Type 0} (content : D → Option (List ℕ)) (images : D → List �
       always (Some file) = leaves
 
   -- and while an empty list is made of it
-  pub begun_as_before : (mid new : D) → IfSome (content old) (λ (file : List ℕ). images old file) → IfSome (content old) (λ (file : List ℕ). length file ≤ 1)
+  begun_as_before : (mid new : D) → IfSome (content old) (λ (file : List ℕ). images old file) → IfSome (content old) (λ (file : List ℕ). length file ≤ 1)
       → LeavesOnly moment left_since old mid (images old)
       → IfSome (content old) (λ (file : List ℕ). LeavesOnly moment left_since mid new (λ (image : List ℕ). length image ≤ 1))
       → IfSome (content old) (λ (file : List ℕ). LeavesOnly moment left_since old new (IsAsBefore c (images old)))
@@ -54,6 +54,14 @@ module _ {D : Type 0} (content : D → Option (List ℕ)) (images : D → List �
       (some_at _ (content old) file told (read_as_before mid first))
       (weakened moment left_since mid new (λ (image : List ℕ). length image ≤ 1) (IsAsBefore c (images old)) (some_at _ (content old) file told second)
       (λ image short_image. record { earlier = file; left = earlier; alike = short_alike c image file short_image is })))
+
+  pub begun_after : (mid new : D) → IfSome (content old) (λ (file : List ℕ). images old file) → IfSome (content old) (λ (file : List ℕ). length file ≤ 1)
+      → LeavesOnly moment left_since old mid (images old) → content mid ≡ content old
+      → IfSome (content mid) (λ (file : List ℕ). LeavesOnly moment left_since mid new (λ (image : List ℕ). length image ≤ 1))
+      → IfSome (content old) (λ (file : List ℕ). LeavesOnly moment left_since old new (IsAsBefore c (images old)))
+  begun_after mid new stays short first same second =
+      begun_as_before mid new stays short first (subst (λ (o : Option (List ℕ)). IfSome o (λ (file : List ℕ). LeavesOnly moment left_since mid new
+      (λ (image : List ℕ). length image ≤ 1))) same second)
 
 -- the list that is made of a file of at most one byte
 pub begun_standing : (c : Cell) (file : List ℕ) (book : BookState) (place : ℕ) (images : List ℕ → Type 0) → length file ≤ 1 → IsReplayed c file book place

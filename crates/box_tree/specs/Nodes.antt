@@ -9,9 +9,10 @@ use Rattle.box_tree.specs.declared.node.Node.TheVariants.{Few, Halves'}
 -- behind a pointer, p and q
 abbrev pub leaves_of : Node → List Leaf
 leaves_of (Few leaves) = leaves.items
-leaves_of (Halves' holder p front q back) = leaves_of front ++ leaves_of back
+leaves_of (Halves' front_box p front back_box q back) = leaves_of front ++ leaves_of back
 
--- each box of two halves holds the boxes of all their leaves
+-- the box of each half holds the boxes of all its leaves
 abbrev pub AreHeld : Node → Type 0
 AreHeld (Few leaves) = Unit {0}
-AreHeld (Halves' holder p front q back) = Holds holder (leaves_of front ++ leaves_of back) × AreHeld front × AreHeld back
+AreHeld (Halves' front_box p front back_box q back) =
+    Holds front_box (leaves_of front) × AreHeld front × Holds back_box (leaves_of back) × AreHeld back

@@ -13,11 +13,11 @@ use std::alloc::{AllocError, Global};
 /// How many leaves are looked at one by one.
 const FEW: usize = 8;
 
-/// Leaves in their order: a few, or two halves with the box around both.
+/// Leaves in their order: a few, or two halves, each behind the box around it, so that a half whose box doesn't meet isn't gone into.
 #[derive(Drop)]
 pub(crate) enum Node {
     Few(Vec<Leaf>),
-    Halves(Box4, Box<Node>, Box<Node>),
+    Halves(Box4, Box<Node>, Box4, Box<Node>),
 }
 
 impl Node {
@@ -29,11 +29,12 @@ impl Node {
         if leaves.len() <= FEW {
             return Ok(Node::Few(leaves.to_vec(alloc)?));
         }
-        let around = box_with(leaves[0].around, leaves);
         let (front, back) = leaves.split_at(leaves.len() / 2);
+        let front_box = box_with(front[0].around, front);
+        let back_box = box_with(back[0].around, back);
         let front = Box::new(alloc, Node::of_leaves(alloc, front)?)?;
         let back = Box::new(alloc, Node::of_leaves(alloc, back)?)?;
-        Ok(Node::Halves(around, front, back))
+        Ok(Node::Halves(front_box, front, back_box, back))
     }
 
     /// Appends the names of those leaves whose boxes meet a box.
@@ -47,12 +48,14 @@ impl Node {
     {
         match self {
             Node::Few(leaves) => push_names(out, around, leaves),
-            Node::Halves(holder, front, back) => {
-                if are_disjoint(around, *holder) {
-                    return Ok(());
+            Node::Halves(front_box, front, back_box, back) => {
+                if !are_disjoint(around, *front_box) {
+                    front.push_meeting(out, around)?;
                 }
-                front.push_meeting(out, around)?;
-                back.push_meeting(out, around)
+                if !are_disjoint(around, *back_box) {
+                    back.push_meeting(out, around)?;
+                }
+                Ok(())
             }
         }
     }

@@ -1,5 +1,5 @@
 -- How many findings are fresh, and how many look-ups judging anew makes.
-use Rattle.std.proofs.Common.{◌≡◌, ℕ, ◌+◌, ◌*◌, ◌≤◌, Bool, true, false, List, [], ◌∷◌, cond, filter, length, refl, sym, ap, ◌∙◌, subst, arith}
+use Rattle.std.proofs.Common.{◌≡◌, None, ℕ, ◌+◌, ◌*◌, ◌≤◌, Bool, true, false, List, [], ◌∷◌, cond, filter, length, refl, sym, ap, ◌∙◌, subst, arith}
 use Rattle.std.specs.Prelude.{nat_lt, not, sum_by}
 use Rattle.std.proofs.lemmas.Bool.Decides.{nat_tests}
 use Rattle.std.proofs.lemmas.List.Filters.{sum_by-filter_both}
@@ -18,8 +18,13 @@ use Rattle.rule_spec.specs.Findings.{all_findings, finding_total, findings_among
 use Rattle.rule_spec.specs.Reads.{read_set}
 use Rattle.answer_laws.specs.EditedAnswers.{FindTheirRecords}
 use Rattle.finding_laws.specs.Unaffected.{AffectedListIsSet}
+use Rattle.edit_laws.specs.KeptWritable.{RefusalsAreExact}
+use Rattle.cell_bench.specs.declared.refusal.PlanRefusal.{PlanRefusal}
+use Rattle.cell_bench.specs.Limits.{IsFull}
 use Rattle.cell_bench.specs.Rejudging.{Rejudging, fresh_in, judged_in, planning_look_ups, reads_anew, with_row_of, without, without_all}
 use Rattle.cell_bench.specs.Verdicts.{total_of}
+use Rattle.cell_bench.specs.Refusals.{records_refusal}
+use Rattle.cell_bench.proofs.Refused.{full_of_more, taken_so}
 
 -- ---- fresh findings
 pub fresh_left : (gone : List Subject) (r : Rejudging) → (without_all r gone).fresh ≡ r.fresh
@@ -74,6 +79,13 @@ fresh_within edits c fit set =
     let parts : fresh_in d (filter affected (subjects d)) + fresh_in d (filter (λ s. not (affected s)) (subjects d)) ≡ fresh_in d (subjects d) =
     sum_by-filter_both affected (λ s. not (affected s)) (λ s. refl) (count_in d) (subjects d) in
     omega (arith, moved, parts, total_is d)
+
+-- too many fresh ones in the cell that a bench is kept as are too many findings in the cell that it is seen as
+pub full_when_fresh : (edits : List Edit) (c d : Cell) → d ≡ c → FindTheirRecords edits d → AffectedListIsSet → (why : PlanRefusal)
+    → IsFull (fresh_in (apply_edits edits d) (affected_list (change_by edits d))) why → IsFull (finding_total (apply_edits edits c)) why
+full_when_fresh edits c d is fit set why full = subst (λ (e : Cell). IsFull (finding_total (apply_edits edits e)) why) is
+    (full_of_more (fresh_in (apply_edits edits d) (affected_list (change_by edits d))) (finding_total (apply_edits edits d)) why
+    (fresh_within edits d fit set) full)
 
 -- ---- look-ups
 module _ (c d : Cell) (stale : List Key) (rows : List Row) where
@@ -132,16 +144,11 @@ least_budget edits c stale rows =
 -- one look-up more an edit is within the budget of edits that the cell takes
 pub whole_budget : (edits : List Edit) (c : Cell) (stale : List Key) (rows : List Row) → is_applicable edits c ≡ true
     → planning_look_ups edits c stale rows + length edits ≤ plan_budget edits c stale rows
-whole_budget edits c stale rows taken =
-    let is = budget_by edits c stale rows true taken in
-    let reads = reads_within edits c stale rows in
-    omega (arith, is, reads)
+whole_budget edits c stale rows taken = omega (arith, budget_by edits c stale rows true taken, reads_within edits c stale rows)
 
--- equal cells have equally many touched keys, and as much to be read anew
-pub same_touched : (edits : List Edit) {c d : Cell} → c ≡ d → length (touched_keys edits c) ≡ length (touched_keys edits d)
-same_touched edits same = ap (λ (e : Cell). length (touched_keys edits e)) same
-
-pub same_reads : (edits : List Edit) (stale : List Key) (rows : List Row) {c d : Cell} → c ≡ d
-    → sum_by (reads_anew (apply_edits edits c) stale rows) (affected_list (change_by edits c))
-    ≡ sum_by (reads_anew (apply_edits edits d) stale rows) (affected_list (change_by edits d))
-same_reads edits stale rows same = ap (λ (e : Cell). sum_by (reads_anew (apply_edits edits e) stale rows) (affected_list (change_by edits e))) same
+-- so it is of the cell that a bench is kept as, where none of the records and the head refuses the edits
+pub plan_within : RefusalsAreExact → (edits : List Edit) (stale : List Key) (rows : List Row) {c d e : Cell} → d ≡ c → records_refusal d edits ≡ None → e ≡ c
+    → planning_look_ups edits e stale rows + length edits ≤ plan_budget edits c stale rows
+plan_within exact edits stale rows {c} {d} {e} same none is =
+    subst (λ (b : Cell). planning_look_ups edits b stale rows + length edits ≤ plan_budget edits c stale rows) (sym is)
+    (whole_budget edits c stale rows (taken_so exact c edits (subst (λ (b : Cell). records_refusal b edits ≡ None) same none)))

@@ -1,5 +1,6 @@
 -- Subjects that are judged anew, one after the other, and the others as they were: in the end these are the tables of the edited cell.
-use Rattle.std.proofs.Common.{◌≡◌, ◌&&◌, ◌||◌, Bool, true, false, List, [], ◌∷◌, ◌++◌, Option, None, Some, cond, filter, length, refl, sym, ap, ◌∙◌, subst}
+use Rattle.std.proofs.Common.{append-nil, ◌≡◌, ◌&&◌, ◌||◌, Bool, true, false, List, [], ◌∷◌, ◌++◌, Option, None, Some, cond, filter, length, refl}
+use Rattle.std.proofs.Common.{sym, ap, ◌∙◌, subst}
 use Rattle.std.proofs.Common.{append_assoc}
 use Rattle.std.specs.Prelude.{All, IsTrue, nat_lt, not}
 use Rattle.std.specs.Cmp.{Equal-is}
@@ -32,7 +33,8 @@ use Rattle.finding_laws.proofs.Moved.{each_tested}
 use Rattle.depend_map.specs.declared.change.ReadChange.{ReadChange}
 use Rattle.depend_map.specs.Changes.{ChangesSetTheirSubjects, after_changes, is_change_of, reads_after}
 use Rattle.affected_subjects.specs.Reached.{gone_list}
-use Rattle.cell_bench.specs.Rejudging.{IsRejudged, IsRejudgedBy, Rejudging, change_of, is_done, judged_in, unchanged, with_change, with_row_of, without, without_all}
+use Rattle.cell_bench.specs.Rejudging.{IsRejudged, IsRejudgedBy, Rejudging, change_of, is_done, judged_in, unchanged, with_change, with_row_of, without}
+use Rattle.cell_bench.specs.Rejudging.{without_all}
 
 -- ---- tests
 pub turned : (s t : Subject) → same_subject s t ≡ same_subject t s
@@ -126,22 +128,14 @@ judged_as d r t some = λ i. with_change r t (findings_of_subject d t) (cond (so
 -- ---- one after the other
 all_gone : (c d : Cell) (done gone : List Subject) (r : Rejudging) → AllByRecursion (λ s. is_subject d s ≡ false) gone → IsRejudged c d done r
     → IsRejudged c d (done ++ gone) (without_all r gone)
-all_gone c d done [] r none is = subst (λ all. IsRejudged c d all r) (sym (append_nil done)) is
-  where
-    append_nil : (xs : List Subject) → xs ++ [] ≡ xs
-    append_nil [] = refl
-    append_nil (x ∷ xs) = ap (λ rest. x ∷ rest) (append_nil xs)
+all_gone c d done [] r none is = subst (λ all. IsRejudged c d all r) (sym (append-nil done)) is
 all_gone c d done (t ∷ gone) r none is =
     subst (λ all. IsRejudged c d all (without_all (without r t) gone)) (append_assoc done (t ∷ []) gone)
     (all_gone c d (done ++ t ∷ []) gone (without r t) none.1 (subst (IsRejudged c d (done ++ t ∷ [])) (gone_as d r t none.0) (step c d done r t is)))
 
 all_judged : (c d : Cell) (done judged : List Subject) (r : Rejudging) → AllByRecursion (λ s. is_subject d s ≡ true) judged → IsRejudged c d done r
     → IsRejudged c d (done ++ judged) (judged_in d r judged)
-all_judged c d done [] r some is = subst (λ all. IsRejudged c d all r) (sym (append_nil done)) is
-  where
-    append_nil : (xs : List Subject) → xs ++ [] ≡ xs
-    append_nil [] = refl
-    append_nil (x ∷ xs) = ap (λ rest. x ∷ rest) (append_nil xs)
+all_judged c d done [] r some is = subst (λ all. IsRejudged c d all r) (sym (append-nil done)) is
 all_judged c d done (t ∷ judged) r some is =
     subst (λ all. IsRejudged c d all (judged_in d (with_row_of r (exact_row d t)) judged)) (append_assoc done (t ∷ []) judged)
     (all_judged c d (done ++ t ∷ []) judged (with_row_of r (exact_row d t)) some.1

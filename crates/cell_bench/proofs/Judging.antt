@@ -38,6 +38,12 @@ pub record AreOf (edits : List Edit) (c : Cell) (rows : List (Subject × List Fi
   pub judged_is : judged ≡ affected_list (change_by edits c)
   pub after_is : after ≡ without_all start gone
 
+pub are_of : {edits : List Edit} {c : Cell} {rows : List (Subject × List Finding)} {over : Cell} {start after : Rejudging} {gone judged : List Subject}
+    → over ≡ apply_edits edits c → start ≡ unchanged rows → gone ≡ gone_list (change_by edits c) → judged ≡ affected_list (change_by edits c)
+    → after ≡ without_all start gone → AreOf edits c rows over start after gone judged
+are_of over_is start_is gone_is judged_is after_is =
+    record { over_is = over_is; start_is = start_is; gone_is = gone_is; judged_is = judged_is; after_is = after_is }
+
 module _ (edits : List Edit) (c : Cell) (rows : List (Subject × List Finding)) (over : Cell) (start after : Rejudging) (gone judged : List Subject)
     (are : AreOf edits c rows over start after gone judged) where
   pub ended : (end : Rejudging) → end ≡ judged_in over after judged

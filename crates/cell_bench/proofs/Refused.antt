@@ -135,9 +135,6 @@ taken_by exact c edits (Some why) is taken = absurd (both_ways (is_applicable ed
 pub unrefused_when_taken : RefusalsAreExact → (c : Cell) (edits : List Edit) → is_applicable edits c ≡ true → records_refusal c edits ≡ None
 unrefused_when_taken exact c edits taken = taken_by exact c edits (records_refusal c edits) refl taken
 
-pub found_when_taken : (c : Cell) (edits : List Edit) → is_applicable edits c ≡ true → find_their_records edits c ≡ true
-found_when_taken c edits taken = (and_parts (find_their_records edits c) _ taken).0
-
 -- ---- the first of the edits
 free_by : (there : Bool) (why : StateRefusal) → (if there then Some why else None) ≡ None → not there ≡ true
 free_by true why e = cc
@@ -148,10 +145,10 @@ there_by true why e = refl
 there_by false why e = cc
 
 unrefused : (c : Cell) (edit : Edit) → edit_refusal c edit ≡ None → has_its_record c edit ≡ true
+unrefused c (Head e) none = refl
 unrefused c (Add r) none = free_by (is_some (listed_record c (name_of r))) (AddExists (name_of r)) none
 unrefused c (Set r) none = there_by (is_some (listed_record c (name_of r))) (SetMissing (name_of r)) none
 unrefused c (Del n) none = there_by (is_some (listed_record c n)) (DelMissing n) none
-unrefused c (Head e) none = refl
 
 first_none : (why : Option StateRefusal) (rest : List StateRefusal) → first_of (cons_option why rest) ≡ None → (why ≡ None) × (first_of rest ≡ None)
 first_none None rest e = (refl, e)
@@ -213,3 +210,10 @@ full_of_more few more NoMemory within is = tt
 pub finds : WritableCellsAreReadable → FormedEditsFindTheirRecords → (c : Cell) (edits : List Edit) (guards : List RecName) (nall : ℕ) → IsWritable c
     → IsFormed nall edits guards → nall ≡ c.head.nall → find_their_records edits c ≡ true → FindTheirRecords edits c
 finds readable formed c edits guards nall w form level found = formed c edits guards (readable c w) (subst (λ n. IsFormed n edits guards) level form) found
+
+-- so do those that the cell takes, also in the cell that a bench is kept as
+pub finds_inside : WritableCellsAreReadable → FormedEditsFindTheirRecords → (c d : Cell) (edits : List Edit) (guards : List RecName) (nall : ℕ) → d ≡ c
+    → IsWritable d → IsFormed nall edits guards → nall ≡ c.head.nall → is_applicable edits c ≡ true → FindTheirRecords edits d
+finds_inside readable formed c d edits guards nall is writable form level taken =
+    finds readable formed d edits guards nall writable form (level ∙ sym (ap (λ (e : Cell). e.head.nall) is))
+    (and_parts (find_their_records edits d) _ (subst (λ (e : Cell). is_applicable edits e ≡ true) (sym is) taken)).0

@@ -31,17 +31,6 @@ pub(crate) struct IndexedCell {
     pub(crate) verdicts: Verdicts,
 }
 
-impl Drop for IndexedCell {
-    fn drop(self) {
-        let IndexedCell {
-            store: _,
-            tiles: _,
-            map: _,
-            verdicts: _,
-        } = self;
-    }
-}
-
 impl Model for IndexedCell {
     ghost use Rattle.s57_types.specs.declared.cell.Cell.{Cell as SpecCell};
     ghost use Rattle.cell_bench.specs.Benches.{IsBench};
@@ -51,6 +40,17 @@ impl Model for IndexedCell {
     ghost view = { λ b. b.store };
 
     ghost invariant = { λ b. IsBench b.store b.tiles b.map b.verdicts };
+}
+
+impl Drop for IndexedCell {
+    fn drop(self) {
+        let IndexedCell {
+            store: _,
+            tiles: _,
+            map: _,
+            verdicts: _,
+        } = self;
+    }
 }
 
 impl IndexedCell {
@@ -103,8 +103,8 @@ impl IndexedCell {
     pub(crate) fn reach<L: Ledger>(
         &self,
         alloc: Global,
-        edits: &EditSet,
         steps: &mut Steps<L>,
+        edits: &EditSet,
     ) -> Result<Reach, AllocError>
         requires level { edits.now.nall ≡ self.now.head.nall }
         requires found { find_their_records edits.now.edits self.now ≡ true }

@@ -17,6 +17,14 @@ pub struct Prepared {
     ahead: Option<BenchPlan>,
 }
 
+impl Model for Prepared {
+    ghost use Rattle.cell_bench.specs.Benches.{PreparedCommit};
+
+    ghost Value = { PreparedCommit };
+
+    ghost view = { λ p. record { base = p.base; edits = p.edits; rows = p.rows; ahead = p.ahead } };
+}
+
 impl Drop for Prepared {
     fn drop(self) {
         let Prepared {
@@ -28,14 +36,6 @@ impl Drop for Prepared {
     }
 }
 
-impl Model for Prepared {
-    ghost use Rattle.cell_bench.specs.Benches.{PreparedCommit};
-
-    ghost Value = { PreparedCommit };
-
-    ghost view = { λ p. record { base = p.base; edits = p.edits; rows = p.rows; ahead = p.ahead } };
-}
-
 impl Prepared {
     /// The commit of these edits on this base, with these rows. Nothing is built ahead.
     pub fn make(base: u32, edits: EditSet, rows: Rows) -> Prepared
@@ -44,12 +44,7 @@ impl Prepared {
         ensures rows { result.rows ≡ rows }
         ensures ahead { result.ahead ≡ None }
     {
-        Prepared {
-            base,
-            edits,
-            rows,
-            ahead: None,
-        }
+        Prepared::with_ahead(base, edits, rows, None)
     }
 
     /// The same, with the edited cell where it was built ahead.

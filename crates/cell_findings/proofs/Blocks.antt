@@ -61,26 +61,24 @@ no_pairs q h (x ∷ xs) =
     ∙ (λ i. none_mapped q (Pair x) (h x) xs i || no_pairs q h xs i)
 
 -- ---- what is in one of four blocks
+or_left : (a b : Bool) → a ≡ true → (a || b) ≡ true
+or_left a b e = ap (λ t. t || b) e
+
+or_right : (a b : Bool) → b ≡ true → (a || b) ≡ true
+or_right true b e = refl
+or_right false b e = e
+
 pub in_first : (a b c d : Bool) → a ≡ true → (((a || b) || c) || d) ≡ true
-in_first true b c d e = refl
-in_first false b c d e = cc
+in_first a b c d e = or_left ((a || b) || c) d (or_left (a || b) c (or_left a b e))
 
 pub in_second : (a b c d : Bool) → b ≡ true → (((a || b) || c) || d) ≡ true
-in_second true b c d e = refl
-in_second false true c d e = refl
-in_second false false c d e = cc
+in_second a b c d e = or_left ((a || b) || c) d (or_left (a || b) c (or_right a b e))
 
 pub in_third : (a b c d : Bool) → c ≡ true → (((a || b) || c) || d) ≡ true
-in_third true b c d e = refl
-in_third false true c d e = refl
-in_third false false true d e = refl
-in_third false false false d e = cc
+in_third a b c d e = or_left ((a || b) || c) d (or_right (a || b) c e)
 
 pub in_fourth : (a b c d : Bool) → d ≡ true → (((a || b) || c) || d) ≡ true
-in_fourth true b c d e = refl
-in_fourth false true c d e = refl
-in_fourth false false true d e = refl
-in_fourth false false false d e = e
+in_fourth a b c d e = or_right ((a || b) || c) d e
 
 module _ (q : Subject) (first second third fourth : List Subject) where
   abbrev tie : Subject → Bool

@@ -1,8 +1,10 @@
 -- Subjects cut into blocks, and put together again.
-use Rattle.std.proofs.Common.{◌≡◌, All, IsTrue, List, [], ◌∷◌, ◌++◌, append_assoc, arith, filter, length, map, refl, ap, subst, sym, ◌∙◌}
+use Rattle.std.proofs.Common.{◌≡◌, ℕ, All, IsTrue, List, [], ◌∷◌, ◌++◌, append_assoc, arith, drop, filter, length, map, take, true, refl, ap, subst, sym, ◌∙◌}
+use Rattle.std.specs.Prelude.{◌==◌}
 use Rattle.std.specs.List.{flat_map}
 use Rattle.std.specs.List.Sorted.{IsStrictlySortedBy}
-use Rattle.std.proofs.lemmas.List.{append-nil}
+use Rattle.std.proofs.lemmas.Bool.{eqb-true}
+use Rattle.std.proofs.lemmas.List.{append-nil, map-append, take-append-drop}
 use Rattle.std.proofs.lemmas.List.Concat.{flat_map-append}
 use Rattle.std.proofs.lemmas.List.Elements.{All-append}
 use Rattle.std.proofs.lemmas.List.Kept.{IsStrictlySortedBy-filter}
@@ -43,11 +45,22 @@ block_more tree f splits blocks block front back rest all cut is left =
     ∙ ap (λ ss. subjects_in tree blocks ++ ss) (sym (splits front back) ∙ ap f cut)
     ∙ left
 
+-- a block of the first items of a list, which is pushed, and the other items
+pub mapped_more : {X : Type 0} (tree : List Leaf) (f : X → Subject) (blocks pushed : List Block) (block : Block) (front back rest : List X) (k : ℕ)
+    (all : List Subject) → front ≡ take k rest → back ≡ drop k rest → pushed ≡ blocks ++ block ∷ [] → block_subjects tree block ≡ map f front
+    → subjects_in tree blocks ++ map f rest ≡ all → subjects_in tree pushed ++ map f back ≡ all
+mapped_more tree f blocks pushed block front back rest k all first others push is left =
+    ap (λ cut. subjects_in tree cut ++ map f back) push
+    ∙ block_more tree (map f) (λ xs ys. map-append f xs ys) blocks block front back rest all ((λ i. first i ++ others i) ∙ take-append-drop k rest) is left
+
 -- none are left
 pub block_last : {X : Type 0} (f : List X → List Subject) → f [] ≡ [] → (rest : List X) (done all : List Subject) → length rest ≡ 0
     → done ++ f rest ≡ all → done ≡ all
 block_last f none [] done all e left = sym (append-nil done) ∙ ap (λ ss. done ++ ss) (sym none) ∙ left
 block_last f none (x ∷ rest) done all e left = absurd (omega (arith, e))
+
+pub mapped_last : {X : Type 0} (f : X → Subject) (rest : List X) (done all : List Subject) → true ≡ (length rest == 0) → done ++ map f rest ≡ all → done ≡ all
+mapped_last f rest done all e left = block_last (map f) refl rest done all (eqb-true (length rest) 0 (sym e)) left
 
 -- blocks of one kind after those of another
 pub in_order : (s0 s1 s2 s3 s4 s5 others features sides pairs identities records : List Subject) → s0 ≡ [] → s1 ≡ s0 ++ others

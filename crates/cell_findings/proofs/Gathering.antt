@@ -2,6 +2,7 @@
 use Rattle.std.proofs.Common.{◌≡◌, ℕ, All, List, [], ◌∷◌, ◌++◌, length, map, append_assoc, length-append, ap, ◌∙◌, arith}
 use Rattle.std.specs.Prelude.{Err, IfOk, MatchResult, Ok, Result}
 use Rattle.std.proofs.lemmas.List.Elements.{All-cons, All-head, All-nil, All-tail}
+use Rattle.rayon.proofs.ListFacts.{All-parts}
 use Rattle.cell_findings.specs.declared.list.SubjectFinding.{SubjectFinding}
 use Rattle.cell_findings.specs.declared.refusal.FindingRefusal.{FindingRefusal}
 use Rattle.cell_findings.specs.declared.refusal.FindingRefusal.TheVariants.{TooMany, NoMemory}
@@ -23,12 +24,10 @@ over_more limit before row rest all TooMany left over =
 over_more limit before row rest all NoMemory left over = tt
 
 pub all_before : {X : Type 0} (P : X → Type 0) (xs ys : List X) → All P (xs ++ ys) → All P xs
-all_before P [] ys all = All-nil P
-all_before P (x ∷ xs) ys all = All-cons P x xs (All-head P x (xs ++ ys) all) (all_before P xs ys (All-tail P x (xs ++ ys) all))
+all_before P xs ys all = (All-parts P xs ys all).0
 
 pub all_behind : {X : Type 0} (P : X → Type 0) (xs ys : List X) → All P (xs ++ ys) → All P ys
-all_behind P [] ys all = all
-all_behind P (x ∷ xs) ys all = all_behind P xs ys (All-tail P x (xs ++ ys) all)
+all_behind P xs ys all = (All-parts P xs ys all).1
 
 pub all_of_map : {X Y : Type 0} (P : Y → Type 0) (f : X → Y) (xs : List X) → All P (map f xs) → All (λ x. P (f x)) xs
 all_of_map P f [] all = All-nil (λ x. P (f x))

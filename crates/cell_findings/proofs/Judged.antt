@@ -5,6 +5,7 @@ use Rattle.std.specs.Prelude.{◌==◌, option_and_then}
 use Rattle.std.specs.List.{list_any, flat_map}
 use Rattle.std.specs.List.Sorted.{IsStrictlySortedBy}
 use Rattle.std.specs.Ordering.{is_eq}
+use Rattle.std.proofs.lemmas.Bool.{and_parts}
 use Rattle.std.proofs.lemmas.List.Folds.{list_any-append}
 use Rattle.std.proofs.lemmas.List.Kept.{IsStrictlySortedBy-filter}
 use Rattle.s57_types.specs.Fitness.{is_feature_kind}
@@ -39,14 +40,6 @@ use Rattle.cell_findings.proofs.WritableLists.{AreWellNamed, all_well_named}
 or_false : (b : Bool) → (b || false) ≡ b
 or_false true = refl
 or_false false = refl
-
-and_left : (a b : Bool) → (a && b) ≡ true → a ≡ true
-and_left true b e = refl
-and_left false b e = e
-
-and_right : (a b : Bool) → (a && b) ≡ true → b ≡ true
-and_right true b e = e
-and_right false b e = cc
 
 and_no : (b : Bool) → false ≡ (b && false)
 and_no true = refl
@@ -86,19 +79,12 @@ some_if true x = refl
 some_if false x = refl
 
 -- ---- nodes and edges by name
-no_connected_node : (k : Kind) → is_feature_kind k ≡ true → (kind_rank k == 1) ≡ false
-no_connected_node Vi e = refl
-no_connected_node Vc e = cc
-no_connected_node Ve e = refl
-no_connected_node Fe e = refl
-no_connected_node Head e = refl
-
-no_edge : (k : Kind) → is_feature_kind k ≡ true → (kind_rank k == 2) ≡ false
-no_edge Vi e = refl
-no_edge Vc e = refl
-no_edge Ve e = cc
-no_edge Fe e = refl
-no_edge Head e = refl
+no_part : (k : Kind) → is_feature_kind k ≡ true → ((kind_rank k == 1) ≡ false) × ((kind_rank k == 2) ≡ false)
+no_part Vi e = absurd cc
+no_part Vc e = absurd cc
+no_part Ve e = absurd cc
+no_part Fe e = (refl, refl)
+no_part Head e = absurd cc
 
 -- a test on names that no name of a feature or of a head passes
 module _ (test : RecName → Bool) (no_feature : (m : RecName) → is_feature_kind m.kind ≡ true → test m ≡ false) (no_head : test head_name ≡ false) where
@@ -164,10 +150,10 @@ module _ (c : Cell) (w : IsWritable c) where
   has_name n = holds-ascending name_order exact_names n (record_names c) ∙ has_records n (all_records c)
 
   edge_found : (n : RecName) → is_some (edge_named c n) ≡ (is_edge_name n && is_there n)
-  edge_found n = vector_found is_edge_name (λ m. no_edge m.kind) refl c n (all_well_named c w)
+  edge_found n = vector_found is_edge_name (λ m e. (no_part m.kind e).1) refl c n (all_well_named c w)
 
   node_found : (n : RecName) → is_some (node_named c n) ≡ (is_of_kind Vc n && is_there n)
-  node_found n = vector_found (is_of_kind Vc) (λ m. no_connected_node m.kind) refl c n (all_well_named c w)
+  node_found n = vector_found (is_of_kind Vc) (λ m e. (no_part m.kind e).0) refl c n (all_well_named c w)
 
   part_found : (n : RecName) → is_chain_part c n ≡ (is_part_name n && is_there n)
   part_found n = (λ i. node_found n i || edge_found n i) ∙ either (is_of_kind Vc n) (is_there n) (is_edge_name n)
@@ -296,7 +282,7 @@ module _ (c : Cell) (w : IsWritable c) where
   in_possible s = in_four s (map Rec all_names) (map Side all_names) squares (map Ident borne)
 
   part_there : (n : RecName) → is_chain_part c n ≡ true → has n all_names ≡ true
-  part_there n e = has_records n (all_records c) ∙ and_right (is_part_name n) (is_there n) (sym (part_found n) ∙ e)
+  part_there n e = has_records n (all_records c) ∙ (and_parts (is_part_name n) (is_there n) (sym (part_found n) ∙ e)).1
 
   abbrev among : {X : Type 0} → Subject → (X → Subject) → List X → Bool
   among s f xs = holds subject_order s (map f xs)
@@ -311,14 +297,13 @@ module _ (c : Cell) (w : IsWritable c) where
       in_possible (Side n)
       ∙ in_second (among (Side n) Rec all_names) (among (Side n) Side all_names) (holds subject_order (Side n) squares)
       (among (Side n) Ident borne) (any-map (λ y. is_eq (subject_order (Side n) y)) Side all_names ∙ has_records n (all_records c)
-      ∙ and_right (is_edge_name n) (is_there n) (sym (edge_found n) ∙ e))
+      ∙ (and_parts (is_edge_name n) (is_there n) (sym (edge_found n) ∙ e)).1)
   possible (Pair a b) e =
-      let below_and_first = and_left (is_below a b && is_chain_part c a) (is_chain_part c b) e in
+      let both = and_parts (is_below a b && is_chain_part c a) (is_chain_part c b) e in
       in_possible (Pair a b)
       ∙ in_third (among (Pair a b) Rec all_names) (among (Pair a b) Side all_names) (holds subject_order (Pair a b) squares)
       (among (Pair a b) Ident borne) (held_squares a b all_names all_names
-      ∙ (λ i. part_there a (and_right (is_below a b) (is_chain_part c a) below_and_first) i && part_there b
-      (and_right (is_below a b && is_chain_part c a) (is_chain_part c b) e) i))
+      ∙ (λ i. part_there a (and_parts (is_below a b) (is_chain_part c a) both.0).1 i && part_there b both.1 i))
   possible (Ident l) e =
       in_possible (Ident l)
       ∙ in_fourth (among (Ident l) Rec all_names) (among (Ident l) Side all_names) (holds subject_order (Ident l) squares)

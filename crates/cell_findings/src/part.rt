@@ -11,7 +11,7 @@ ghost use Rattle.cell_findings.specs.Parts.{AreParts};
 
 use box_tree::{BoxTree, Leaf};
 use chain_topo::{ListLook, Look, Steps};
-use check_pairs::ChainPart;
+use check_pairs::{ChainPart, part_named};
 use check_words::is_edge_name;
 use geometry_spec::Point;
 use s57_types::{Kind, Rec, RecName};
@@ -121,21 +121,6 @@ pub(crate) fn parts_of<'a, L: Ledger>(
     Ok(placed)
 }
 
-/// The part at a place, if it has a name.
-fn named_at<'a, 'b>(
-    parts: &'b [ChainPart<'a>],
-    place: usize,
-    name: RecName,
-) -> Option<&'b ChainPart<'a>>
-    ensures named { IfSome result (λ part. part.now.name ≡ name) }
-    ensures held { (c : SpecCell) → All (IsPart c) parts.now → IfSome result (λ part. IsPart c part.now) }
-{
-    match parts.get(place) {
-        Some(part) if part.name() == name => Some(part),
-        _ => None,
-    }
-}
-
 /// The place of a name among ascending parts of one kind where no number is left out between them.
 fn likely_place(parts: &[ChainPart], name: RecName) -> usize {
     match parts.first() {
@@ -149,13 +134,9 @@ fn part_among<'a, 'b>(parts: &'b [ChainPart<'a>], name: RecName) -> Option<&'b C
     ensures named { IfSome result (λ part. part.now.name ≡ name) }
     ensures held { (c : SpecCell) → All (IsPart c) parts.now → IfSome result (λ part. IsPart c part.now) }
 {
-    match named_at(parts, likely_place(parts, name), name) {
-        Some(part) => Some(part),
-        None => named_at(
-            parts,
-            parts.partition_point(|part| part.name() < name),
-            name,
-        ),
+    match parts.get(likely_place(parts, name)) {
+        Some(part) if part.name() == name => Some(part),
+        _ => part_named(parts, name),
     }
 }
 

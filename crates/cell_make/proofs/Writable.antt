@@ -43,41 +43,26 @@ IsOf kind r = (name_of r).kind ≡ kind
 abbrev Fits : Rec → Type 0
 Fits r = unfitness 0 r ≡ None
 
-node_fits : (n row column : ℕ) → Fits (node_at n row column)
+-- the records of a place
+places_fit : (n row column : ℕ) → Fits (node_at n row column) × Fits (east_edge n row column) × Fits (north_edge n row column) × Fits (depth_area n row column)
 unfolding unfitness digits
-node_fits n row column = refl
-
-east_fits : (n row column : ℕ) → Fits (east_edge n row column)
-unfolding unfitness digits
-east_fits n row column = refl
-
-north_fits : (n row column : ℕ) → Fits (north_edge n row column)
-unfolding unfitness digits
-north_fits n row column = refl
-
-area_fits : (n row column : ℕ) → Fits (depth_area n row column)
-unfolding unfitness digits
-area_fits n row column = refl
+places_fit n row column = (refl, refl, refl, refl)
 
 -- the area of coverage at each size
 sizes_fit : list_all (λ n. is_none (unfitness 0 (coverage_area n))) (range_with_len 1 100) ≡ true
 unfolding unfitness digits
 sizes_fit = refl
 
-head_true : (p q : Bool) → (p && q) ≡ true → p ≡ true
-head_true true q e = refl
-head_true false q e = e
-
-rest_true : (p q : Bool) → (p && q) ≡ true → q ≡ true
-rest_true true q e = e
-rest_true false q e = absurd cc
+both_true : (p q : Bool) → (p && q) ≡ true → (p ≡ true) × (q ≡ true)
+both_true true q e = (refl, e)
+both_true false q e = absurd cc
 
 passes : (test : ℕ → Bool) (a m n : ℕ) → list_all test (range_with_len a m) ≡ true → a ≤ n → n < a + m → test n ≡ true
 passes test a zero n all low high = absurd (omega (arith, low, high))
 passes test a (suc m) n all low high =
     elim (eq-or-lt_of_le low) [
-      | inl e ↦ subst (λ k. test k ≡ true) e (head_true (test a) _ all)
-      | inr h ↦ passes test (a + 1) m n (rest_true (test a) _ all) (omega (arith, h)) (omega (arith, high))
+      | inl e ↦ subst (λ k. test k ≡ true) e (both_true (test a) _ all).0
+      | inr h ↦ passes test (a + 1) m n (both_true (test a) _ all).1 (omega (arith, h)) (omega (arith, high))
     ]
 
 none_there : (why : Option Unfit) → is_none why ≡ true → why ≡ None
@@ -90,9 +75,11 @@ coverage_fits n low high = none_there _ (passes (λ k. is_none (unfitness 0 (cov
 fit : (n : ℕ) → 1 ≤ n → n ≤ 100 → AreFit 0 (((generated_nodes n) ++ generated_edges n) ++ generated_areas n)
 fit n low high =
     All-append Fits _ _
-    (All-append Fits _ _ (all_places Fits (node_at n) (node_fits n) (n + 1) (n + 1))
-    (All-append Fits _ _ (all_places Fits (east_edge n) (east_fits n) (n + 1) n) (all_places Fits (north_edge n) (north_fits n) n (n + 1))))
-    (All-append Fits _ _ (all_places Fits (depth_area n) (area_fits n) n n) (All-cons Fits _ [] (coverage_fits n low high) (All-nil Fits)))
+    (All-append Fits _ _ (all_places Fits (node_at n) (λ row column. (places_fit n row column).0) (n + 1) (n + 1))
+    (All-append Fits _ _ (all_places Fits (east_edge n) (λ row column. (places_fit n row column).1) (n + 1) n)
+    (all_places Fits (north_edge n) (λ row column. (places_fit n row column).2) n (n + 1))))
+    (All-append Fits _ _ (all_places Fits (depth_area n) (λ row column. (places_fit n row column).3) n n)
+    (All-cons Fits _ [] (coverage_fits n low high) (All-nil Fits)))
 
 -- ---- names
 all_names : (n : ℕ) → map name_of (all_records (generated_cell n)) ≡ names_from Vc 1 ((n + 1) * (n + 1))

@@ -16,7 +16,7 @@ ghost use Rattle.cell_picture.specs.Shapes.{vector_figure};
 use crate::frame::{push_frame, push_head};
 use crate::shape::{Class, Figure, LIST_TOP, MARK_LIMIT, Mark, ROW_HEIGHT, Row};
 use crate::text::{push_figure, push_mark, push_row, push_spot};
-use cell_findings::{SubjectFinding, push_findings};
+use cell_findings::{SubjectFinding as Found, push_findings};
 use cell_spec::writable_cells_are_readable;
 use chain_topo::{ListLook, Steps};
 use check_words::{is_group1_area, number};
@@ -29,6 +29,9 @@ use s57_types::{Cell, Feature, Kind, Rec, Text, Vector};
 use std::alloc::{AllocError, Global};
 use std::sync::ledger::Ledger;
 use text_lines::{push_bytes, push_text};
+
+/// Nothing, or out of memory.
+type Drawn = Result<(), AllocError>;
 
 /// An isolated node with soundings, or without.
 fn isolated_class(vector: &Vector) -> Class
@@ -51,117 +54,8 @@ fn class_of(vector: &Vector) -> Class
     }
 }
 
-/// A vector record as it is drawn.
-fn figure_of<L: Ledger>(
-    alloc: Global,
-    look: &ListLook,
-    around: Box4,
-    vector: &Vector,
-    steps: &mut Steps<L>,
-) -> Result<Figure, AllocError>
-    ensures { IfOk result (λ figure. figure ≡ vector_figure look.now around vector.now) }
-{
-    Ok(Figure {
-        class: class_of(vector),
-        name: vector.name,
-        strokes: vector_strokes_of(alloc, look, around, vector, steps)?,
-    })
-}
-
-/// Appends a vector record as it is drawn.
-fn draw_vector<L: Ledger>(
-    alloc: Global,
-    out: &mut Vec<u8>,
-    look: &ListLook,
-    around: Box4,
-    vector: &Vector,
-    steps: &mut Steps<L>,
-) -> Result<(), AllocError>
-    ensures { OnOk result (out.new.items ≡ out.old.items ++ flat_map shape_text (record_shapes look.now around (V vector.now))) }
-{
-    let figure = figure_of(alloc, look, around, vector, steps)?;
-    push_figure(out, &figure)
-}
-
-/// Appends an area as it is drawn.
-fn draw_area<L: Ledger>(
-    alloc: Global,
-    out: &mut Vec<u8>,
-    look: &ListLook,
-    around: Box4,
-    class: Class,
-    feature: &Feature,
-    steps: &mut Steps<L>,
-) -> Result<(), AllocError>
-    ensures { OnOk result (out.new.items ≡ out.old.items ++ figure_text (area_figure look.now around class feature.now)) }
-{
-    let strokes = area_strokes_of(alloc, look, around, feature, steps)?;
-    let figure = Figure {
-        class,
-        name: feature.name,
-        strokes,
-    };
-    push_figure(out, &figure)
-}
-
-/// Appends a feature, if it is an area of Group 1 or of coverage.
-fn draw_feature<L: Ledger>(
-    alloc: Global,
-    out: &mut Vec<u8>,
-    look: &ListLook,
-    around: Box4,
-    feature: &Feature,
-    steps: &mut Steps<L>,
-) -> Result<(), AllocError>
-    ensures { OnOk result (out.new.items ≡ out.old.items ++ flat_map shape_text (feature_shapes look.now around feature.now)) }
-{
-    if is_group1_area(feature) {
-        return draw_area(alloc, out, look, around, Class::Group1, feature, steps);
-    }
-    if is_coverage_area(feature) {
-        return draw_area(alloc, out, look, around, Class::Coverage, feature, steps);
-    }
-    Ok(())
-}
-
-/// Appends a record, if it is drawn.
-fn draw_record<L: Ledger>(
-    alloc: Global,
-    out: &mut Vec<u8>,
-    look: &ListLook,
-    around: Box4,
-    rec: &Rec,
-    steps: &mut Steps<L>,
-) -> Result<(), AllocError>
-    ensures { OnOk result (out.new.items ≡ out.old.items ++ flat_map shape_text (record_shapes look.now around rec.now)) }
-{
-    match rec {
-        Rec::V(vector) => draw_vector(alloc, out, look, around, vector, steps),
-        Rec::F(feature) => draw_feature(alloc, out, look, around, feature, steps),
-        Rec::H(_) => Ok(()),
-    }
-}
-
-/// Appends records, one after the other.
-#[tactic(auto, using(crate::proofs::Marks::nested_more))]
-fn draw_records<L: Ledger>(
-    alloc: Global,
-    out: &mut Vec<u8>,
-    look: &ListLook,
-    around: Box4,
-    recs: &[Rec],
-    steps: &mut Steps<L>,
-) -> Result<(), AllocError>
-    ensures { OnOk result (out.new.items ≡ out.old.items ++ flat_map shape_text (flat_map (record_shapes look.now around) recs.now)) }
-{
-    for rec in recs {
-        draw_record(alloc, out, look, around, rec, steps)?;
-    }
-    Ok(())
-}
-
 /// The line of a finding in a report.
-fn line_of(alloc: Global, found: SubjectFinding) -> Result<Text, AllocError>
+fn line_of(alloc: Global, found: Found) -> Result<Text, AllocError>
     ensures { IfOk result (λ line. line ≡ spec_line_of found) }
 {
     let mut line = Vec::new(alloc);
@@ -174,11 +68,11 @@ fn push_mark_in(
     alloc: Global,
     out: &mut Vec<u8>,
     number: u32,
-    found: SubjectFinding,
+    found: Found,
     strokes: Strokes,
     anchor: PagePoint,
     field: u32,
-) -> Result<(), AllocError>
+) -> Drawn
     requires { field < 1080 }
     ensures { OnOk result (out.new.items ≡ out.old.items ++ mark_text (mark_in number (spec_line_of found) strokes anchor field)) }
 {
@@ -199,10 +93,10 @@ fn draw_mark_at(
     out: &mut Vec<u8>,
     taken: &mut Vec<u32>,
     number: u32,
-    found: SubjectFinding,
+    found: Found,
     strokes: Strokes,
     anchor: Option<PagePoint>,
-) -> Result<(), AllocError>
+) -> Drawn
     ensures text { OnOk result (out.new.items ≡ out.old.items ++ flat_map shape_text (mark_at number (spec_line_of found) strokes taken.old.items anchor)) }
     ensures taken { OnOk result (taken.new.items ≡ taken_with taken.old.items anchor) }
 {
@@ -214,53 +108,8 @@ fn draw_mark_at(
     push_mark_in(alloc, out, number, found, strokes, anchor, field)
 }
 
-/// Appends the mark of a finding, if it is anywhere, and takes a field for its number.
-fn draw_mark<L: Ledger>(
-    alloc: Global,
-    out: &mut Vec<u8>,
-    taken: &mut Vec<u32>,
-    look: &ListLook,
-    around: Box4,
-    number: u32,
-    found: SubjectFinding,
-    steps: &mut Steps<L>,
-) -> Result<(), AllocError>
-    ensures text { OnOk result (out.new.items ≡ out.old.items
-        ++ flat_map shape_text (mark_at number (spec_line_of found) (spec_place_of look.now around found) taken.old.items
-        (spec_anchor_of (spec_place_of look.now around found)))) }
-    ensures taken { OnOk result (taken.new.items ≡ taken_with taken.old.items (spec_anchor_of (spec_place_of look.now around found))) }
-{
-    let strokes = place_of(alloc, look, around, found.subject, found.finding, steps)?;
-    let anchor = anchor_of(strokes.as_slice());
-    draw_mark_at(alloc, out, taken, number, found, strokes, anchor)
-}
-
-/// Appends the marks of findings.
-fn draw_marks<L: Ledger>(
-    alloc: Global,
-    out: &mut Vec<u8>,
-    look: &ListLook,
-    around: Box4,
-    findings: &[SubjectFinding],
-    steps: &mut Steps<L>,
-) -> Result<(), AllocError>
-    ensures { OnOk result (out.new.items ≡ out.old.items ++ flat_map shape_text (marks_from look.now around [] 1 findings.now)) }
-{
-    let mut taken = Vec::new(alloc);
-    for (k, found) in findings.iter().enumerate() {
-        let serial = number(k + 1)?;
-        draw_mark(alloc, out, &mut taken, look, around, serial, *found, steps)?;
-    }
-    Ok(())
-}
-
 /// Appends a finding as a dot at a point.
-fn push_dot_at(
-    alloc: Global,
-    out: &mut Vec<u8>,
-    found: SubjectFinding,
-    point: PagePoint,
-) -> Result<(), AllocError>
+fn push_dot_at(alloc: Global, out: &mut Vec<u8>, found: Found, point: PagePoint) -> Drawn
     ensures { OnOk result (out.new.items ≡ out.old.items ++ spot_text (spec_line_of found) point) }
 {
     let line = line_of(alloc, found)?;
@@ -268,12 +117,7 @@ fn push_dot_at(
 }
 
 /// Appends a finding as a dot at a point, if it is anywhere.
-fn draw_spot_at(
-    alloc: Global,
-    out: &mut Vec<u8>,
-    found: SubjectFinding,
-    anchor: Option<PagePoint>,
-) -> Result<(), AllocError>
+fn draw_spot_at(alloc: Global, out: &mut Vec<u8>, found: Found, anchor: Option<PagePoint>) -> Drawn
     ensures { OnOk result (out.new.items ≡ out.old.items ++ flat_map shape_text (spot_at (spec_line_of found) anchor)) }
 {
     let Some(anchor) = anchor else {
@@ -282,75 +126,8 @@ fn draw_spot_at(
     push_dot_at(alloc, out, found, anchor)
 }
 
-/// Appends one of very many findings as a dot, if it is anywhere.
-fn draw_spot<L: Ledger>(
-    alloc: Global,
-    out: &mut Vec<u8>,
-    look: &ListLook,
-    around: Box4,
-    found: SubjectFinding,
-    held: &mut Option<Held>,
-    steps: &mut Steps<L>,
-) -> Result<(), AllocError>
-    requires { IsHeld look.now around held.old }
-    ensures text { OnOk result (out.new.items ≡ out.old.items ++ flat_map shape_text (spot_of look.now around found)) }
-    ensures held { IsHeld look.now around held.new }
-{
-    let at = mark_anchor(
-        alloc,
-        look,
-        around,
-        found.subject,
-        found.finding,
-        held,
-        steps,
-    )?;
-    draw_spot_at(alloc, out, found, at)
-}
-
-/// Appends very many findings as dots.
-#[tactic(auto, using(crate::proofs::Marks::nested_more))]
-fn draw_spots<L: Ledger>(
-    alloc: Global,
-    out: &mut Vec<u8>,
-    look: &ListLook,
-    around: Box4,
-    findings: &[SubjectFinding],
-    steps: &mut Steps<L>,
-) -> Result<(), AllocError>
-    ensures { OnOk result (out.new.items ≡ out.old.items ++ flat_map shape_text (flat_map (spot_of look.now around) findings.now)) }
-{
-    let mut held = None;
-    for found in findings {
-        draw_spot(alloc, out, look, around, *found, &mut held, steps)?;
-    }
-    Ok(())
-}
-
-/// Appends the findings where they are.
-fn draw_findings<L: Ledger>(
-    alloc: Global,
-    out: &mut Vec<u8>,
-    look: &ListLook,
-    around: Box4,
-    findings: &[SubjectFinding],
-    steps: &mut Steps<L>,
-) -> Result<(), AllocError>
-    ensures { OnOk result (out.new.items ≡ out.old.items ++ flat_map shape_text (finding_shapes look.now around findings.now)) }
-{
-    if findings.len() <= MARK_LIMIT as usize {
-        return draw_marks(alloc, out, look, around, findings, steps);
-    }
-    draw_spots(alloc, out, look, around, findings, steps)
-}
-
 /// Appends a row of the list.
-fn draw_row(
-    alloc: Global,
-    out: &mut Vec<u8>,
-    number: u32,
-    found: SubjectFinding,
-) -> Result<(), AllocError>
+fn draw_row(alloc: Global, out: &mut Vec<u8>, number: u32, found: Found) -> Drawn
     ensures { OnOk result (out.new.items ≡ out.old.items ++ row_text (row_of number found)) }
 {
     let line = line_of(alloc, found)?;
@@ -366,11 +143,7 @@ fn draw_row(
 }
 
 /// Appends the list.
-fn draw_rows(
-    alloc: Global,
-    out: &mut Vec<u8>,
-    findings: &[SubjectFinding],
-) -> Result<(), AllocError>
+fn draw_rows(alloc: Global, out: &mut Vec<u8>, findings: &[Found]) -> Drawn
     ensures { OnOk result (out.new.items ≡ out.old.items ++ flat_map shape_text (rows_from 1 findings.now)) }
 {
     for (k, found) in findings.iter().enumerate() {
@@ -380,39 +153,205 @@ fn draw_rows(
     Ok(())
 }
 
-/// Appends the records of a cell in the order in which they are drawn.
-fn draw_all_records<L: Ledger>(
+/// What is drawn: the part of a cell that lies in a box.
+#[derive(Drop)]
+struct Scene<'a, 'b> {
     alloc: Global,
-    out: &mut Vec<u8>,
-    look: &ListLook,
+    look: &'a ListLook<'b>,
     around: Box4,
-    cell: &Cell,
-    steps: &mut Steps<L>,
-) -> Result<(), AllocError>
-    ensures { OnOk result (out.new.items ≡ out.old.items ++ flat_map shape_text (flat_map (record_shapes look.now around) (drawing_order cell.now))) }
-{
-    draw_records(alloc, out, look, around, cell.fe.as_slice(), steps)?;
-    draw_records(alloc, out, look, around, cell.ve.as_slice(), steps)?;
-    draw_records(alloc, out, look, around, cell.vc.as_slice(), steps)?;
-    draw_records(alloc, out, look, around, cell.vi.as_slice(), steps)
 }
 
-/// Appends the shapes of a picture.
-fn draw_shapes<L: Ledger>(
-    alloc: Global,
-    out: &mut Vec<u8>,
-    around: Box4,
-    cell: &Cell,
-    findings: &[SubjectFinding],
-    steps: &mut Steps<L>,
-) -> Result<(), AllocError>
-    requires { IsReadable cell.now }
-    ensures { OnOk result (out.new.items ≡ out.old.items ++ flat_map shape_text (shapes cell.now around findings.now)) }
-{
-    let look = ListLook::make(alloc, cell)?;
-    draw_all_records(alloc, out, &look, around, cell, steps)?;
-    draw_findings(alloc, out, &look, around, findings, steps)?;
-    draw_rows(alloc, out, findings)
+impl<'a, 'b> Scene<'a, 'b> {
+    /// A vector record as it is drawn.
+    fn figure<L: Ledger>(&self, vector: &Vector, steps: &mut Steps<L>) -> Result<Figure, AllocError>
+        ensures { IfOk result (λ figure. figure ≡ vector_figure self.now.look.now self.now.around vector.now) }
+    {
+        Ok(Figure {
+            class: class_of(vector),
+            name: vector.name,
+            strokes: vector_strokes_of(self.alloc, self.look, self.around, vector, steps)?,
+        })
+    }
+
+    /// Appends a vector record as it is drawn.
+    fn vector<L: Ledger>(&self, out: &mut Vec<u8>, vector: &Vector, steps: &mut Steps<L>) -> Drawn
+        ensures { OnOk result (out.new.items ≡ out.old.items ++ flat_map shape_text (record_shapes self.now.look.now self.now.around (V vector.now))) }
+    {
+        let figure = self.figure(vector, steps)?;
+        push_figure(out, &figure)
+    }
+
+    /// Appends an area as it is drawn.
+    fn area<L: Ledger>(
+        &self,
+        out: &mut Vec<u8>,
+        class: Class,
+        feature: &Feature,
+        steps: &mut Steps<L>,
+    ) -> Drawn
+        ensures { OnOk result (out.new.items ≡ out.old.items ++ figure_text (area_figure self.now.look.now self.now.around class feature.now)) }
+    {
+        let strokes = area_strokes_of(self.alloc, self.look, self.around, feature, steps)?;
+        let figure = Figure {
+            class,
+            name: feature.name,
+            strokes,
+        };
+        push_figure(out, &figure)
+    }
+
+    /// Appends a feature, if it is an area of Group 1 or of coverage.
+    fn feature<L: Ledger>(
+        &self,
+        out: &mut Vec<u8>,
+        feature: &Feature,
+        steps: &mut Steps<L>,
+    ) -> Drawn
+        ensures { OnOk result (out.new.items ≡ out.old.items ++ flat_map shape_text (feature_shapes self.now.look.now self.now.around feature.now)) }
+    {
+        if is_group1_area(feature) {
+            return self.area(out, Class::Group1, feature, steps);
+        }
+        if is_coverage_area(feature) {
+            return self.area(out, Class::Coverage, feature, steps);
+        }
+        Ok(())
+    }
+
+    /// Appends a record, if it is drawn.
+    fn record<L: Ledger>(&self, out: &mut Vec<u8>, rec: &Rec, steps: &mut Steps<L>) -> Drawn
+        ensures { OnOk result (out.new.items ≡ out.old.items ++ flat_map shape_text (record_shapes self.now.look.now self.now.around rec.now)) }
+    {
+        match rec {
+            Rec::V(vector) => self.vector(out, vector, steps),
+            Rec::F(feature) => self.feature(out, feature, steps),
+            Rec::H(_) => Ok(()),
+        }
+    }
+
+    /// Appends records, one after the other.
+    #[tactic(auto, using(crate::proofs::Marks::nested_more))]
+    fn records<L: Ledger>(&self, out: &mut Vec<u8>, recs: &[Rec], steps: &mut Steps<L>) -> Drawn
+        ensures { OnOk result (out.new.items ≡ out.old.items ++ flat_map shape_text (flat_map (record_shapes self.now.look.now self.now.around) recs.now)) }
+    {
+        for rec in recs {
+            self.record(out, rec, steps)?;
+        }
+        Ok(())
+    }
+
+    /// Appends the records of a cell in the order in which they are drawn.
+    fn all_records<L: Ledger>(&self, out: &mut Vec<u8>, cell: &Cell, steps: &mut Steps<L>) -> Drawn
+        ensures { OnOk result (out.new.items ≡ out.old.items
+            ++ flat_map shape_text (flat_map (record_shapes self.now.look.now self.now.around) (drawing_order cell.now))) }
+    {
+        self.records(out, cell.fe.as_slice(), steps)?;
+        self.records(out, cell.ve.as_slice(), steps)?;
+        self.records(out, cell.vc.as_slice(), steps)?;
+        self.records(out, cell.vi.as_slice(), steps)
+    }
+
+    /// Appends the mark of a finding, if it is anywhere, and takes a field for its number.
+    fn mark<L: Ledger>(
+        &self,
+        out: &mut Vec<u8>,
+        taken: &mut Vec<u32>,
+        number: u32,
+        found: Found,
+        steps: &mut Steps<L>,
+    ) -> Drawn
+        ensures text { OnOk result (out.new.items ≡ out.old.items
+            ++ flat_map shape_text (mark_at number (spec_line_of found) (spec_place_of self.now.look.now self.now.around found) taken.old.items
+            (spec_anchor_of (spec_place_of self.now.look.now self.now.around found)))) }
+        ensures taken { OnOk result (taken.new.items
+            ≡ taken_with taken.old.items (spec_anchor_of (spec_place_of self.now.look.now self.now.around found))) }
+    {
+        let strokes = place_of(
+            self.alloc,
+            self.look,
+            self.around,
+            found.subject,
+            found.finding,
+            steps,
+        )?;
+        let anchor = anchor_of(strokes.as_slice());
+        draw_mark_at(self.alloc, out, taken, number, found, strokes, anchor)
+    }
+
+    /// Appends the marks of findings.
+    fn marks<L: Ledger>(&self, out: &mut Vec<u8>, findings: &[Found], steps: &mut Steps<L>) -> Drawn
+        ensures { OnOk result (out.new.items ≡ out.old.items
+            ++ flat_map shape_text (marks_from self.now.look.now self.now.around [] 1 findings.now)) }
+    {
+        let mut taken = Vec::new(self.alloc);
+        for (k, found) in findings.iter().enumerate() {
+            let serial = number(k + 1)?;
+            self.mark(out, &mut taken, serial, *found, steps)?;
+        }
+        Ok(())
+    }
+
+    /// Appends one of very many findings as a dot, if it is anywhere.
+    fn spot<L: Ledger>(
+        &self,
+        out: &mut Vec<u8>,
+        found: Found,
+        held: &mut Option<Held>,
+        steps: &mut Steps<L>,
+    ) -> Drawn
+        requires { IsHeld self.now.look.now self.now.around held.old }
+        ensures text { OnOk result (out.new.items ≡ out.old.items ++ flat_map shape_text (spot_of self.now.look.now self.now.around found)) }
+        ensures held { IsHeld self.now.look.now self.now.around held.new }
+    {
+        let at = mark_anchor(
+            self.alloc,
+            self.look,
+            self.around,
+            found.subject,
+            found.finding,
+            held,
+            steps,
+        )?;
+        draw_spot_at(self.alloc, out, found, at)
+    }
+
+    /// Appends very many findings as dots.
+    #[tactic(auto, using(crate::proofs::Marks::nested_more))]
+    fn spots<L: Ledger>(&self, out: &mut Vec<u8>, findings: &[Found], steps: &mut Steps<L>) -> Drawn
+        ensures { OnOk result (out.new.items ≡ out.old.items ++ flat_map shape_text (flat_map (spot_of self.now.look.now self.now.around) findings.now)) }
+    {
+        let mut held = None;
+        for found in findings {
+            self.spot(out, *found, &mut held, steps)?;
+        }
+        Ok(())
+    }
+
+    /// Appends the findings where they are.
+    fn findings<L: Ledger>(&self, out: &mut Vec<u8>, found: &[Found], steps: &mut Steps<L>) -> Drawn
+        ensures { OnOk result (out.new.items ≡ out.old.items ++ flat_map shape_text (finding_shapes self.now.look.now self.now.around found.now)) }
+    {
+        if found.len() <= MARK_LIMIT as usize {
+            return self.marks(out, found, steps);
+        }
+        self.spots(out, found, steps)
+    }
+
+    /// Appends the shapes of the picture of a cell.
+    fn shapes<L: Ledger>(
+        &self,
+        out: &mut Vec<u8>,
+        cell: &Cell,
+        findings: &[Found],
+        steps: &mut Steps<L>,
+    ) -> Drawn
+        requires { self.now.look.now ≡ cell.now }
+        ensures { OnOk result (out.new.items ≡ out.old.items ++ flat_map shape_text (shapes cell.now self.now.around findings.now)) }
+    {
+        self.all_records(out, cell, steps)?;
+        self.findings(out, findings, steps)?;
+        draw_rows(self.alloc, out, findings)
+    }
 }
 
 /// Appends the picture of what lies in a box.
@@ -421,16 +360,22 @@ fn draw_around<L: Ledger>(
     out: &mut Vec<u8>,
     around: Box4,
     cell: &Cell,
-    findings: &[SubjectFinding],
+    findings: &[Found],
     steps: &mut Steps<L>,
-) -> Result<(), AllocError>
+) -> Drawn
     requires { IsReadable cell.now }
     ensures { OnOk result (out.new.items ≡ out.old.items ++ picture_around around cell.now findings.now) }
 {
+    let look = ListLook::make(alloc, cell)?;
+    let scene = Scene {
+        alloc,
+        look: &look,
+        around,
+    };
     let total = number(findings.len())?;
     push_head(out, around, cell, total)?;
     push_frame(out, around)?;
-    draw_shapes(alloc, out, around, cell, findings, steps)?;
+    scene.shapes(out, cell, findings, steps)?;
     push_text(out, "</svg>\n")
 }
 
@@ -440,9 +385,9 @@ fn draw<L: Ledger>(
     alloc: Global,
     out: &mut Vec<u8>,
     cell: &Cell,
-    findings: &[SubjectFinding],
+    findings: &[Found],
     steps: &mut Steps<L>,
-) -> Result<(), AllocError>
+) -> Drawn
     requires { IsReadable cell.now }
     ensures { OnOk result (out.new.items ≡ out.old.items ++ picture cell.now findings.now) }
 {
@@ -457,7 +402,7 @@ fn draw<L: Ledger>(
 pub fn push_picture<L: Ledger>(
     out: &mut Vec<u8>,
     cell: &Cell,
-    findings: &[SubjectFinding],
+    findings: &[Found],
     steps: &mut Steps<L>,
 ) -> Result<(), AllocError>
     requires { IsWritable cell.now }

@@ -45,6 +45,39 @@ pub any_more : {X : Type 0} (p : X → Bool) (xs : List X) (k : ℕ) (x : X) →
     → list_any p (take (k + 1) xs) ≡ (list_any p (take k xs) || p x)
 any_more p xs k x is = ap (list_any p) (take_at xs k x is) ∙ list_any-append p (take k xs) (x ∷ []) ∙ ap (λ b. list_any p (take k xs) || b) (or-false (p x))
 
+-- the tag of the field at a place, of which no more is known
+at_tag : {P : Type 0} (fields : List Field) (k : ℕ) (name : List ℕ) → option_map (λ (f : Field). f.tag) (slice_get fields k) ≡ Some name
+    → ((f : Field) → slice_get fields k ≡ Some f → f.tag ≡ name → P) → P
+at_tag {P} fields k name is then = by (slice_get fields k) refl is
+  where
+    by : (found : Option Field) → slice_get fields k ≡ found → option_map (λ (f : Field). f.tag) found ≡ Some name → P
+    by None e tagged = absurd cc
+    by (Some f) e tagged = then f e cc
+
+pub tagged_more : (tag : FieldTag) (fields : List Field) (k : ℕ) (name : List ℕ)
+    → option_map (λ (f : Field). f.tag) (slice_get fields k) ≡ Some name
+    → list_any (is_tagged tag) (take (k + 1) fields) ≡ (list_any (is_tagged tag) (take k fields) || pointwise nat_eq name (tag_text tag))
+tagged_more tag fields k name is = at_tag fields k name is
+    (λ f here tagged. any_more (is_tagged tag) fields k f here
+      ∙ ap (λ t. list_any (is_tagged tag) (take k fields) || pointwise nat_eq t (tag_text tag)) tagged)
+
+-- the name of the first field but the record identifier, from a place on
+pub named_here : (fields : List Field) (k : ℕ) (name : List ℕ) → option_map (λ (f : Field). f.tag) (slice_get fields k) ≡ Some name
+    → pointwise nat_eq name (tag_text tags.RecordNumber) ≡ false
+    → option_map (λ (f : Field). f.tag) (find (λ field. not (is_tagged tags.RecordNumber field)) (drop k fields)) ≡ Some name
+named_here fields k name is other = at_tag fields k name is
+    (λ f here tagged. let fails : not (is_tagged tags.RecordNumber f) ≡ true = ap (λ t. not (pointwise nat_eq t (tag_text tags.RecordNumber))) tagged
+        ∙ ap not other in
+      ap (option_map (λ (f : Field). f.tag)) (find_here (λ field. not (is_tagged tags.RecordNumber field)) fields k f here fails) ∙ ap Some tagged)
+
+pub named_later : (fields : List Field) (k : ℕ) (name : List ℕ) → option_map (λ (f : Field). f.tag) (slice_get fields k) ≡ Some name
+    → pointwise nat_eq name (tag_text tags.RecordNumber) ≡ true
+    → find (λ field. not (is_tagged tags.RecordNumber field)) (drop k fields) ≡ find (λ field. not (is_tagged tags.RecordNumber field)) (drop (k + 1) fields)
+named_later fields k name is same = at_tag fields k name is
+    (λ f here tagged. let holds : not (is_tagged tags.RecordNumber f) ≡ false = ap (λ t. not (pointwise nat_eq t (tag_text tags.RecordNumber))) tagged
+        ∙ ap not same in
+      find_later (λ field. not (is_tagged tags.RecordNumber field)) fields k f here holds)
+
 -- what was found passes the test
 find_holds : {X : Type 0} (p : X → Bool) (xs : List X) (x : X) → find p xs ≡ Some x → p x ≡ true
 find_holds p [] x is = absurd cc

@@ -1,6 +1,6 @@
 -- A cell with the next record of its file, and the records that must be there.
-use Rattle.std.proofs.Common.{◌≡◌, ◌≤◌, ◌<◌, ◌+◌, ℕ, Bool, false, not, List, length, nat_le, nat_lt, Option, Some, None, Result, Ok, Err, refl, ap, ◌∙◌, inl}
-use Rattle.std.proofs.Common.{inr, arith}
+use Rattle.std.proofs.Common.{◌≡◌, ◌≤◌, ◌<◌, ◌+◌, ℕ, Bool, false, not, List, [], length, nat_le, nat_lt, Option, Some, None, Result, Ok, Err, refl, ap, ◌∙◌}
+use Rattle.std.proofs.Common.{inl, inr, arith}
 use Rattle.std.specs.List.{list_any}
 use Rattle.std.specs.Option.{option_or}
 use Rattle.std.proofs.lemmas.Bool.{lt-ltb, cases_lt}
@@ -68,36 +68,63 @@ behind_refused c fields fault is = behind_parts c fields ∙ ap (λ said. said >
 behind_said : (c : Cell) (fields : List Field) (r : Rec) → record_said c.head.nall fields ≡ Ok r → record_behind c fields ≡ (following_fault c r >> Ok r)
 behind_said c fields r is = behind_parts c fields ∙ ap (λ said. said >>= λ r. following_fault c r >> Ok r) is
 
+-- no record stands at the end of the file
+pub frame_at-end : (b : List ℕ) (at : ℕ) (first : Bool) → length b ≤ at → frame_at b at first ≡ Err frames.Short
+unfolding frame_at
+frame_at-end b at first past = rw (lt-ltb (length b) (at + 24) (omega arith)) refl
+
+pub found_before : (b : List ℕ) (at : ℕ) (first : Bool) (frame : FrameView) → frame_at b at first ≡ Ok frame → at < length b
+found_before b at first frame is = elim (cases_lt at (length b)) [
+  | inl before ↦ before
+  | inr past ↦ let ends : frame_at b at first ≡ Err frames.Short = frame_at-end b at first past in absurd cc
+]
+
+-- what is said of the records from a place on, by what stands there
+pub read_on : {R : Type 0} (said : List FileRecord → R) (b : List ℕ) (at : ℕ) (first : Bool) (found : Result FrameView FrameFault)
+    → at < length b → frame_at b at first ≡ found
+    → said (records_after b at first) ≡ said (record_then (λ frame. records_after b (at + frame.length) false) at found)
+read_on said b at first found before is =
+    ap said (records_after-next b at first before ∙ ap (record_then (λ frame. records_after b (at + frame.length) false) at) is)
+
+-- the same where no record stands: the fault is that of the frame, or tells of the end of the file
+pub read_none : {R : Type 0} (said : List FileRecord → R) (fails : ℕ → FrameFault → R) (b : List ℕ) (at : ℕ) (first : Bool) (fault : FrameFault)
+    → at ≤ length b → frame_at b at first ≡ Err fault → said [] ≡ fails (length b) frames.Short
+    → said (record_then (λ frame. records_after b (at + frame.length) false) at (Err fault)) ≡ fails at fault
+    → said (records_after b at first) ≡ fails at fault
+read_none said fails b at first fault within is none there = elim (cases_lt at (length b)) [
+  | inl before ↦ read_on said b at first (Err fault) before is ∙ there
+  | inr past ↦
+      let short : frame_at b at first ≡ Err frames.Short = frame_at-end b at first past in
+      let same : frames.Short ≡ fault = cc in
+      let here : length b ≡ at = omega (arith, past, within) in
+      ap said (records_after-end b at first past) ∙ none ∙ ap (λ n. fails n frames.Short) here ∙ ap (λ f. fails at f) same
+]
+
 -- at the end of the file
 pub following-end : (number : ℕ) (c : Cell) (b : List ℕ) (at : ℕ) → length b ≤ at → with_following number c (records_after b at false) ≡ Ok c
 unfolding with_following
 following-end number c b at past = ap (with_following number c) (records_after-end b at false past)
-
-at_frame : (number : ℕ) (c : Cell) (b : List ℕ) (at : ℕ) (found : Result FrameView FrameFault) → at < length b → frame_at b at false ≡ found
-    → with_following number c (records_after b at false) ≡ with_following number c (record_then (λ frame. records_after b (at + frame.length) false) at found)
-at_frame number c b at found before is = ap (with_following number c)
-    (records_after-next b at false before ∙ ap (record_then (λ frame. records_after b (at + frame.length) false) at) is)
 
 -- no record stands there
 pub following-frame_fault : (number : ℕ) (c : Cell) (b : List ℕ) (at : ℕ) (fault : FrameFault) (r : RecordRefusal) → r ≡ Fault (of_frame fault)
     → at < length b → frame_at b at false ≡ Err fault
     → IsFaultAt number at r (with_following number c (records_after b at false))
 unfolding with_following
-following-frame_fault number c b at fault r refused before is = rw refused (at_frame number c b at (Err fault) before is)
+following-frame_fault number c b at fault r refused before is = rw refused (read_on (with_following number c) b at false (Err fault) before is)
 
 -- the record there has a fault
 following-fault : (number : ℕ) (c : Cell) (b : List ℕ) (at : ℕ) (frame : FrameView) (fault : RecordFault) → at < length b
     → frame_at b at false ≡ Ok frame → record_behind c frame.fields ≡ Err fault
     → with_following number c (records_after b at false) ≡ Err (fault_at number at fault)
 unfolding with_following
-following-fault number c b at frame fault before is said = at_frame number c b at (Ok frame) before is ∙ (rw said refl)
+following-fault number c b at frame fault before is said = read_on (with_following number c) b at false (Ok frame) before is ∙ (rw said refl)
 
 -- the record there follows
 following-next : (number : ℕ) (c : Cell) (b : List ℕ) (at : ℕ) (frame : FrameView) (r : Rec) → at < length b → frame_at b at false ≡ Ok frame
     → record_behind c frame.fields ≡ Ok r
     → with_following number c (records_after b at false) ≡ with_following (number + 1) (with_record r c) (records_after b (at + frame.length) false)
 unfolding with_following
-following-next number c b at frame r before is said = at_frame number c b at (Ok frame) before is ∙ (rw said refl)
+following-next number c b at frame r before is said = read_on (with_following number c) b at false (Ok frame) before is ∙ (rw said refl)
 
 -- the record there was refused by itself, was refused behind the others, or was added
 pub following-refused : (number : ℕ) (c : Cell) (b : List ℕ) (at : ℕ) (frame : FrameView) (e : RecordRefusal) → at < length b → frame_at b at false ≡ Ok frame
@@ -119,45 +146,22 @@ pub following-added : (number : ℕ) (c : Cell) (b : List ℕ) (at : ℕ) (frame
 following-added number c b at frame r before is said none =
     following-next number c b at frame r before is (behind_said c frame.fields r said ∙ ap (λ found. found >> Ok r) none)
 
--- no record stands at the end of the file
-frame_at-end : (b : List ℕ) (at : ℕ) (first : Bool) → length b ≤ at → frame_at b at first ≡ Err frames.Short
-unfolding frame_at
-frame_at-end b at first past = rw (lt-ltb (length b) (at + 24) (omega arith)) refl
-
-found_before : (b : List ℕ) (at : ℕ) (first : Bool) (frame : FrameView) → frame_at b at first ≡ Ok frame → at < length b
-found_before b at first frame is = elim (cases_lt at (length b)) [
-  | inl before ↦ before
-  | inr past ↦ let ends : frame_at b at first ≡ Err frames.Short = frame_at-end b at first past in absurd cc
-]
-
 module _ {X : Type 0} (number : ℕ) (meaning : List Field → Result X RecordFault) (b : List ℕ) (at : ℕ) (first : Bool) where
-  next-found : (found : Result FrameView FrameFault) → at < length b → frame_at b at first ≡ found
-      → said_by_next number (length b) meaning (records_after b at first) ≡ said_by_next number (length b) meaning
-      (record_then (λ frame. records_after b (at + frame.length) false) at found)
-  next-found found before is = ap (said_by_next number (length b) meaning)
-      (records_after-next b at first before ∙ ap (record_then (λ frame. records_after b (at + frame.length) false) at) is)
-
   -- the record that must be there has a fault of its frame, or isn't there
   pub next-frame_fault : (fault : FrameFault) (r : RecordRefusal) → r ≡ Fault (of_frame fault) → at ≤ length b → frame_at b at first ≡ Err fault
       → IsFaultAt number at r (said_by_next number (length b) meaning (records_after b at first))
-  next-frame_fault fault r refused within is = rw refused (elim (cases_lt at (length b)) [
-    | inl before ↦ next-found (Err fault) before is
-    | inr past ↦
-        let short : frame_at b at first ≡ Err frames.Short = frame_at-end b at first past in
-        let same : frames.Short ≡ fault = cc in
-        let here : length b ≡ at = omega (arith, past, within) in
-        ap (said_by_next number (length b) meaning) (records_after-end b at first past)
-        ∙ ap (λ n. Err (fault_at number n (of_frame frames.Short))) here ∙ ap (λ f. Err (fault_at number at (of_frame f))) same
-  ])
+  next-frame_fault fault r refused within is = rw refused
+      (read_none (said_by_next number (length b) meaning) (λ n f. Err (fault_at number n (of_frame f))) b at first fault within is refl refl)
 
   pub next-refused : (frame : FrameView) (e : RecordRefusal) → frame_at b at first ≡ Ok frame → GivesRecord {X = X} (Err e) (meaning frame.fields)
       → IsFaultAt number at e (said_by_next number (length b) meaning (records_after b at first))
-  next-refused frame (Fault fault) is said = next-found (Ok frame) (found_before b at first frame is) is ∙ (rw said refl)
+  next-refused frame (Fault fault) is said =
+      read_on (said_by_next number (length b) meaning) b at first (Ok frame) (found_before b at first frame is) is ∙ (rw said refl)
   next-refused frame NoMemory is said = tt
 
   pub next-said : (frame : FrameView) (x : X) → frame_at b at first ≡ Ok frame → meaning frame.fields ≡ Ok x
       → said_by_next number (length b) meaning (records_after b at first) ≡ Ok (x, records_after b (at + frame.length) false)
-  next-said frame x is said = next-found (Ok frame) (found_before b at first frame is) is ∙ (rw said refl)
+  next-said frame x is said = read_on (said_by_next number (length b) meaning) b at first (Ok frame) (found_before b at first frame is) is ∙ (rw said refl)
 
 -- a fault of a step is the fault of the whole
 pub fault_stays : {X Y : Type 0} (number offset : ℕ) (e : RecordRefusal) (x : Result X CellFault) (f : X → Result Y CellFault)

@@ -34,120 +34,48 @@ kept_whole kept values is = record {
   others = rw is refl;
 }
 
+-- values by what is kept of each list of rows, and by the others
+as_kept : {kept values : FieldValues} → IsKept kept.partners values.partners → IsKept kept.places values.places → IsKept kept.ends values.ends
+    → IsKept kept.plane values.plane → IsKept kept.deep values.deep
+    → record kept { partners = values.partners; places = values.places; ends = values.ends; plane = values.plane; deep = values.deep } ≡ values
+    → AreKept kept values
+as_kept r p e x d o = record { partners = r; places = p; ends = e; plane = x; deep = d; others = o }
+
 -- a field more
 pub kept_more : (nall : ℕ) (tag : FieldTag) (b : List ℕ) (kept values : FieldValues) → AreKept kept values
     → AreKept (with_content nall tag b kept) (with_all nall tag b values)
 unfolding with_content with_all
 kept_more nall tags.RecordNumber b k v is = is
-kept_more nall tags.Dsid b k v is = record {
-  partners = is.partners;
-  places = is.places;
-  ends = is.ends;
-  plane = is.plane;
-  deep = is.deep;
-  others = ap (λ (u : FieldValues). record u { dsid = result_ok (dsid_content b) }) is.others;
-}
-kept_more nall tags.Dssi b k v is = record {
-  partners = is.partners;
-  places = is.places;
-  ends = is.ends;
-  plane = is.plane;
-  deep = is.deep;
-  others = ap (λ (u : FieldValues). record u { dssi = result_ok (dssi_content b) }) is.others;
-}
-kept_more nall tags.Dspm b k v is = record {
-  partners = is.partners;
-  places = is.places;
-  ends = is.ends;
-  plane = is.plane;
-  deep = is.deep;
-  others = ap (λ (u : FieldValues). record u { dspm = result_ok (dspm_content b) }) is.others;
-}
-kept_more nall tags.Frid b k v is = record {
-  partners = is.partners;
-  places = is.places;
-  ends = is.ends;
-  plane = is.plane;
-  deep = is.deep;
-  others = ap (λ (u : FieldValues). record u { frid = result_ok (frid_content b) }) is.others;
-}
-kept_more nall tags.Foid b k v is = record {
-  partners = is.partners;
-  places = is.places;
-  ends = is.ends;
-  plane = is.plane;
-  deep = is.deep;
-  others = ap (λ (u : FieldValues). record u { foid = result_ok (foid_content b) }) is.others;
-}
-kept_more nall tags.Attf b k v is = record {
-  partners = is.partners;
-  places = is.places;
-  ends = is.ends;
-  plane = is.plane;
-  deep = is.deep;
-  others = ap (λ (u : FieldValues). record u { attf = u.attf ++ result_unwrap_or (attribute_content 0 b) [] }) is.others;
-}
-kept_more nall tags.Natf b k v is = record {
-  partners = is.partners;
-  places = is.places;
-  ends = is.ends;
-  plane = is.plane;
-  deep = is.deep;
-  others = ap (λ (u : FieldValues). record u { natf = u.natf ++ result_unwrap_or (attribute_content nall b) [] }) is.others;
-}
-kept_more nall tags.Ffpt b k v is = let more = result_unwrap_or (partner_content b) [] in record {
-  partners = kept_rows k.partners v.partners more is.partners;
-  places = is.places;
-  ends = is.ends;
-  plane = is.plane;
-  deep = is.deep;
-  others = ap (λ (u : FieldValues). record u { partners = v.partners ++ more }) is.others;
-}
-kept_more nall tags.Fspt b k v is = let more = result_unwrap_or (place_content b) [] in record {
-  partners = is.partners;
-  places = kept_rows k.places v.places more is.places;
-  ends = is.ends;
-  plane = is.plane;
-  deep = is.deep;
-  others = ap (λ (u : FieldValues). record u { places = v.places ++ more }) is.others;
-}
-kept_more nall tags.Vrid b k v is = record {
-  partners = is.partners;
-  places = is.places;
-  ends = is.ends;
-  plane = is.plane;
-  deep = is.deep;
-  others = ap (λ (u : FieldValues). record u { vrid = result_ok (vrid_content b) }) is.others;
-}
-kept_more nall tags.Attv b k v is = record {
-  partners = is.partners;
-  places = is.places;
-  ends = is.ends;
-  plane = is.plane;
-  deep = is.deep;
-  others = ap (λ (u : FieldValues). record u { attv = u.attv ++ result_unwrap_or (attribute_content 0 b) [] }) is.others;
-}
-kept_more nall tags.Vrpt b k v is = let more = result_unwrap_or (end_content b) [] in record {
-  partners = is.partners;
-  places = is.places;
-  ends = kept_rows k.ends v.ends more is.ends;
-  plane = is.plane;
-  deep = is.deep;
-  others = ap (λ (u : FieldValues). record u { ends = v.ends ++ more }) is.others;
-}
-kept_more nall tags.Sg2d b k v is = let more = result_unwrap_or (plane_content b) [] in record {
-  partners = is.partners;
-  places = is.places;
-  ends = is.ends;
-  plane = kept_rows k.plane v.plane more is.plane;
-  deep = is.deep;
-  others = ap (λ (u : FieldValues). record u { plane = v.plane ++ more }) is.others;
-}
-kept_more nall tags.Sg3d b k v is = let more = result_unwrap_or (deep_content b) [] in record {
-  partners = is.partners;
-  places = is.places;
-  ends = is.ends;
-  plane = is.plane;
-  deep = kept_rows k.deep v.deep more is.deep;
-  others = ap (λ (u : FieldValues). record u { deep = v.deep ++ more }) is.others;
-}
+kept_more nall tags.Dsid b k v is = as_kept is.partners is.places is.ends is.plane is.deep
+    (ap (λ (u : FieldValues). record u { dsid = result_ok (dsid_content b) }) is.others)
+kept_more nall tags.Dssi b k v is = as_kept is.partners is.places is.ends is.plane is.deep
+    (ap (λ (u : FieldValues). record u { dssi = result_ok (dssi_content b) }) is.others)
+kept_more nall tags.Dspm b k v is = as_kept is.partners is.places is.ends is.plane is.deep
+    (ap (λ (u : FieldValues). record u { dspm = result_ok (dspm_content b) }) is.others)
+kept_more nall tags.Frid b k v is = as_kept is.partners is.places is.ends is.plane is.deep
+    (ap (λ (u : FieldValues). record u { frid = result_ok (frid_content b) }) is.others)
+kept_more nall tags.Foid b k v is = as_kept is.partners is.places is.ends is.plane is.deep
+    (ap (λ (u : FieldValues). record u { foid = result_ok (foid_content b) }) is.others)
+kept_more nall tags.Attf b k v is = as_kept is.partners is.places is.ends is.plane is.deep
+    (ap (λ (u : FieldValues). record u { attf = u.attf ++ result_unwrap_or (attribute_content 0 b) [] }) is.others)
+kept_more nall tags.Natf b k v is = as_kept is.partners is.places is.ends is.plane is.deep
+    (ap (λ (u : FieldValues). record u { natf = u.natf ++ result_unwrap_or (attribute_content nall b) [] }) is.others)
+kept_more nall tags.Ffpt b k v is = let more = result_unwrap_or (partner_content b) [] in
+    as_kept (kept_rows k.partners v.partners more is.partners) is.places is.ends is.plane is.deep
+    (ap (λ (u : FieldValues). record u { partners = v.partners ++ more }) is.others)
+kept_more nall tags.Fspt b k v is = let more = result_unwrap_or (place_content b) [] in
+    as_kept is.partners (kept_rows k.places v.places more is.places) is.ends is.plane is.deep
+    (ap (λ (u : FieldValues). record u { places = v.places ++ more }) is.others)
+kept_more nall tags.Vrid b k v is = as_kept is.partners is.places is.ends is.plane is.deep
+    (ap (λ (u : FieldValues). record u { vrid = result_ok (vrid_content b) }) is.others)
+kept_more nall tags.Attv b k v is = as_kept is.partners is.places is.ends is.plane is.deep
+    (ap (λ (u : FieldValues). record u { attv = u.attv ++ result_unwrap_or (attribute_content 0 b) [] }) is.others)
+kept_more nall tags.Vrpt b k v is = let more = result_unwrap_or (end_content b) [] in
+    as_kept is.partners is.places (kept_rows k.ends v.ends more is.ends) is.plane is.deep
+    (ap (λ (u : FieldValues). record u { ends = v.ends ++ more }) is.others)
+kept_more nall tags.Sg2d b k v is = let more = result_unwrap_or (plane_content b) [] in
+    as_kept is.partners is.places is.ends (kept_rows k.plane v.plane more is.plane) is.deep
+    (ap (λ (u : FieldValues). record u { plane = v.plane ++ more }) is.others)
+kept_more nall tags.Sg3d b k v is = let more = result_unwrap_or (deep_content b) [] in
+    as_kept is.partners is.places is.ends is.plane (kept_rows k.deep v.deep more is.deep)
+    (ap (λ (u : FieldValues). record u { deep = v.deep ++ more }) is.others)

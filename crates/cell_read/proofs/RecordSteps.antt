@@ -1,5 +1,5 @@
 -- What a record says, from the values of its fields.
-use Rattle.std.proofs.Common.{◌≡◌, ℕ, true, false, List, [], Option, None, Result, Ok, Err, refl, sym, ap, ◌∙◌}
+use Rattle.std.proofs.Common.{◌≡◌, ℕ, Bool, true, false, List, [], Option, None, Result, Ok, Err, refl, sym, ap, ◌∙◌}
 use Rattle.frame_spec.specs.RecordFrame.{Field}
 use Rattle.s57_types.specs.declared.record.Rec.{Rec}
 use Rattle.file_spec.specs.DecodedCell.{general_information, geographic_reference, is_general_information, is_geographic_reference, vector_record}
@@ -40,15 +40,39 @@ feature_parts : (nall : ℕ) (fields : List Field) → feature_record nall field
 unfolding values_of
 feature_parts nall fields = refl
 
-general_parts : (fields : List Field)
-    → general_information fields ≡ (record_type fields >>= λ type. demand (is_general_information type) HeadOrder >> fields_then
-    0 types.GeneralInformation general_information_from fields)
+-- a head record is asked for its type, and then its fields count
+abbrev head_then : {X : Type 0} → (RecordType → Bool) → RecordType → (FieldValues → Result X RecordFault) → List Field → Result RecordType RecordFault
+    → Result X RecordFault
+head_then right type meaning fields found = found >>= λ t. demand (right t) HeadOrder >> fields_then 0 type meaning fields
+
+-- what follows of a head record by its type
+pub record HeadSteps {X : Type 0} (defined : List Field → Result X RecordFault) (right : RecordType → Bool) (type : RecordType)
+    (meaning : FieldValues → Result X RecordFault) : Type 0 where
+  pub is : (fields : List Field) (t : RecordType) → record_type fields ≡ Ok t → right t ≡ true → defined fields ≡ fields_then 0 type meaning fields
+  pub order : (fields : List Field) (t : RecordType) → record_type fields ≡ Ok t → right t ≡ false → defined fields ≡ Err HeadOrder
+  pub fails : (fields : List Field) (fault : RecordFault) → record_type fields ≡ Err fault → defined fields ≡ Err fault
+
+head_steps : {X : Type 0} (defined : List Field → Result X RecordFault) (right : RecordType → Bool) (type : RecordType)
+    (meaning : FieldValues → Result X RecordFault) → ((fields : List Field) → defined fields ≡ head_then right type meaning fields (record_type fields))
+    → HeadSteps defined right type meaning
+head_steps defined right type meaning parts = record {
+  is = λ fields t is good. typed fields t true is good;
+  order = λ fields t is other. typed fields t false is other;
+  fails = λ fields fault is. parts fields ∙ ap (head_then right type meaning fields) is;
+}
+  where
+    typed : (fields : List Field) (t : RecordType) (good : Bool) → record_type fields ≡ Ok t → right t ≡ good
+        → defined fields ≡ (demand good HeadOrder >> fields_then 0 type meaning fields)
+    typed fields t good is right_is = parts fields ∙ ap (head_then right type meaning fields) is
+        ∙ ap (λ b. demand b HeadOrder >> fields_then 0 type meaning fields) right_is
+
+general_parts : (fields : List Field) → general_information fields ≡
+    head_then is_general_information types.GeneralInformation general_information_from fields (record_type fields)
 unfolding general_information values_of
 general_parts fields = refl
 
-geographic_parts : (fields : List Field)
-    → geographic_reference fields ≡ (record_type fields >>= λ type. demand (is_geographic_reference type) HeadOrder >> fields_then
-    0 types.GeographicReference geographic_reference_from fields)
+geographic_parts : (fields : List Field) → geographic_reference fields ≡
+    head_then is_geographic_reference types.GeographicReference geographic_reference_from fields (record_type fields)
 unfolding geographic_reference values_of
 geographic_parts fields = refl
 
@@ -69,43 +93,11 @@ pub feature_is : (nall : ℕ) (fields : List Field) (v : FieldValues) → v ≡ 
     → fields_fault nall types.Feature [] fields ≡ None → feature_record nall fields ≡ feature_from v
 feature_is nall fields v is good = feature_parts nall fields ∙ fields_are nall types.Feature feature_from fields v is good
 
--- a head record has its type, and then its fields count
-pub general_is : (fields : List Field) (type : RecordType) → record_type fields ≡ Ok type → is_general_information type ≡ true
-    → general_information fields ≡ fields_then 0 types.GeneralInformation general_information_from fields
-general_is fields type is right =
-    general_parts fields ∙ ap (λ type. type >>= λ t. demand (is_general_information t) HeadOrder >> fields_then 0 types.GeneralInformation
-    general_information_from fields) is
-    ∙ ap (λ good. demand good HeadOrder >> fields_then 0 types.GeneralInformation general_information_from fields) right
+pub general : HeadSteps general_information is_general_information types.GeneralInformation general_information_from
+general = head_steps general_information is_general_information types.GeneralInformation general_information_from general_parts
 
-pub general_order : (fields : List Field) (type : RecordType) → record_type fields ≡ Ok type → is_general_information type ≡ false
-    → general_information fields ≡ Err HeadOrder
-general_order fields type is other =
-    general_parts fields ∙ ap (λ type. type >>= λ t. demand (is_general_information t) HeadOrder >> fields_then 0 types.GeneralInformation
-    general_information_from fields) is
-    ∙ ap (λ good. demand good HeadOrder >> fields_then 0 types.GeneralInformation general_information_from fields) other
-
-pub general_fails : (fields : List Field) (fault : RecordFault) → record_type fields ≡ Err fault → general_information fields ≡ Err fault
-general_fails fields fault is = general_parts fields ∙ ap (λ type. type >>= λ t. demand
-    (is_general_information t) HeadOrder >> fields_then 0 types.GeneralInformation general_information_from fields) is
-
-pub geographic_is : (fields : List Field) (type : RecordType) → record_type fields ≡ Ok type → is_geographic_reference type ≡ true
-    → geographic_reference fields ≡ fields_then 0 types.GeographicReference geographic_reference_from fields
-geographic_is fields type is right =
-    geographic_parts fields ∙ ap (λ type. type >>= λ t. demand (is_geographic_reference t) HeadOrder >> fields_then 0 types.GeographicReference
-    geographic_reference_from fields) is
-    ∙ ap (λ good. demand good HeadOrder >> fields_then 0 types.GeographicReference geographic_reference_from fields) right
-
-pub geographic_order : (fields : List Field) (type : RecordType) → record_type fields ≡ Ok type → is_geographic_reference type ≡ false
-    → geographic_reference fields ≡ Err HeadOrder
-geographic_order fields type is other =
-    geographic_parts fields ∙ ap (λ type. type >>= λ t. demand (is_geographic_reference t) HeadOrder >> fields_then 0 types.GeographicReference
-    geographic_reference_from fields) is
-    ∙ ap (λ good. demand good HeadOrder >> fields_then 0 types.GeographicReference geographic_reference_from fields) other
-
-pub geographic_fails : (fields : List Field) (fault : RecordFault) → record_type fields ≡ Err fault → geographic_reference fields ≡ Err fault
-geographic_fails fields fault is = geographic_parts fields ∙ ap
-    (λ type. type >>= λ t. demand (is_geographic_reference t) HeadOrder >> fields_then 0 types.GeographicReference geographic_reference_from
-    fields) is
+pub geographic : HeadSteps geographic_reference is_geographic_reference types.GeographicReference geographic_reference_from
+geographic = head_steps geographic_reference is_geographic_reference types.GeographicReference geographic_reference_from geographic_parts
 
 -- a result is what is defined
 pub gives_result : {X : Type 0} (defined : Result X RecordFault) (x : X) → defined ≡ Ok x → GivesRecord (Ok x) defined

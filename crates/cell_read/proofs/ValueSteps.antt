@@ -21,7 +21,7 @@ use Rattle.file_spec.specs.RecordReading.{value_of, rows_of}
 use Rattle.file_spec.specs.declared.tag.FieldTag.{FieldTag}
 use Rattle.file_spec.specs.declared.tag.FieldTag.TheVariants as tags
 use Rattle.cell_read.specs.Gives.{IsFault, refusal_of_field}
-use Rattle.cell_read.specs.ValuesOf.{values_of}
+use Rattle.cell_read.specs.ValuesOf.{values_of, with_content}
 use Rattle.cell_read.specs.declared.values.FieldValues.{FieldValues}
 
 -- a refused field gives its record the field's fault
@@ -127,27 +127,18 @@ and_true : (b : Bool) → (b && true) ≡ false → b ≡ false
 and_true true e = absurd cc
 and_true false e = refl
 
--- values with all of those of one field more
+-- values with all of those of one field more: other lists of rows than those of attributes are kept whole here
 unfoldable pub with_all : ℕ → FieldTag → List ℕ → FieldValues → FieldValues
-with_all nall tags.RecordNumber b v = v
-with_all nall tags.Dsid b v = record v { dsid = result_ok (dsid_content b) }
-with_all nall tags.Dssi b v = record v { dssi = result_ok (dssi_content b) }
-with_all nall tags.Dspm b v = record v { dspm = result_ok (dspm_content b) }
-with_all nall tags.Frid b v = record v { frid = result_ok (frid_content b) }
-with_all nall tags.Foid b v = record v { foid = result_ok (foid_content b) }
-with_all nall tags.Attf b v = record v { attf = v.attf ++ result_unwrap_or (attribute_content 0 b) [] }
-with_all nall tags.Natf b v = record v { natf = v.natf ++ result_unwrap_or (attribute_content nall b) [] }
 with_all nall tags.Ffpt b v = record v { partners = v.partners ++ result_unwrap_or (partner_content b) [] }
 with_all nall tags.Fspt b v = record v { places = v.places ++ result_unwrap_or (place_content b) [] }
-with_all nall tags.Vrid b v = record v { vrid = result_ok (vrid_content b) }
-with_all nall tags.Attv b v = record v { attv = v.attv ++ result_unwrap_or (attribute_content 0 b) [] }
 with_all nall tags.Vrpt b v = record v { ends = v.ends ++ result_unwrap_or (end_content b) [] }
 with_all nall tags.Sg2d b v = record v { plane = v.plane ++ result_unwrap_or (plane_content b) [] }
 with_all nall tags.Sg3d b v = record v { deep = v.deep ++ result_unwrap_or (deep_content b) [] }
+with_all nall tag b v = with_content nall tag b v
 
 pub values_more : (nall : ℕ) (before : List Field) (bytes : List ℕ) (tag : FieldTag) → (list_any (is_tagged tag) before && not (may_repeat tag)) ≡ false
     → values_of nall (before ++ (record { tag = tag_text tag; bytes = bytes } ∷ [])) ≡ with_all nall tag bytes (values_of nall before)
-unfolding with_all
+unfolding with_all with_content
 values_more nall before bytes tags.RecordNumber once = values_step nall before (record { tag = tag_text tags.RecordNumber; bytes = bytes }) no no no no no no
 values_more nall before bytes tags.Dsid once = values_step nall before (record { tag = tag_text tags.Dsid; bytes = bytes })
     (λ _. and_true _ once) no no no no no

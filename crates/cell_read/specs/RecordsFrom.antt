@@ -3,9 +3,8 @@ use Rattle.std.specs.Prelude.{ℕ, ◌==◌, not, nat_le, nat_lt, List, [], leng
 use Rattle.std.specs.List.{list_any}
 use Rattle.std.specs.Option.{option_or, ok_or}
 use Rattle.frame_spec.specs.RecordFrame.{Field}
-use Rattle.s57_types.specs.declared.name.Kind.TheVariants.{Fe}
 use Rattle.s57_types.specs.declared.record.Rec.{Rec}
-use Rattle.s57_types.specs.declared.record.Rec.TheVariants.{V, F}
+use Rattle.s57_types.specs.declared.record.Rec.TheVariants.{V}
 use Rattle.s57_types.specs.RecordFields.{written_length, length_limit}
 use Rattle.s57_types.specs.declared.cell.Cell.{Cell}
 use Rattle.s57_types.specs.declared.field.Dsid.{Dsid}
@@ -13,7 +12,7 @@ use Rattle.s57_types.specs.declared.field.Dssi.{Dssi}
 use Rattle.s57_types.specs.declared.field.Dspm.{Dspm}
 use Rattle.cell_spec.specs.Lookup.{all_records, name_of, is_named}
 use Rattle.cell_spec.specs.Writable.{record_limit}
-use Rattle.file_spec.specs.DecodedCell.{record_values, fits_general_information, fits_geographic_reference}
+use Rattle.file_spec.specs.DecodedCell.{feature_with_lists, record_values, fits_general_information, fits_geographic_reference}
 use Rattle.file_spec.specs.RecordFaults.{◌>>=◌, ◌>>◌, demand}
 use Rattle.file_spec.specs.RecordReading.{record_type, fields_fault}
 use Rattle.file_spec.specs.declared.fault.RecordFault.{RecordFault}
@@ -52,18 +51,7 @@ feature_from v = do
   d ← ok_or v.frid MissingField
   l ← ok_or v.foid MissingField
   demand (d.ruin == 1) NotBase
-  Ok (F (record {
-    name = record { kind = Fe; id = d.rcid };
-    prim = d.prim;
-    grup = d.grup;
-    objl = d.objl;
-    rver = d.rver;
-    foid = l;
-    attf = v.attf;
-    natf = v.natf;
-    partners = v.partners;
-    places = v.places;
-  }))
+  Ok (feature_with_lists d l v.attf v.natf v.partners v.places)
 
 -- a vector or feature record by itself, whatever stands before it in its file
 abbrev pub record_said : ℕ → List Field → Result Rec RecordFault

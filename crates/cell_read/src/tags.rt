@@ -116,15 +116,14 @@ pub fn tag_in(kind: RecordType, name: &[u8; 4]) -> Option<FieldTag>
 }
 
 /// Whether one of the first so many fields has a tag.
-#[tactic(auto, using(crate::proofs::FieldSteps::any_more))]
+#[tactic(auto, using(crate::proofs::FieldSteps::tagged_more))]
 fn stands_before(frame: &Frame<'_>, tag: FieldTag, k: usize) -> bool
     requires { k ≤ length frame.now.fields }
     ensures { result ≡ list_any (is_tagged tag) (take k frame.now.fields) }
 {
     let mut stands = false;
     for j in 0..k {
-        let (name, _) = frame.field(j);
-        stands |= is_tagged(tag, &name);
+        stands |= is_tagged(tag, &frame.tag(j));
     }
     stands
 }
@@ -143,13 +142,13 @@ pub fn stands_twice(frame: &Frame<'_>, tag: FieldTag, k: usize) -> bool
 }
 
 /// The name of the first field but the record identifier.
-#[tactic(auto, using(crate::proofs::FieldSteps::find_here, crate::proofs::FieldSteps::find_later))]
+#[tactic(auto, using(crate::proofs::FieldSteps::named_here, crate::proofs::FieldSteps::named_later))]
 fn leading_name(frame: &Frame<'_>) -> Option<[u8; 4]>
     ensures { result ≡ option_map (λ (f : Field). f.tag) (find (λ field. not (is_tagged tags.RecordNumber field)) frame.now.fields) }
 {
     let count = frame.count();
     for k in 0..count {
-        let (name, _) = frame.field(k);
+        let name = frame.tag(k);
         if !is_tagged(FieldTag::RecordNumber, &name) {
             return Some(name);
         }

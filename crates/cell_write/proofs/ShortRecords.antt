@@ -1,7 +1,6 @@
 -- The records of a writable cell have at most 99,999 bytes.
-use Rattle.std.proofs.Common.{◌≡◌, ◌≤◌, ℕ, ◌+◌, Bool, true, false, List, [], ◌∷◌, length, map, refl, sym, ap, ◌∙◌, subst, arith, length-append}
-use Rattle.std.specs.Prelude.{None, ◌==◌, if◌then◌else◌, codes}
-use Rattle.std.specs.Fmt.{digits}
+use Rattle.std.proofs.Common.{◌≡◌, ◌≤◌, ℕ, true, List, refl, sym, ap, ◌∙◌, subst, arith}
+use Rattle.std.specs.Prelude.{None}
 use Rattle.frame_spec.specs.RecordFrame.{Field}
 use Rattle.frame_spec.specs.WrittenRecord.{record_length, field_lengths}
 use Rattle.s57_types.specs.Fitness.{is_fit_head, unfitness}
@@ -10,9 +9,9 @@ use Rattle.s57_types.specs.declared.cell.Cell.{Cell}
 use Rattle.s57_types.specs.declared.head.Head.{Head}
 use Rattle.s57_types.specs.declared.record.Rec.{Rec}
 use Rattle.s57_types.specs.declared.record.Rec.TheVariants.{V, F, H}
-use Rattle.file_spec.specs.DescriptiveRecord.{Description, structure_controls, level_controls, label_text, description_field, descriptions, descriptive_fields}
+use Rattle.file_spec.specs.DescriptiveRecord.{descriptive_fields}
 use Rattle.file_spec.specs.EncodedCell.{record_counts}
-use Rattle.file_spec.proofs.CellFields.{head_fits, fit_is_found}
+use Rattle.file_spec.proofs.CellFields.{descriptive_length, head_fits, fit_is_found}
 use Rattle.frame_write.specs.OutFields.{fields_of, lengths_of}
 use Rattle.frame_write.specs.declared.field.OutField.{OutField}
 
@@ -38,29 +37,5 @@ pub record_short : (nall n : ℕ) (r : Rec) → unfitness nall r ≡ None → re
 record_short nall n r fit = subst (λ (k : ℕ). k ≤ 99999) (sym (same_length nall n r)) (fit_is_found nall r fit).short
 
 -- the data descriptive record has the same length at each level
-length_level : (level : ℕ) → length (level_controls level) ≡ 3
-length_level level = by (level == 2) (level == 1)
-  where
-    by : (two one : Bool) → length (if two then codes "%/A" else (if one then codes "-A " else codes "   ")) ≡ 3
-    by true one = refl
-    by false true = refl
-    by false false = refl
-
-counted : Description → ℕ
-counted d = length (structure_controls d.structure) + 3 + length d.name + 1 + length (label_text d.structure d.labels) + 1 + length d.formats + 1
-
-description_length : (d : Description) → length (description_field d).bytes ≡ counted d
-unfolding counted
-description_length d = simp length-append (omega (arith, length_level d.level))
-
-descriptions_lengths : (ds : List Description) → field_lengths (map description_field ds) ≡ map counted ds
-descriptions_lengths [] = refl
-descriptions_lengths (d ∷ ds) = ap (λ n. n ∷ field_lengths (map description_field ds)) (description_length d)
-    ∙ ap (λ ns. counted d ∷ ns) (descriptions_lengths ds)
-
-descriptive_length : (aall nall : ℕ) → record_length (field_lengths (descriptive_fields aall nall)) ≡ 1578
-unfolding digits counted
-descriptive_length aall nall = ap (λ (ns : List ℕ). record_length (123 ∷ ns)) (descriptions_lengths (descriptions aall nall))
-
 pub descriptive_short : (aall nall : ℕ) → record_length (field_lengths (descriptive_fields aall nall)) ≤ 99999
 descriptive_short aall nall = subst (λ (n : ℕ). n ≤ 99999) (sym (descriptive_length aall nall)) (omega arith)

@@ -4,6 +4,7 @@ use Rattle.std.proofs.Common.{◌∙◌, arith}
 use Rattle.std.specs.Prelude.{◌==◌, cond, not, nat_lt, ℤ, max, sum}
 use Rattle.std.specs.List.{list_all, IsDistinct, AllByRecursion, All}
 use Rattle.std.proofs.Math.Nat.{mul-le-mul}
+use Rattle.std.proofs.lemmas.Bool.{and_parts}
 use Rattle.std.proofs.lemmas.Bool.Decides.{nat_tests}
 use Rattle.std.proofs.lemmas.Fmt.{length-decimal-le}
 use Rattle.frame_spec.specs.WrittenRecord.{record_length, field_lengths, length_digits, position_digits}
@@ -39,14 +40,6 @@ fit_from_tests nall rec names texts short =
     ∙ ap (λ b. cond (not b) (Some BadText) (cond (nat_lt length_limit (written_length nall rec)) (Some TooLong) None)) texts
     ∙ ap (λ b. cond b (Some TooLong) None) short
 
-and_left : (a b : Bool) → (a && b) ≡ true → a ≡ true
-and_left true b h = refl
-and_left false b h = cc
-
-and_right : (a b : Bool) → (a && b) ≡ true → b ≡ true
-and_right true b h = h
-and_right false b h = cc
-
 -- few short fields
 abbrev is_small : List ℕ → Bool
 is_small lengths = nat_lt (fold max 0 lengths) 10000 && (nat_lt (sum (take (length lengths - 1) lengths)) 10000 &&
@@ -61,12 +54,13 @@ not_less_when a b h = grind (arith, nat_tests)
 -- a record of few short fields isn't too long
 short_when_small : (lengths : List ℕ) → is_small lengths ≡ true → nat_lt length_limit (record_length lengths) ≡ false
 short_when_small lengths small =
-    let greatest : fold max 0 lengths < 10000 = less_when _ _ (and_left _ _ small) in
-    let later = and_right (nat_lt (fold max 0 lengths) 10000) _ small in
-    let position : sum (take (length lengths - 1) lengths) < 10000 = less_when _ _ (and_left _ _ later) in
-    let last = and_right (nat_lt (sum (take (length lengths - 1) lengths)) 10000) _ later in
-    let count : length lengths < 9 = less_when _ _ (and_left _ _ last) in
-    let total : sum lengths < 2000 = less_when _ _ (and_right (nat_lt (length lengths) 9) _ last) in
+    let parts = and_parts (nat_lt (fold max 0 lengths) 10000) _ small in
+    let greatest : fold max 0 lengths < 10000 = less_when _ _ parts.0 in
+    let later = and_parts (nat_lt (sum (take (length lengths - 1) lengths)) 10000) _ parts.1 in
+    let position : sum (take (length lengths - 1) lengths) < 10000 = less_when _ _ later.0 in
+    let last = and_parts (nat_lt (length lengths) 9) _ later.1 in
+    let count : length lengths < 9 = less_when _ _ last.0 in
+    let total : sum lengths < 2000 = less_when _ _ last.1 in
     let length_digits_few : length_digits lengths ≤ 4 = length-decimal-le 4 (fold max 0 lengths) (omega arith) greatest (omega arith) in
     let position_digits_few : position_digits lengths ≤ 4 = length-decimal-le 4 (sum (take (length lengths - 1) lengths))
     (omega arith) position (omega arith) in
@@ -117,20 +111,12 @@ vector-fits-with name attrs ends plane deep given_ends given_plane no_attrs same
     (λ i. unfitness nall (V (record { name = name; rver = 1; attrs = no_attrs i; ends = same_ends i; plane = same_plane i; deep = no_deep i })))
     ∙ vector-fits nall name given_ends given_plane kind targets few_ends few
 
+abbrev feature_with : RecName → Lnam → List Attr → List Attr → List Partner → List Spot → Rec
+feature_with name foid attf natf partners places =
+    F (record { name = name; prim = 3; grup = 1; objl = 42; rver = 1; foid = foid; attf = attf; natf = natf; partners = partners; places = places })
+
 abbrev plain_feature : RecName → Lnam → List Spot → Rec
-plain_feature name foid places = F (record {
-  name = name;
-  prim = 3;
-  grup = 1;
-  objl = 42;
-  rver = 1;
-  foid = foid;
-  attf = [];
-  natf =
-      [];
-  partners = [];
-  places = places;
-})
+plain_feature name foid places = feature_with name foid [] [] [] places
 
 short_feature : (nall : ℕ) (name : RecName) (foid : Lnam) (places : List Spot) → length places ≤ 4
     → nat_lt length_limit (written_length nall (plain_feature name foid places)) ≡ false
@@ -158,26 +144,13 @@ pub feature-fits-with : (name : RecName) (foid : Lnam) (attf natf : List Attr) (
       objl = 42;
       rver = 1;
       foid = foid;
-      attf =
-          attf;
+      attf = attf;
       natf = natf;
       partners = partners;
       places = places;
     })) ≡ None
 feature-fits-with name foid attf natf partners places given no_attf no_natf no_partners same kind targets few nall =
-    (λ i. unfitness nall (F (record {
-      name = name;
-      prim = 3;
-      grup = 1;
-      objl = 42;
-      rver = 1;
-      foid = foid;
-      attf = no_attf i;
-      natf =
-          no_natf i;
-      partners = no_partners i;
-      places = same i;
-    })))
+    (λ i. unfitness nall (feature_with name foid (no_attf i) (no_natf i) (no_partners i) (same i)))
     ∙ feature-fits nall name foid given (ap is_feature_kind kind) targets few
 
 -- whether two lists of numbers differ
@@ -199,18 +172,16 @@ apart false h = refl
 each_apart : (n : RecName) (rs : List Rec) → list_all (differ (name_parts n)) (map parts_of rs) ≡ true
     → AllByRecursion (λ m. same_name n m ≡ false) (map name_of rs)
 each_apart n [] h = tt
-each_apart n (r ∷ rs) h = (
-  apart (same_name n (name_of r)) (and_left (not (same_name n (name_of r))) (list_all (differ (name_parts n)) (map parts_of rs)) h),
-  each_apart n rs (and_right (not (same_name n (name_of r))) (list_all (differ (name_parts n)) (map parts_of rs)) h),
-)
+each_apart n (r ∷ rs) h =
+    let both = and_parts (not (same_name n (name_of r))) (list_all (differ (name_parts n)) (map parts_of rs)) h in
+    (apart (same_name n (name_of r)) both.0, each_apart n rs both.1)
 
 distinct_by_parts : (rs : List Rec) → all_differ (map parts_of rs) ≡ true → IsDistinct same_name (map name_of rs)
 unfolding IsDistinct
 distinct_by_parts [] h = tt
-distinct_by_parts (r ∷ rs) h = (
-  each_apart (name_of r) rs (and_left (list_all (differ (parts_of r)) (map parts_of rs)) (all_differ (map parts_of rs)) h),
-  distinct_by_parts rs (and_right (list_all (differ (parts_of r)) (map parts_of rs)) (all_differ (map parts_of rs)) h),
-)
+distinct_by_parts (r ∷ rs) h =
+    let both = and_parts (list_all (differ (parts_of r)) (map parts_of rs)) (all_differ (map parts_of rs)) h in
+    (each_apart (name_of r) rs both.0, distinct_by_parts rs both.1)
 
 map_four : {X Y : Type 0} (f : X → Y) (a b c d : List X) → map f (a ++ b ++ c ++ d) ≡ map f a ++ map f b ++ map f c ++ map f d
 map_four f a b c d = map-append f (a ++ b ++ c) d ∙ ap (λ z. z ++ map f d) (map-append f (a ++ b) c ∙ ap (λ z. z ++ map f c) (map-append f a b))

@@ -37,8 +37,7 @@ impl<K: Ord + Copy, V: Ord + Copy> Groups<K, V> {
         requires exact_values { (a b : V) → V.cmp a b ≡ Equal → a ≡ b }
         ensures { IfOk result (λ groups. groups ≡ ascending (pair_order K.cmp V.cmp) pairs.items) }
     {
-        let mut pairs = sorted(pairs);
-        pairs.dedup();
+        let pairs = once(pairs);
         let keys = keys_of(alloc, &pairs)?;
         let values = values_of(alloc, &pairs)?;
         Ok(Groups { keys, values })
@@ -72,6 +71,17 @@ fn sorted<T: Ord>(mut items: Vec<T>) -> Vec<T>
 {
     items.sort_unstable();
     items
+}
+
+// The pairs in ascending order, each once.
+fn once<K: Ord + Copy, V: Ord + Copy>(pairs: Vec<(K, V)>) -> Vec<(K, V)>
+    requires exact_keys { (a b : K) → K.cmp a b ≡ Equal → a ≡ b }
+    requires exact_values { (a b : V) → V.cmp a b ≡ Equal → a ≡ b }
+    ensures { result.items ≡ ascending (pair_order K.cmp V.cmp) pairs.items }
+{
+    let mut pairs = sorted(pairs);
+    pairs.dedup();
+    pairs
 }
 
 // The keys of pairs.

@@ -4,6 +4,7 @@ use Rattle.std.proofs.Common.{◌∙◌, append_assoc, arith}
 use Rattle.std.specs.Prelude.{◌==◌}
 use Rattle.std.specs.List.{enumerate_from, list_all, position, position_from}
 use Rattle.std.proofs.lemmas.Iterator.Adapters.{position_from-zero}
+use Rattle.std.proofs.lemmas.Bool.{and_parts}
 use Rattle.std.proofs.lemmas.Bool.Decides.{nat_tests}
 use Rattle.std.proofs.lemmas.List.{append-nil}
 use Rattle.s57_types.specs.declared.record.Feature.{Feature}
@@ -46,35 +47,28 @@ is_nothing (x ∷ found) h = absurd (true_is_false (sym h ∙ some_number found 
     true_is_false : true ≡ false → ⊥
     true_is_false e = cc
 
-left_of : (a b : Bool) → (a && b) ≡ true → a ≡ true
-left_of true b h = refl
-left_of false b h = h
-
-right_of : (a b : Bool) → (a && b) ≡ true → b ≡ true
-right_of true b h = h
-right_of false b h = absurd cc
-
 module _ (c : Cell) (f : Feature) (found : List Finding) (is : found ≡ pointer_findings c f) where
   clean : (length found == 0) ≡ (is_clean (prim_refs c f) && is_clean (dangling_ref c f) && is_clean (bad_codes c f))
   unfolding pointer_findings
   clean = ap (λ xs. length xs == 0) is ∙ none_found (prim_refs c f) (dangling_ref c f) (bad_codes c f)
 
   pub judged_prim : ((f.prim == 3) && (length found == 0)) ≡ true → (f.prim == 3) ≡ true
-  judged_prim h = left_of (f.prim == 3) (length found == 0) h
+  judged_prim h = (and_parts (f.prim == 3) (length found == 0) h).0
 
   all_clean : ((f.prim == 3) && (length found == 0)) ≡ true → (is_clean (prim_refs c f) && is_clean (dangling_ref c f) && is_clean (bad_codes c f)) ≡ true
-  all_clean h = sym clean ∙ right_of (f.prim == 3) (length found == 0) h
+  all_clean h = sym clean ∙ (and_parts (f.prim == 3) (length found == 0) h).1
+
+  clean_parts : ((f.prim == 3) && (length found == 0)) ≡ true → ((is_clean (prim_refs c f) && is_clean (dangling_ref c f)) ≡ true) × (is_clean (bad_codes c f) ≡ true)
+  clean_parts h = and_parts (is_clean (prim_refs c f) && is_clean (dangling_ref c f)) (is_clean (bad_codes c f)) (all_clean h)
 
   pub judged_refs : ((f.prim == 3) && (length found == 0)) ≡ true → prim_refs c f ≡ []
-  judged_refs h = is_nothing (prim_refs c f) (left_of (is_clean (prim_refs c f)) (is_clean (dangling_ref c f))
-      (left_of (is_clean (prim_refs c f) && is_clean (dangling_ref c f)) (is_clean (bad_codes c f)) (all_clean h)))
+  judged_refs h = is_nothing (prim_refs c f) (and_parts (is_clean (prim_refs c f)) (is_clean (dangling_ref c f)) (clean_parts h).0).0
 
   pub judged_targets : ((f.prim == 3) && (length found == 0)) ≡ true → dangling_ref c f ≡ []
-  judged_targets h = is_nothing (dangling_ref c f) (right_of (is_clean (prim_refs c f)) (is_clean (dangling_ref c f))
-      (left_of (is_clean (prim_refs c f) && is_clean (dangling_ref c f)) (is_clean (bad_codes c f)) (all_clean h)))
+  judged_targets h = is_nothing (dangling_ref c f) (and_parts (is_clean (prim_refs c f)) (is_clean (dangling_ref c f)) (clean_parts h).0).1
 
   pub judged_codes : ((f.prim == 3) && (length found == 0)) ≡ true → bad_codes c f ≡ []
-  judged_codes h = is_nothing (bad_codes c f) (right_of (is_clean (prim_refs c f) && is_clean (dangling_ref c f)) (is_clean (bad_codes c f)) (all_clean h))
+  judged_codes h = is_nothing (bad_codes c f) (clean_parts h).1
 
   not_usable : ((f.prim == 3) && (length found == 0)) ≡ false → has_usable_boundary c f ≡ false
   unfolding has_usable_boundary

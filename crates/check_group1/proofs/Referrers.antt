@@ -1,21 +1,19 @@
 -- The record that points to an edge is found among the edge's read set.
-use Rattle.std.proofs.Common.{◌≡◌, ℕ, zero, suc, ◌+◌, ◌<◌, ◌≤◌, ◌⊎◌, inl, inr, Bool, true, false, ◌||◌, List, [], ◌∷◌, length, map, get_or, Option, None}
+use Rattle.std.proofs.Common.{◌≡◌, ℕ, ◌+◌, ◌<◌, ◌⊎◌, inl, inr, Bool, true, false, ◌||◌, List, [], ◌∷◌, length, map, get_or, Option, None}
 use Rattle.std.proofs.Common.{Some, refl, sym, ap, ◌∙◌, subst, arith}
 use Rattle.std.specs.Borrow.{Bor}
 use Rattle.std.specs.List.{list_any, HoldsAt, All}
-use Rattle.std.specs.List.Sorted.{IsStrictlySortedBy, IsSorted, IsNonDecreasingBy, IsPartitionPoint}
+use Rattle.std.specs.List.Sorted.{IsStrictlySortedBy, IsNonDecreasingBy, IsPartitionPoint}
 use Rattle.std.specs.Option.{option_copied}
-use Rattle.std.specs.Ordering.{is_eq, is_lt, ordering_index, ordering_reverse}
+use Rattle.std.specs.Ordering.{is_eq, ordering_index, ordering_reverse}
 use Rattle.std.specs.declared.cmp.Ordering.{Ordering}
 use Rattle.std.specs.declared.cmp.Ordering.TheVariants.{Less, Equal, Greater}
-use Rattle.std.proofs.Math.Nat.{eq-or-lt_of_le}
 use Rattle.std.specs.Prelude.{◌++◌, option_to_list, filter_map, take}
 use Rattle.std.specs.List.{cons_option}
 use Rattle.std.proofs.lemmas.List.{get_or-map, take_more}
 use Rattle.std.proofs.lemmas.List.Elements.{filter_map-append}
 use Rattle.std.proofs.lemmas.List.Folds.{list_any_none, list_any_at}
 use Rattle.std.proofs.lemmas.List.Sorted.{searchable_from_sorted}
-use Rattle.std.proofs.lemmas.Map.Keys.{Less-from_sorted}
 use Rattle.s57_types.specs.declared.name.RecName.{RecName}
 use Rattle.s57_types.specs.declared.record.Feature.{Feature}
 use Rattle.s57_types.specs.declared.cell.Cell.{Cell}
@@ -30,40 +28,18 @@ use Rattle.rule_spec.specs.Reads.{keys_read, read_set}
 use Rattle.rule_spec.specs.Records.{feature_named}
 use Rattle.cell_spec.proofs.Ascending.{holds-ascending, sorted-ascending}
 use Rattle.cell_spec.proofs.Orders.{exact_keys, total_keys}
+use Rattle.cell_spec.proofs.Searched.{no_tie, side_of, sorted_when_strictly}
 use Rattle.check_group1.specs.Referrers.{asks_for, feature_of_key, CanBeFound}
 
 -- ---- a key that is among some is found
-not_lt : (o : Ordering) → o ≡ Less → is_lt (ordering_reverse o) ≡ false
-not_lt Less e = refl
-not_lt Equal e = refl
-not_lt Greater e = absurd cc
-
-sorted_keys : (keys : List Key) → IsStrictlySortedBy key_order keys → IsSorted key_order keys
-sorted_keys keys rises = λ k d low within.
-    let less = Less-from_sorted key_order keys k (k + 1) d rises (omega arith) within in
-    ap is_lt (total_keys.antisymm (get_or keys (k + 1) d) (get_or keys k d)) ∙ not_lt (key_order (get_or keys k d) (get_or keys (k + 1) d)) less
-
-no_tie : (o : Ordering) → (o ≡ Less) ⊎ (o ≡ Greater) → is_eq (ordering_reverse o) ≡ false
-no_tie Less e = refl
-no_tie Equal (inl e) = absurd cc
-no_tie Equal (inr e) = absurd cc
-no_tie Greater e = refl
-
 true_is_not_false : (b : Bool) → b ≡ true → b ≡ false → ⊥
 true_is_not_false b e f = cc
-
-side_of : (k i : ℕ) → (k < i) ⊎ (i ≤ k)
-side_of k zero = inr (omega arith)
-side_of k (suc i) = elim (side_of k i) [
-  | inl h ↦ inl (omega (arith, h))
-  | inr h ↦ elim (eq-or-lt_of_le h) [ inl e ↦ inl (omega (arith, e)) | inr l ↦ inr (omega (arith, l)) ]
-]
 
 pub never_missing : (keys : List Key) (n : RecName) (i : ℕ) → CanBeFound keys n
     → (IsNonDecreasingBy (λ y. ordering_index (key_order y (Name n))) keys → IsPartitionPoint (λ y. key_order y (Name n) ≡ Less)
     (λ y. key_order y (Name n) ≡ Greater) keys i) → ⊥
 never_missing keys n i found cut =
-    let parts = cut (searchable_from_sorted total_keys (λ k. k) keys (Name n) (sorted_keys keys found.rises)) in
+    let parts = cut (searchable_from_sorted total_keys (λ k. k) keys (Name n) (sorted_when_strictly key_order total_keys keys found.rises)) in
     let apart : All (λ key. is_eq (key_order (Name n) key) ≡ false) keys = λ k d within.
     let key = get_or keys k d in
     let either : (key_order key (Name n) ≡ Less) ⊎ (key_order key (Name n) ≡ Greater) =

@@ -14,13 +14,13 @@ use std::sync::ledger::Ledger;
 
 fn feature_of_key<'a, B: Look, L: Ledger>(
     look: &'a B,
-    key: Key,
+    key: &Key,
     steps: &mut Steps<L>,
 ) -> Option<&'a Feature>
-    ensures found { option_copied result ≡ feature_asked (B.cell look.now) key }
+    ensures found { option_copied result ≡ feature_asked (B.cell look.now) key.now }
     ensures steps { steps.new ≤ steps.old + 1 }
 {
-    let Key::Name(name) = key else {
+    let Key::Name(name) = *key else {
         return None;
     };
     match look.get(name, steps) {
@@ -41,7 +41,7 @@ pub(crate) fn features_of<'a, B: Look, L: Ledger>(
 {
     let mut features = Vec::new(alloc);
     for key in keys {
-        features.push(feature_of_key(look, *key, steps))?;
+        features.push(feature_of_key(look, key, steps))?;
     }
     Ok(features)
 }

@@ -20,45 +20,46 @@ use s57_types::{Feature, Items, Rec, RecName, Vector};
 use std::alloc::{AllocError, Global};
 use std::sync::ledger::Ledger;
 
-fn vector_row<B: Look, L: Ledger>(
+/// A name whose record is judged, and where it was looked up.
+#[derive(Drop)]
+struct Asked<'a, B: Look> {
     alloc: Global,
-    look: &B,
+    look: &'a B,
     name: RecName,
-    vector: &Vector,
-    steps: &mut Steps<L>,
-) -> Result<Row, AllocError>
-    requires { lookup_record (B.cell look.now) name ≡ Some (V vector.now) }
-    ensures row { IfOk result (IsRecordRow (B.cell look.now) name) }
-    ensures steps { steps.new + 1 ≤ steps.old + 4 * length (read_set (B.cell look.now) (SubjectRec name)) }
-{
-    let reads = vector_reads(alloc, name, vector)?;
-    let findings = vector_findings(alloc, look, name, vector, reads.as_slice(), steps)?;
-    Ok(Row {
-        subject: Subject::Rec(name),
-        findings: Items::of_vec(findings),
-        reads,
-    })
 }
 
-fn feature_row<B: Look, L: Ledger>(
-    alloc: Global,
-    look: &B,
-    name: RecName,
-    feature: &Feature,
-    steps: &mut Steps<L>,
-) -> Result<Row, AllocError>
-    requires { lookup_record (B.cell look.now) name ≡ Some (F feature.now) }
-    ensures row { IfOk result (IsRecordRow (B.cell look.now) name) }
-    ensures steps { steps.new + 1 ≤ steps.old + 4 * length (read_set (B.cell look.now) (SubjectRec name)) }
-{
-    let reads = feature_reads(alloc, look, name, feature, steps)?;
-    let near = gather(alloc, look, reads.as_slice(), steps)?;
-    let findings = feature_findings(alloc, &near, feature)?;
-    Ok(Row {
-        subject: Subject::Rec(name),
-        findings: Items::of_vec(findings),
-        reads,
-    })
+impl<'a, B: Look> Asked<'a, B> {
+    /// The row of a vector record.
+    fn vector<L: Ledger>(&self, vector: &Vector, steps: &mut Steps<L>) -> Result<Row, AllocError>
+        requires { lookup_record (B.cell self.now.look.now) self.now.name ≡ Some (V vector.now) }
+        ensures row { IfOk result (IsRecordRow (B.cell self.now.look.now) self.now.name) }
+        ensures steps { steps.new + 1 ≤ steps.old + 4 * length (read_set (B.cell self.now.look.now) (SubjectRec self.now.name)) }
+    {
+        let reads = vector_reads(self.alloc, self.name, vector)?;
+        let keys = reads.as_slice();
+        let findings = vector_findings(self.alloc, self.look, self.name, vector, keys, steps)?;
+        Ok(Row {
+            subject: Subject::Rec(self.name),
+            findings: Items::of_vec(findings),
+            reads,
+        })
+    }
+
+    /// The row of a feature.
+    fn feature<L: Ledger>(&self, feature: &Feature, steps: &mut Steps<L>) -> Result<Row, AllocError>
+        requires { lookup_record (B.cell self.now.look.now) self.now.name ≡ Some (F feature.now) }
+        ensures row { IfOk result (IsRecordRow (B.cell self.now.look.now) self.now.name) }
+        ensures steps { steps.new + 1 ≤ steps.old + 4 * length (read_set (B.cell self.now.look.now) (SubjectRec self.now.name)) }
+    {
+        let reads = feature_reads(self.alloc, self.look, self.name, feature, steps)?;
+        let near = gather(self.alloc, self.look, reads.as_slice(), steps)?;
+        let findings = feature_findings(self.alloc, &near, feature)?;
+        Ok(Row {
+            subject: Subject::Rec(self.name),
+            findings: Items::of_vec(findings),
+            reads,
+        })
+    }
 }
 
 /// The row of a name that no record has, or that is the head's: its read set is the name.
@@ -91,9 +92,10 @@ pub fn verdict_rec<B: Look, L: Ledger>(
     ensures reads { IfOk result (λ row. row.reads ≡ read_set (B.cell look.now) (SubjectRec name)) }
     ensures steps { steps.new ≤ steps.old + 4 * length (read_set (B.cell look.now) (SubjectRec name)) }
 {
+    let asked = Asked { alloc, look, name };
     match look.get(name, steps) {
-        Some(Rec::V(vector)) => vector_row(alloc, look, name, vector, steps),
-        Some(Rec::F(feature)) => feature_row(alloc, look, name, feature, steps),
+        Some(Rec::V(vector)) => asked.vector(vector, steps),
+        Some(Rec::F(feature)) => asked.feature(feature, steps),
         Some(Rec::H(_)) | None => bare_row(alloc, name),
     }
 }

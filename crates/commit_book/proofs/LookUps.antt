@@ -87,10 +87,7 @@ reads_within edits c stale rows =
 -- planning edits that the cell takes, and one look-up more for each of them
 pub with_touched : (edits : List Edit) (c : Cell) (stale : List Key) (rows : List Row) → is_applicable edits c ≡ true
     → planning_look_ups edits c stale rows + length edits ≤ plan_budget edits c stale rows
-with_touched edits c stale rows taken =
-    let is = plan_by edits c stale rows true taken in
-    let reads = reads_within edits c stale rows in
-    omega (arith, is, reads)
+with_touched edits c stale rows taken = omega (arith, plan_by edits c stale rows true taken, reads_within edits c stale rows)
 
 -- each edit has one at least
 one_each : (edits : List Edit) (c : Cell) (stale : List Key) (rows : List Row) (taken : Bool) → is_applicable edits c ≡ taken

@@ -28,7 +28,7 @@ use Rattle.s57_types.specs.declared.record.Rec.{Rec}
 use Rattle.field_spec.specs.Contents.{dsid_content, dssi_content, dspm_content}
 use Rattle.cell_spec.specs.Lookup.{all_records, is_named, name_of}
 use Rattle.cell_spec.specs.Names.{kind_rank, same_name}
-use Rattle.cell_spec.specs.Writable.{IsWritable, AreFit, HaveDistinctNames, record_limit}
+use Rattle.cell_spec.specs.Writable.{IsWritable, AreFit, AreOfKind, HaveDistinctNames, record_limit}
 use Rattle.file_spec.specs.CellRecords.{empty_cell, head_with, with_record, with_record_of_kind}
 use Rattle.file_spec.specs.DecodedCell.{decoded_cell, decoded_records, general_information, geographic_reference, is_general_information}
 use Rattle.file_spec.specs.DecodedCell.{is_geographic_reference, fits_general_information, fits_geographic_reference, record_behind, said_by, said_by_next}
@@ -61,9 +61,15 @@ abbrev of_general_type : List Field → RecordType → Result (Dsid × Dssi) Rec
 of_general_type fields type = demand (is_general_information type) HeadOrder >>
     (fields_fault 0 types.GeneralInformation [] fields >> (required tags.Dsid dsid_content fields >>= with_dsid fields))
 
-general_is : (fields : List Field) (x : Dsid × Dssi) → general_information fields ≡ Ok x → IsGeneral x.0 x.1
+-- the fields that the two parts of the first head record were read from
+pub record GeneralSaid (fields : List Field) (x : Dsid × Dssi) : Type 0 where
+  pub dsid : required tags.Dsid dsid_content fields ≡ Ok x.0
+  pub dssi : required tags.Dssi dssi_content fields ≡ Ok x.1
+  pub short : fits_general_information x.0 x.1 ≡ true
+
+pub general_said : (fields : List Field) (x : Dsid × Dssi) → general_information fields ≡ Ok x → GeneralSaid fields x
 unfolding general_information
-general_is fields x is =
+general_said fields x is =
     let type = step (record_type fields) (of_general_type fields) x is in
     let right = demanded (is_general_information type.0) HeadOrder
     (fields_fault 0 types.GeneralInformation [] fields >> (required tags.Dsid dsid_content fields >>= with_dsid fields)) x type.2 in
@@ -75,14 +81,14 @@ general_is fields x is =
     let chain = demanded (s.0.dstr == 2) NotChainNode (demand (fits_general_information d.0 s.0) TooLong >> Ok (d.0, s.0)) x base.1 in
     let short = demanded (fits_general_information d.0 s.0) TooLong (Ok (d.0, s.0)) x chain.1 in
     let same : (d.0, s.0) ≡ x = cc in
-    let dsid = required_is tags.Dsid dsid_content fields d.0 d.1 in
-    let dssi = required_is tags.Dssi dssi_content fields s.0 s.1 in
-    subst (λ (y : Dsid × Dssi). IsGeneral y.0 y.1) same (record {
-      plain = dsid_is_plain dsid.0 d.0 dsid.1;
-      levels =
-          dssi_has_levels dssi.0 s.0 dssi.1;
-      short = short.0;
-    })
+    subst (GeneralSaid fields) same (record { dsid = d.1; dssi = s.1; short = short.0 })
+
+general_is : (fields : List Field) (x : Dsid × Dssi) → general_information fields ≡ Ok x → IsGeneral x.0 x.1
+general_is fields x is =
+    let said = general_said fields x is in
+    let dsid = required_is tags.Dsid dsid_content fields x.0 said.dsid in
+    let dssi = required_is tags.Dssi dssi_content fields x.1 said.dssi in
+    record { plain = dsid_is_plain dsid.0 x.0 dsid.1; levels = dssi_has_levels dssi.0 x.1 dssi.1; short = said.short }
 
 record IsGeographic (p : Dspm) : Type 0 where
   plain : list_all is_plain (dspm_row p) ≡ true
@@ -95,9 +101,14 @@ abbrev of_geographic_type : List Field → RecordType → Result Dspm RecordFaul
 of_geographic_type fields type = demand (is_geographic_reference type) HeadOrder >>
     (fields_fault 0 types.GeographicReference [] fields >> (required tags.Dspm dspm_content fields >>= judged_geographic))
 
-geographic_is : (fields : List Field) (x : Dspm) → geographic_reference fields ≡ Ok x → IsGeographic x
+-- the field that the second head record was read from
+pub record GeographicSaid (fields : List Field) (x : Dspm) : Type 0 where
+  pub dspm : required tags.Dspm dspm_content fields ≡ Ok x
+  pub short : fits_geographic_reference x ≡ true
+
+pub geographic_said : (fields : List Field) (x : Dspm) → geographic_reference fields ≡ Ok x → GeographicSaid fields x
 unfolding geographic_reference
-geographic_is fields x is =
+geographic_said fields x is =
     let type = step (record_type fields) (of_geographic_type fields) x is in
     let right = demanded (is_geographic_reference type.0) HeadOrder
     (fields_fault 0 types.GeographicReference [] fields >> (required tags.Dspm dspm_content fields >>= judged_geographic)) x type.2 in
@@ -105,8 +116,13 @@ geographic_is fields x is =
     let p = step (required tags.Dspm dspm_content fields) judged_geographic x read.1 in
     let short = demanded (fits_geographic_reference p.0) TooLong (Ok p.0) x p.2 in
     let same : p.0 ≡ x = cc in
-    let dspm = required_is tags.Dspm dspm_content fields p.0 p.1 in
-    subst IsGeographic same (record { plain = dspm_is_plain dspm.0 p.0 dspm.1; short = short.0 })
+    subst (GeographicSaid fields) same (record { dspm = p.1; short = short.0 })
+
+geographic_is : (fields : List Field) (x : Dspm) → geographic_reference fields ≡ Ok x → IsGeographic x
+geographic_is fields x is =
+    let said = geographic_said fields x is in
+    let dspm = required_is tags.Dspm dspm_content fields x said.dspm in
+    record { plain = dspm_is_plain dspm.0 x dspm.1; short = said.short }
 
 six : (a b c d e f : Bool) → a ≡ true → b ≡ true → c ≡ true → d ≡ true → e ≡ true → f ≡ true → (a && b && c && d && e && f) ≡ true
 six a b c d e f p q r s t u = rw (p, q, r, s, t, u) refl
@@ -175,52 +191,25 @@ module _ (kind : Kind) (listed : (kind_rank kind == kind_rank HeadKind) ≡ fals
       let below = ltb-true (length (all_records c)) record_limit f.room in
       omega (arith, new, old, below)
 
+writable : {d : Cell} → is_fit_head d.head ≡ true → AreOfKind Vi d.vi → AreOfKind Vc d.vc → AreOfKind Ve d.ve → AreOfKind Fe d.fe
+    → AreFit d.head.nall (all_records d) → HaveDistinctNames (all_records d) → length (all_records d) ≤ record_limit → IsWritable d
+writable h n c e f r d m =
+    record { head_fits = h; isolated_nodes = n; connected_nodes = c; edges = e; features = f; records_fit = r; names_distinct = d; not_too_many = m }
+
 with_kind : (kind : Kind) (r : Rec) (c : Cell) → (name_of r).kind ≡ kind → IsWritable c → Follows c r → IsWritable (with_record_of_kind kind r c)
-with_kind Vi r c is w f = record {
-  head_fits = w.head_fits;
-  isolated_nodes = All-push (λ x. (name_of x).kind ≡ Vi) c.vi r w.isolated_nodes is;
-  connected_nodes = w.connected_nodes;
-  edges = w.edges;
-  features = w.features;
-  records_fit = all_fit Vi refl r c w f;
-  names_distinct = distinct Vi refl r c w f;
-  not_too_many = enough_room Vi refl r c w f;
-}
-with_kind Vc r c is w f = record {
-  head_fits = w.head_fits;
-  isolated_nodes = w.isolated_nodes;
-  connected_nodes = All-push (λ x. (name_of x).kind ≡ Vc) c.vc r w.connected_nodes is;
-  edges = w.edges;
-  features = w.features;
-  records_fit = all_fit Vc refl r c w f;
-  names_distinct = distinct Vc refl r c w f;
-  not_too_many = enough_room Vc refl r c w f;
-}
-with_kind Ve r c is w f = record {
-  head_fits = w.head_fits;
-  isolated_nodes = w.isolated_nodes;
-  connected_nodes = w.connected_nodes;
-  edges = All-push (λ x. (name_of x).kind ≡ Ve) c.ve r w.edges is;
-  features = w.features;
-  records_fit = all_fit Ve refl r c w f;
-  names_distinct = distinct Ve refl r c w f;
-  not_too_many = enough_room Ve refl r c w f;
-}
-with_kind Fe r c is w f = record {
-  head_fits = w.head_fits;
-  isolated_nodes = w.isolated_nodes;
-  connected_nodes = w.connected_nodes;
-  edges = w.edges;
-  features = All-push (λ x. (name_of x).kind ≡ Fe) c.fe r w.features is;
-  records_fit = all_fit Fe refl r c w f;
-  names_distinct = distinct Fe refl r c w f;
-  not_too_many = enough_room Fe refl r c w f;
-}
+with_kind Vi r c is w f = writable w.head_fits (All-push (λ x. (name_of x).kind ≡ Vi) c.vi r w.isolated_nodes is) w.connected_nodes w.edges w.features
+    (all_fit Vi refl r c w f) (distinct Vi refl r c w f) (enough_room Vi refl r c w f)
+with_kind Vc r c is w f = writable w.head_fits w.isolated_nodes (All-push (λ x. (name_of x).kind ≡ Vc) c.vc r w.connected_nodes is) w.edges w.features
+    (all_fit Vc refl r c w f) (distinct Vc refl r c w f) (enough_room Vc refl r c w f)
+with_kind Ve r c is w f = writable w.head_fits w.isolated_nodes w.connected_nodes (All-push (λ x. (name_of x).kind ≡ Ve) c.ve r w.edges is) w.features
+    (all_fit Ve refl r c w f) (distinct Ve refl r c w f) (enough_room Ve refl r c w f)
+with_kind Fe r c is w f = writable w.head_fits w.isolated_nodes w.connected_nodes w.edges (All-push (λ x. (name_of x).kind ≡ Fe) c.fe r w.features is)
+    (all_fit Fe refl r c w f) (distinct Fe refl r c w f) (enough_room Fe refl r c w f)
 with_kind HeadKind r c is w f = w
 
 -- ---- the file
 module _ {X E G : Type 0} where
-  unplaced : (f : E → G) (r : Result X E) (x : X) → result_map_both (λ y. y) f r ≡ Ok x → r ≡ Ok x
+  pub unplaced : (f : E → G) (r : Result X E) (x : X) → result_map_both (λ y. y) f r ≡ Ok x → r ≡ Ok x
   unplaced f (Ok y) x is = cc
   unplaced f (Err e) x is = absurd cc
 
@@ -269,14 +258,31 @@ behind_general end g = said_by_next 3 end geographic_reference g.1 >>= behind_ge
 abbrev behind_descriptive : ℕ → List Field × List FileRecord → Result Cell CellFault
 behind_descriptive end d = said_by_next 2 end general_information d.1 >>= behind_general end
 
-pub decoded_is_writable : (b : List ℕ) (c : Cell) → decoded_cell b ≡ Ok c → IsWritable c
+-- what was read before the records behind the head
+pub record DecodedSaid (b : List ℕ) (c : Cell) : Type 0 where
+  pub d : List Field × List FileRecord
+  pub g : (Dsid × Dssi) × List FileRecord
+  pub p : Dspm × List FileRecord
+  pub descriptive : said_by_next 1 (length b) Ok (file_records b) ≡ Ok d
+  pub general : said_by_next 2 (length b) general_information d.1 ≡ Ok g
+  pub geographic : said_by_next 3 (length b) geographic_reference g.1 ≡ Ok p
+  pub following : with_following 4 (empty_cell (head_with g.0.0 g.0.1 p.0)) p.1 ≡ Ok c
+
+pub decoded_said : (b : List ℕ) (c : Cell) → decoded_cell b ≡ Ok c → DecodedSaid b c
 unfolding decoded_records
-decoded_is_writable b c is =
+decoded_said b c is =
     let end = length b in
     let d = step (said_by_next 1 end Ok (file_records b)) (behind_descriptive end) c is in
     let g = step (said_by_next 2 end general_information d.0.1) (behind_general end) c d.2 in
     let p = step (said_by_next 3 end geographic_reference g.0.1) (behind_geographic g.0.0) c g.2 in
-    let general = next_is 2 end general_information d.0.1 g.0 g.1 in
-    let geographic = next_is 3 end geographic_reference g.0.1 p.0 p.1 in
-    let fit = head_is_fit g.0.0.0 g.0.0.1 p.0.0 (general_is general.0 g.0.0 general.1) (geographic_is geographic.0 p.0.0 geographic.1) in
-    stays_writable 4 (empty_cell (head_with g.0.0.0 g.0.0.1 p.0.0)) c p.0.1 (empty_is_writable (head_with g.0.0.0 g.0.0.1 p.0.0) fit) p.2
+    record { d = d.0; g = g.0; p = p.0; descriptive = d.1; general = g.1; geographic = p.1; following = p.2 }
+
+pub decoded_is_writable : (b : List ℕ) (c : Cell) → decoded_cell b ≡ Ok c → IsWritable c
+decoded_is_writable b c is =
+    let said = decoded_said b c is in
+    let g = said.g.0 in
+    let p = said.p.0 in
+    let general = next_is 2 (length b) general_information said.d.1 said.g said.general in
+    let geographic = next_is 3 (length b) geographic_reference said.g.1 said.p said.geographic in
+    let fit = head_is_fit g.0 g.1 p (general_is general.0 g general.1) (geographic_is geographic.0 p geographic.1) in
+    stays_writable 4 (empty_cell (head_with g.0 g.1 p)) c said.p.1 (empty_is_writable (head_with g.0 g.1 p) fit) said.following

@@ -1,5 +1,4 @@
 pub mod Changed
-pub mod Found
 pub mod Folded
 pub mod Pairs
 pub mod Range

@@ -1,5 +1,5 @@
--- Pairs of a key and a subject: their order, what a put and a removal change, and what many of them do.
-use Rattle.std.proofs.Common.{rules, ◌≡◌, ◌&&◌, ◌||◌, Bool, true, false, not, List, [], ◌∷◌, Option, None, Some, cond, is_some, refl, sym, ap, ◌∙◌}
+-- Pairs of a key and a subject: their order, and what many of them do.
+use Rattle.std.proofs.Common.{rules, ◌≡◌, ◌&&◌, ◌||◌, Bool, true, false, not, List, [], ◌∷◌, cond, refl, sym, ap, ◌∙◌}
 use Rattle.std.specs.List.{AllByRecursion, list_any}
 use Rattle.std.specs.List.Sorted.{IsStrictlySortedBy}
 use Rattle.std.specs.Map.{keys_of}
@@ -7,6 +7,7 @@ use Rattle.std.specs.Ordering.{is_eq, ordering_then}
 use Rattle.std.specs.declared.cmp.Ordering.{Ordering}
 use Rattle.std.specs.declared.cmp.Ordering.TheVariants.{Less, Equal, Greater}
 use Rattle.std.specs.Cmp.{Equal-is, IsTotalOrder, eq_by_cmp_equiv}
+use Rattle.std.proofs.Math.Bool.{and-or_distrib_left, and_comm, or_assoc, or_comm}
 use Rattle.std.proofs.lemmas.Cmp.{on_total, then_total}
 use Rattle.std.proofs.lemmas.Map.Lookups.{CmpEqualImpliesEq, exact_pairs}
 use Rattle.cell_spec.specs.declared.key.Key.{Key}
@@ -14,8 +15,8 @@ use Rattle.cell_spec.specs.declared.key.Subject.{Subject}
 use Rattle.cell_spec.specs.Names.{key_order, same_key, same_subject, subject_order}
 use Rattle.cell_spec.proofs.Orders.{both_tie, exact_keys, total_keys}
 use Rattle.cell_spec.proofs.SubjectOrder.{exact_subjects, total_subjects}
-use Rattle.row_spec.specs.Rows.{IsAscending, value_of, with_row, without_key}
-use Rattle.row_spec.proofs.Changes.{value_of-with_row, value_of-without_key}
+use Rattle.row_spec.specs.Rows.{IsAscending, value_of}
+use Rattle.row_spec.proofs.Pairs.{put_some}
 use Rattle.depend_map.specs.Readers.{has_pair, reader_order, same_pair}
 
 pub total_readers : IsTotalOrder reader_order
@@ -37,31 +38,6 @@ either_key j k = (eq_by_cmp_equiv total_keys).symm j k
 pub either_subject : (s t : Subject) → same_subject s t ≡ same_subject t s
 either_subject s t = (eq_by_cmp_equiv total_subjects).symm s t
 
-put_some : {V : Type 0} (b : Bool) (v : V) (o : Option V) → is_some (cond b (Some v) o) ≡ (b || is_some o)
-put_some true v o = refl
-put_some false v o = refl
-
-took_some : {V : Type 0} (b : Bool) (o : Option V) → is_some (cond b None o) ≡ (not b && is_some o)
-took_some true o = refl
-took_some false o = refl
-
-module _ {V : Type 0} (pairs : List ((Key × Subject) × V)) (j : Key) (t : Subject) (k : Key) (s : Subject) where
-  -- two pairs tie where both parts do
-  tie : is_eq (reader_order (j, t) (k, s)) ≡ same_pair j t k s
-  tie = both_tie (key_order j k) (subject_order t s)
-
-  pub has-put : (v : V) → has_pair (with_row reader_order pairs (j, t) v) k s ≡ (same_pair j t k s || has_pair pairs k s)
-  has-put v =
-      ap is_some (value_of-with_row reader_order total_readers pairs (j, t) (k, s) v)
-      ∙ put_some (is_eq (reader_order (j, t) (k, s))) v (value_of reader_order pairs (k, s))
-      ∙ ap (λ b. b || has_pair pairs k s) tie
-
-  pub has-take : IsAscending reader_order pairs → has_pair (without_key reader_order pairs (j, t)) k s ≡ (not (same_pair j t k s) && has_pair pairs k s)
-  has-take ascending =
-      ap is_some (value_of-without_key reader_order total_readers pairs (j, t) (k, s) ascending)
-      ∙ took_some (is_eq (reader_order (j, t) (k, s))) (value_of reader_order pairs (k, s))
-      ∙ ap (λ b. not b && has_pair pairs k s) tie
-
 -- ---- pairs alone as rows
 -- rows are in the order of their pairs, since what has no value ties always
 abbrev pub row_order : (Key × Subject) × Unit {0} → (Key × Subject) × Unit {0} → Ordering
@@ -71,7 +47,8 @@ always_total : IsTotalOrder (λ (a b : Unit {0}). Equal)
 always_total = search rules
 
 pub total_rows : IsTotalOrder row_order
-total_rows = then_total (on_total (λ (row : (Key × Subject) × Unit {0}). row.0) total_readers) (on_total (λ (row : (Key × Subject) × Unit {0}). row.1) always_total)
+total_rows =
+    then_total (on_total (λ (row : (Key × Subject) × Unit {0}). row.0) total_readers) (on_total (λ (row : (Key × Subject) × Unit {0}). row.1) always_total)
 
 pub exact_rows : CmpEqualImpliesEq row_order
 exact_rows = exact_pairs reader_order (λ (a b : Unit {0}). Equal) exact_readers (λ a b e. refl)
@@ -113,21 +90,18 @@ one_taken true true true false h f = refl
 
 -- it is among the new ones, and stays
 pub one_stays : (t e a n h : Bool) → (e ≡ true → n ≡ true) → (not (t && (a && not n)) && h) ≡ (not (t && ((a || e) && not n)) && h)
+one_stays true true a false h f = let no = f refl in cc
 one_stays false e a n h f = refl
 one_stays true false false n h f = refl
 one_stays true false true n h f = refl
-one_stays true true a false h f = let no = f refl in cc
 one_stays true true false true h f = refl
 one_stays true true true true h f = refl
 
 -- it isn't there, and is put
 pub one_put : (t e a h : Bool) → ((e && t) || ((t && a) || h)) ≡ ((t && (a || e)) || h)
-one_put false false a h = refl
-one_put false true a h = refl
-one_put true false false h = refl
-one_put true false true h = refl
-one_put true true false h = refl
-one_put true true true h = refl
+one_put t e a h =
+    sym (or_assoc (e && t) (t && a) h)
+    ∙ ap (λ b. b || h) (ap (λ b. b || (t && a)) (and_comm e t) ∙ or_comm (t && e) (t && a) ∙ sym (and-or_distrib_left t a e))
 
 -- it is there
 pub one_there : (t e a h : Bool) → (e ≡ true → t ≡ true → ((t && a) || h) ≡ true) → ((t && a) || h) ≡ ((t && (a || e)) || h)

@@ -1,3 +1,4 @@
+pub mod KeyByKey
 pub mod NamesAfter
 pub mod Ties
 pub mod Unedited

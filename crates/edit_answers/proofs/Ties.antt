@@ -1,20 +1,11 @@
--- Names and identifiers that tie, either way round.
-use Rattle.std.proofs.Common.{◌≡◌, ℕ, Bool, true, false, ◌||◌, refl, sym, ◌∙◌, arith}
+-- Identifiers that tie, either way round.
+use Rattle.std.proofs.Common.{◌≡◌, ℕ, sym, ◌∙◌, arith}
 use Rattle.std.specs.Prelude.{◌==◌, ◌&&◌}
 use Rattle.std.specs.Ordering.{is_eq}
 use Rattle.std.proofs.lemmas.Bool.Decides.{nat_tests}
-use Rattle.s57_types.specs.declared.name.RecName.{RecName}
 use Rattle.s57_types.specs.declared.name.Lnam.{Lnam}
-use Rattle.cell_spec.specs.Names.{identity_order, name_order}
-use Rattle.cell_spec.proofs.Orders.{identities_tie, names_tie, same_from_either}
-
--- neither is one more
-pub or_none : (b : Bool) → b ≡ (b || (false || false))
-or_none true = refl
-or_none false = refl
-
-pub names_flip : (n m : RecName) → is_eq (name_order n m) ≡ is_eq (name_order m n)
-names_flip n m = names_tie n m ∙ same_from_either m n ∙ sym (names_tie m n)
+use Rattle.cell_spec.specs.Names.{identity_order}
+use Rattle.cell_spec.proofs.Orders.{identities_tie}
 
 numbers_flip : (a b : ℕ) → (a == b) ≡ (b == a)
 numbers_flip a b = grind (arith, nat_tests)

@@ -60,11 +60,11 @@ taken_by_size c edits =
     by (nat_lt record_limit records) (leave_a_long_head edits c) (nat_lt finding_limit (finding_total (apply_edits edits c)))
     ∙ ap (λ b. b && not (leave_a_long_head edits c)) (within_or_above record_limit records)
   where
-    records : ℕ
-    records = length (all_records (apply_edits edits c))
-
     bytes : ℕ
     bytes = identification_length (head_after edits c.head)
+
+    records : ℕ
+    records = length (all_records (apply_edits edits c))
 
     by : (full long many : Bool) → is_taken (if full then Some (CellFull records) else
         (if long then Some (HeadTooLong bytes) else (if many then Some FindingsFull else None))) ≡ (not full && not long)

@@ -1,16 +1,16 @@
 -- The places of edits, noted one after the other and found by their names.
-use Rattle.std.proofs.Common.{◌≡◌, ℕ, zero, suc, ◌+◌, ◌<◌, ◌≤◌, ◌⊎◌, inl, inr, ◌==◌, ◌&&◌, ◌||◌, Bool, true, false, List, [], ◌∷◌, ◌++◌, Option, Some, None}
-use Rattle.std.proofs.Common.{length, map, get_or, set, take, replicate, cond, refl, sym, ◌∙◌, ap, subst, arith, length-append, length-set}
-use Rattle.std.specs.Prelude.{find, slice_get, option_and_then, is_some, nat_lt, IfSome}
+use Rattle.std.proofs.Common.{◌≡◌, ℕ, ◌+◌, ◌<◌, ◌⊎◌, inl, inr, ◌==◌, ◌||◌, Bool, true, false, List, [], ◌∷◌, ◌++◌, Option, Some, None}
+use Rattle.std.proofs.Common.{length, map, get_or, set, replicate, cond, refl, sym, ◌∙◌, ap, subst, arith, length-append, length-set}
+use Rattle.std.specs.Prelude.{slice_get, option_and_then, is_some, nat_lt, IfSome}
 use Rattle.std.specs.Borrow.{Bor}
 use Rattle.std.specs.List.{list_any}
 use Rattle.std.specs.List.Sorted.{IsSorted, IsStrictlySortedBy, IsNonDecreasingBy, IsPartitionPoint}
 use Rattle.std.specs.Option.{option_copied, option_or}
 use Rattle.std.specs.Ordering.{is_eq, is_lt, ordering_index, ordering_reverse}
-use Rattle.std.specs.declared.cmp.Ordering.{Ordering}
 use Rattle.std.specs.declared.cmp.Ordering.TheVariants.{Less, Equal, Greater}
-use Rattle.std.proofs.Math.Nat.{eq-or-lt_of_le}
-use Rattle.std.proofs.lemmas.Bool.{and_from, cases_order, eq-eqb, ltb-false, ltb-true}
+use Rattle.std.proofs.Math.ListN.{get_or-append}
+use Rattle.std.proofs.Math.Seq.{get_or-append_seam}
+use Rattle.std.proofs.lemmas.Bool.{and_from, cases_lt, cases_order, eq-eqb, ltb-false, ltb-true}
 use Rattle.std.proofs.lemmas.Grind.{get_or-set_at}
 use Rattle.std.proofs.lemmas.List.{get_or-replicate, get_or-set_other, length-replicate}
 use Rattle.std.proofs.lemmas.List.Folds.{find-append, list_any_at, list_any_none}
@@ -29,28 +29,9 @@ use Rattle.edit_sets.specs.FormFault.{has_edit_of}
 use Rattle.edit_sets.specs.Places.{ArePlaces, IsPlaceOf}
 
 -- ---- a name among names in order
-not_lt : (o : Ordering) → o ≡ Less → is_lt (ordering_reverse o) ≡ false
-not_lt Less e = refl
-not_lt Equal e = refl
-not_lt Greater e = absurd cc
-
 sorted_names : (names : List RecName) → IsStrictlySortedBy name_order names → IsSorted name_order names
-sorted_names names rises = λ k d low within.
-    let less = Less-from_sorted name_order names k (k + 1) d rises (omega arith) within in
-    ap is_lt (total_names.antisymm (get_or names (k + 1) d) (get_or names k d)) ∙ not_lt (name_order (get_or names k d) (get_or names (k + 1) d)) less
-
-no_tie : (o : Ordering) → (o ≡ Less) ⊎ (o ≡ Greater) → is_eq (ordering_reverse o) ≡ false
-no_tie Less e = refl
-no_tie Equal (inl e) = absurd cc
-no_tie Equal (inr e) = absurd cc
-no_tie Greater e = refl
-
-side_of : (k i : ℕ) → (k < i) ⊎ (i ≤ k)
-side_of k zero = inr (omega arith)
-side_of k (suc i) = elim (side_of k i) [
-  | inl h ↦ inl (omega (arith, h))
-  | inr h ↦ elim (eq-or-lt_of_le h) [ inl e ↦ inl (omega (arith, e)) | inr l ↦ inr (omega (arith, l)) ]
-]
+sorted_names names rises = λ k d low within. ap is_lt (total_names.antisymm (get_or names (k + 1) d) (get_or names k d)
+    ∙ ap ordering_reverse (Less-from_sorted name_order names k (k + 1) d rises (omega arith) within))
 
 -- a name that a search doesn't find is none of the names
 pub none_there : (names : List RecName) (name : RecName) (i : ℕ) → IsStrictlySortedBy name_order names
@@ -61,9 +42,12 @@ none_there names name i rises cut =
     let parts = cut (searchable_from_sorted total_names (λ n. n) names name (sorted_names names rises)) in
     list_any_none (λ other. same_name other name) names (λ k d within.
     let found = get_or names k d in
-    let either : (name_order found name ≡ Less) ⊎ (name_order found name ≡ Greater) =
-    elim (side_of k i) [ inl h ↦ inl (parts.0 k d (omega arith) h) | inr h ↦ inr (parts.1 k d h within) ] in
-    sym (names_tie name found) ∙ ap is_eq (total_names.antisymm name found) ∙ no_tie (name_order found name) either)
+    let turned = total_names.antisymm name found in
+    let apart : is_eq (name_order name found) ≡ false = elim (cases_lt k i) [
+      | inl h ↦ ap is_eq (turned ∙ ap ordering_reverse (parts.0 k d (omega arith) h))
+      | inr h ↦ ap is_eq (turned ∙ ap ordering_reverse (parts.1 k d h within))
+    ] in
+    sym (names_tie name found) ∙ apart)
 
 -- a name that a search finds is there
 pub one_there : (names : List RecName) (name : RecName) (place : ℕ) → place < length names
@@ -123,14 +107,13 @@ none_when (Some edit) h = absurd cc
 pub no_edit : (edits : List Edit) (name : RecName) → has_edit_of name edits ≡ false → None ≡ edit_of name edits
 no_edit edits name none = sym (none_when (edit_of name edits) (some_found name edits ∙ none))
 
-at_front : {X : Type 0} (xs ys : List X) (k : ℕ) → k < length xs → slice_get (xs ++ ys) k ≡ slice_get xs k
-at_front [] ys k within = absurd (omega arith)
-at_front (x ∷ xs) ys zero within = refl
-at_front (x ∷ xs) ys (suc k) within = at_front xs ys k (omega arith)
+at_front : {X : Type 0} (xs ys : List X) (k : ℕ) (d : X) → k < length xs → slice_get (xs ++ ys) k ≡ slice_get xs k
+at_front xs ys k d within =
+    slice_get-get_or (xs ++ ys) k d (omega (arith, within, length-append xs ys)) ∙ ap Some (get_or-append xs ys d k within)
+    ∙ sym (slice_get-get_or xs k d within)
 
 at_end : {X : Type 0} (xs : List X) (y : X) → slice_get (xs ++ (y ∷ [])) (length xs) ≡ Some y
-at_end [] y = refl
-at_end (x ∷ xs) y = at_end xs y
+at_end xs y = slice_get-get_or (xs ++ (y ∷ [])) (length xs) y (omega (arith, length-append xs (y ∷ []))) ∙ ap Some (get_or-append_seam xs y [] y)
 
 edit_more : (name : RecName) (earlier : List Edit) (edit : Edit) (found : Option Edit) (named : Bool) → edit_of name earlier ≡ found
     → same_name (name_of_edit edit) name ≡ named
@@ -144,7 +127,8 @@ kept_place earlier edit name None other is = edit_more name earlier edit None fa
 kept_place earlier edit name (Some place) other is =
     let there : slice_get earlier place ≡ Some (get_or earlier place edit) = slice_get-get_or earlier place edit is.0 in (
       (let inside = is.0 in omega (arith, inside, length-append earlier (edit ∷ []))),
-      at_front earlier (edit ∷ []) place is.0 ∙ there ∙ sym (edit_more name earlier edit (Some (get_or earlier place edit)) false (sym is.1 ∙ there) other),
+      at_front earlier (edit ∷ []) place edit is.0 ∙ there
+          ∙ sym (edit_more name earlier edit (Some (get_or earlier place edit)) false (sym is.1 ∙ there) other),
     )
 
 new_place : (earlier : List Edit) (edit : Edit) (name : RecName) → same_name (name_of_edit edit) name ≡ true → edit_of name earlier ≡ None

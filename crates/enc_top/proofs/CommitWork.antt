@@ -39,10 +39,10 @@ there true why e = refl
 there false why e = cc
 
 taken_edit : (c : Cell) (edit : Edit) → has_its_record c edit ≡ true → edit_refusal c edit ≡ None
-taken_edit c (Add r) found = free (is_some (listed_record c (name_of r))) (AddExists (name_of r)) found
-taken_edit c (Set r) found = there (is_some (listed_record c (name_of r))) (SetMissing (name_of r)) found
-taken_edit c (Del n) found = there (is_some (listed_record c n)) (DelMissing n) found
-taken_edit c (Head e) found = refl
+taken_edit c (Add r) = free (is_some (listed_record c (name_of r))) (AddExists (name_of r))
+taken_edit c (Set r) = there (is_some (listed_record c (name_of r))) (SetMissing (name_of r))
+taken_edit c (Del n) = there (is_some (listed_record c n)) (DelMissing n)
+taken_edit c (Head e) = λ found. refl
 
 none_first : (c : Cell) (edits : List Edit) → find_their_records edits c ≡ true → first_of (filter_map (edit_refusal c) edits) ≡ None
 none_first c [] found = refl
@@ -54,21 +54,18 @@ abbrev IsLargeOrNone : Option StateRefusal → Type 0
 IsLargeOrNone None = Unit {0}
 IsLargeOrNone (Some why) = IsTooLarge why
 
+large_by : (records bytes : ℕ) (full long many : Bool) → IsLargeOrNone (if full then Some (CellFull records) else
+    (if long then Some (HeadTooLong bytes) else (if many then Some FindingsFull else None)))
+large_by records bytes true long many = tt
+large_by records bytes false true many = tt
+large_by records bytes false false true = tt
+large_by records bytes false false false = tt
+
 large_size : (c : Cell) (edits : List Edit) → IsLargeOrNone (size_refusal c edits)
-large_size c edits = by (nat_lt record_limit records) (leave_a_long_head edits c) (nat_lt finding_limit (finding_total (apply_edits edits c)))
-  where
-    records : ℕ
-    records = length (all_records (apply_edits edits c))
-
-    bytes : ℕ
-    bytes = identification_length (head_after edits c.head)
-
-    by : (full long many : Bool) → IsLargeOrNone (if full then Some (CellFull records) else
-        (if long then Some (HeadTooLong bytes) else (if many then Some FindingsFull else None)))
-    by true long many = tt
-    by false true many = tt
-    by false false true = tt
-    by false false false = tt
+large_size c edits =
+    let records = length (all_records (apply_edits edits c)) in
+    large_by records (identification_length (head_after edits c.head)) (nat_lt record_limit records) (leave_a_long_head edits c)
+    (nat_lt finding_limit (finding_total (apply_edits edits c)))
 
 -- they are refused only where the edited cell would be too large
 large_state : (c : Cell) (edits : List Edit) → find_their_records edits c ≡ true → IsLargeOrNone (state_refusal c edits)

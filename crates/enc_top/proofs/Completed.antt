@@ -41,15 +41,8 @@ use Rattle.call_files.proofs.GoodFiles.{cell_is, content_is, not_above, order_is
 
 -- ---- the words name few scripts
 abbrev FewScripts : Form → Type 0
-FewScripts (check_form cell) = Unit {0}
 FewScripts (replay_form cell out order scripts) = length scripts ≤ 16
-FewScripts (room_form cell out scripts) = Unit {0}
-FewScripts (make_form n out) = Unit {0}
-FewScripts (drill_form n sessions) = Unit {0}
-FewScripts (edge_form cell out operation) = Unit {0}
-FewScripts (probe_form cell at) = Unit {0}
-FewScripts (apply_form cell out update) = Unit {0}
-FewScripts no_form = Unit {0}
+FewScripts other = Unit {0}
 
 few_by : (b : Bool) (x y : Form) → FewScripts x → FewScripts y → FewScripts (cond b x y)
 few_by true x y p q = p
@@ -302,22 +295,17 @@ out_read_back : (cell out order : List ℕ) (scripts : List (List ℕ)) (task : 
     → AreWritten task.file a b → Told (IsOutReadBack cell out order scripts) a b
 out_read_back cell out order scripts task None b run written = tt
 out_read_back cell out order scripts task (Some fs) None run written = tt
-out_read_back cell out order scripts task (Some fs) (Some gs) run written =
-    let c = run.start in
-    let commands = run.run.commands in
-    let sessions = run.run.run.sessions in
-    let wrote = subst (λ (t : Task). AreWritten t.file (Some fs) (Some gs)) run.run.run.is written in
-    record {
-      start = c;
-      cell_is = run.told;
-      commands = commands;
-      scripts_are = run.run.told;
-      sessions = sessions;
-      order_is = run.run.run.told;
-      bytes = encoded_cell (final_cell c commands sessions);
-      there = wrote.written;
-      decoded = run.run.run.read_back;
-    }
+out_read_back cell out order scripts task (Some fs) (Some gs) run written = record {
+  start = run.start;
+  cell_is = run.told;
+  commands = run.run.commands;
+  scripts_are = run.run.told;
+  sessions = run.run.run.sessions;
+  order_is = run.run.run.told;
+  bytes = encoded_cell (final_cell run.start run.run.commands run.run.run.sessions);
+  there = (subst (λ (t : Task). AreWritten t.file (Some fs) (Some gs)) run.run.run.is written).written;
+  decoded = run.run.run.read_back;
+}
 
 -- a text that was put begins as it does
 put_from : (front text : List ℕ) (a b : Option (List ℕ)) → IsPrefix front text → Told (Adds text) a b → Told (AddsFrom front) a b
@@ -330,21 +318,18 @@ room_read_back : (cell out : List ℕ) (scripts : List (List ℕ)) (task : Task)
 room_read_back cell out scripts task before after None b run put written = tt
 room_read_back cell out scripts task before after (Some fs) None run put written = tt
 room_read_back cell out scripts task before after (Some fs) (Some gs) run put written =
-    let c = run.start in
-    let commands = run.run.commands in
-    let sessions = run.run.run.sessions in
-    let wrote = subst (λ (t : Task). AreWritten t.file (Some fs) (Some gs)) run.run.run.is written in
+    let ran = run.run.run in
     record {
-      start = c;
+      start = run.start;
       cell_is = run.told;
-      commands = commands;
+      commands = run.run.commands;
       scripts_are = run.run.told;
-      sessions = sessions;
-      order = run.run.run.order;
-      line = put_from (order_line sessions) task.text before.written after.written run.run.run.begins put;
-      bytes = encoded_cell (final_cell c commands sessions);
-      there = wrote.written;
-      decoded = run.run.run.read_back;
+      sessions = ran.sessions;
+      order = ran.order;
+      line = put_from (order_line ran.sessions) task.text before.written after.written ran.begins put;
+      bytes = encoded_cell (final_cell run.start run.run.commands ran.sessions);
+      there = (subst (λ (t : Task). AreWritten t.file (Some fs) (Some gs)) ran.is written).written;
+      decoded = ran.read_back;
     }
 
 made_read_back : (n : ℕ) (out : List ℕ) (task : Task) (a b : Option Files) → IsMakeOf n out task → AreWritten task.file a b
@@ -359,18 +344,16 @@ edge_read_back : (cell out : List ℕ) (operation : Operation) (task : Task) (a 
     → AreWritten task.file a b → Told (IsEdgeReadBack cell out operation) a b
 edge_read_back cell out operation task None b work written = tt
 edge_read_back cell out operation task (Some fs) None work written = tt
-edge_read_back cell out operation task (Some fs) (Some gs) work written =
-    let wrote = subst (λ (t : Task). AreWritten t.file (Some fs) (Some gs)) work.is written in
-    record {
-      start = work.start;
-      cell_is = work.told;
-      left = work.left;
-      is_left = work.left_by.is_left;
-      kept = work.left_by.kept;
-      bytes = encoded_cell work.left;
-      there = wrote.written;
-      decoded = work.left_by.read_back;
-    }
+edge_read_back cell out operation task (Some fs) (Some gs) work written = record {
+  start = work.start;
+  cell_is = work.told;
+  left = work.left;
+  is_left = work.left_by.is_left;
+  kept = work.left_by.kept;
+  bytes = encoded_cell work.left;
+  there = (subst (λ (t : Task). AreWritten t.file (Some fs) (Some gs)) work.is written).written;
+  decoded = work.left_by.read_back;
+}
 
 update_read_back : (cell out update : List ℕ) (task : Task) (a b : Option Files) → IsUpdateWorkOf cell out update a task → AreWritten task.file a b
     → Told (IsUpdateReadBack cell out update) a b

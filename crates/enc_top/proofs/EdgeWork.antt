@@ -141,12 +141,6 @@ module _ (cell out : List ℕ) (operation : Operation) (files : Option Files) (b
     pub operation_done : (left : Cell) (work : Work) → operated start operation ≡ Ok left → OperationKeeps start left operation
         → decoded_cell (encoded_cell left) ≡ Ok left → task_of work ≡ left_task left out → IsAskedBy ⊥ form files before after (Ok work)
     operation_done left work is kept back task = (
-      record {
-        start = start;
-        told = good;
-        left = left;
-        left_by = record { is_left = is; kept = kept; read_back = back };
-        is = task;
-      },
+      record { start = start; told = good; left = left; left_by = record { is_left = is; kept = kept; read_back = back }; is = task },
       both_told files good good (λ fs at again. inl (start, at, inl (left, is, ap Ok task))),
     )

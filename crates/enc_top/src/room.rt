@@ -1,14 +1,14 @@
 //! Sessions in threads, as one call.
 
 ghost use Rattle.std.specs.Prelude.{◌≡◌, ◌≤◌, true, All, IfErr, IfOk, length, map, string_bytes};
-ghost use Rattle.export_laws.specs.ExportedCells.{IsScriptOfText};
-ghost use Rattle.call_files.specs.Inputs.{IsCellOfFile};
 ghost use Rattle.enc_top.specs.Inputs.{IsRunInRoom};
+ghost use Rattle.enc_top.specs.Words.{begins_with_room, form_of, room_form};
 ghost use Rattle.enc_top.specs.Outcome.{IsAskedBy};
+ghost use Rattle.call_files.specs.Inputs.{IsCellOfFile};
 ghost use Rattle.call_files.specs.Task.{task_of};
-ghost use Rattle.enc_top.specs.Words.{begins_with_room, form_of};
-ghost use Rattle.room_run.specs.Rooms.{IsRunEnd};
 ghost use Rattle.sessions.specs.Replays.{IsShortScript, session_limit};
+ghost use Rattle.export_laws.specs.ExportedCells.{IsScriptOfText};
+ghost use Rattle.room_run.specs.Rooms.{IsRunEnd};
 
 use crate::work::work_of;
 use call_files::{Work, read_bench, read_scripts};
@@ -36,11 +36,11 @@ pub(crate) fn asked_room<R: Threads + Wait + Sync, H: Shelf, M: Meet + Sync>(
     meet: &M,
 ) -> Result<Work, Status>
     requires { begins_with_room (map string_bytes words.now) ≡ true }
-    ensures asked { IsAskedBy (M.sticks meet.now) (form_of (map string_bytes words.now))
-        (H.files shelf.old) (H.read_faults shelf.old) (H.read_faults shelf.new) result }
     ensures files { H.files shelf.new ≡ H.files shelf.old }
     ensures read_faults { H.read_faults shelf.old ≤ H.read_faults shelf.new }
     ensures write_faults { H.write_faults shelf.new ≡ H.write_faults shelf.old }
+    ensures asked { IsAskedBy (M.sticks meet.now) (form_of (map string_bytes words.now))
+        (H.files shelf.old) (H.read_faults shelf.old) (H.read_faults shelf.new) result }
 {
     let [_, cell, out, names @ ..] = words else {
         return Err(Status::Usage);
@@ -48,7 +48,28 @@ pub(crate) fn asked_room<R: Threads + Wait + Sync, H: Shelf, M: Meet + Sync>(
     if names.is_empty() || names.len() > SESSION_LIMIT {
         return Err(Status::Usage);
     }
-    let bench = match read_bench(alloc, shelf, cell.as_str()) {
+    room_on(rt, alloc, shelf, cell.as_str(), out.as_str(), names, meet)
+}
+
+/// The same of the names of the cell's file, of the file to be made and of the scripts.
+fn room_on<R: Threads + Wait + Sync, H: Shelf, M: Meet + Sync>(
+    rt: &R,
+    alloc: Global,
+    shelf: &mut H,
+    cell: &str,
+    out: &str,
+    names: &[String],
+    meet: &M,
+) -> Result<Work, Status>
+    requires some { 1 ≤ length names.now }
+    requires few { length names.now ≤ session_limit }
+    ensures files { H.files shelf.new ≡ H.files shelf.old }
+    ensures read_faults { H.read_faults shelf.old ≤ H.read_faults shelf.new }
+    ensures write_faults { H.write_faults shelf.new ≡ H.write_faults shelf.old }
+    ensures asked { IsAskedBy (M.sticks meet.now) (room_form cell.now out.now (map string_bytes names.now))
+        (H.files shelf.old) (H.read_faults shelf.old) (H.read_faults shelf.new) result }
+{
+    let bench = match read_bench(alloc, shelf, cell) {
         Ok(bench) => bench,
         Err(status) => return Err(status),
     };
@@ -56,7 +77,7 @@ pub(crate) fn asked_room<R: Threads + Wait + Sync, H: Shelf, M: Meet + Sync>(
         Ok(scripts) => scripts,
         Err(status) => return Err(status),
     };
-    match room_work(rt, alloc, bench, out.as_str(), scripts, meet) {
+    match room_work(rt, alloc, bench, out, scripts, meet) {
         Ok(work) => Ok(work),
         Err(RunEnd::Stuck(stuck)) => Err(Status::Stuck(stuck.desk, stuck.serial)),
         Err(RunEnd::NoMemory) => Err(Status::NoMemory),

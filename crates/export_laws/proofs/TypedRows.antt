@@ -27,9 +27,7 @@ use Rattle.export_laws.specs.DecodedTypes.{AreFileBytes}
 in_range : (s : Subfield) → IsSubfield s → IsInRange s
 in_range (unsigned_of w n) is = is
 in_range (signed_of z) is = is
-in_range (text_of t) is = tt
-in_range (wide_text_of t) is = tt
-in_range (fixed_of t) is = tt
+in_range s is = tt
 
 has_forms : (forms : List Form) (row : List Subfield) → IsRow forms row → HasForms forms row
 has_forms forms row is = record { forms_are = is.forms_are; each = each_weaker IsSubfield IsInRange in_range row is.each }

@@ -25,9 +25,7 @@ use Rattle.export_laws.specs.ScriptTypes.{ScriptHasItsTypes}
 in_range : (s : Subfield) → IsOfWidth s → IsInRange s
 in_range (unsigned_of w n) fits = fits
 in_range (signed_of z) fits = fits
-in_range (text_of t) fits = tt
-in_range (wide_text_of t) fits = tt
-in_range (fixed_of t) fits = tt
+in_range s fits = tt
 
 abbrev AreInRange : List Subfield → Type 0
 AreInRange = AllByRecursion IsInRange

@@ -1,5 +1,5 @@
 -- Each of the fifteen fields is read as a value exactly where its bytes spell the value.
-use Rattle.std.proofs.Common.{◌≡◌, ◌↔◌, ◌==◌, ◌&&◌, ◌<◌, ◌≤◌, ℕ, true, nat_le, List, map, Ok, All, refl, ap, arith}
+use Rattle.std.proofs.Common.{◌≡◌, ◌↔◌, ◌==◌, ◌&&◌, ◌<◌, ◌≤◌, ℕ, true, nat_le, List, map, Ok, All, refl, arith}
 use Rattle.std.specs.Prelude.{ℤ}
 use Rattle.std.specs.List.{AllByRecursion}
 use Rattle.std.proofs.lemmas.Bool.Decides.{nat_tests}
@@ -7,7 +7,6 @@ use Rattle.s57_types.specs.FieldRows.{number_forms, dsid_forms, dssi_forms, dspm
 use Rattle.s57_types.specs.FieldRows.{vrid_forms, end_forms, plane_forms, deep_forms, number_row, dsid_row, dssi_row, dspm_row, frid_row, foid_row}
 use Rattle.s57_types.specs.FieldRows.{attribute_row, partner_row, place_row, vrid_row, end_row, plane_row, deep_row}
 use Rattle.s57_types.specs.Fitness.{is_vector_kind}
-use Rattle.s57_types.specs.declared.name.Kind.{Kind}
 use Rattle.s57_types.specs.declared.name.Lnam.{Lnam}
 use Rattle.s57_types.specs.declared.record.Attr.{Attr}
 use Rattle.s57_types.specs.declared.record.End.{End}
@@ -27,7 +26,7 @@ use Rattle.field_spec.proofs.Decided.{row_decided, row_told, rows_decided, rows_
 use Rattle.field_spec.proofs.Respelled.{number_respelled, dsid_respelled, dssi_respelled, dspm_respelled, frid_respelled, foid_respelled, vrid_respelled}
 use Rattle.field_spec.proofs.Respelled.{attribute_respelled, partner_respelled, place_respelled, end_respelled, plane_respelled, deep_respelled}
 use Rattle.field_spec.proofs.Respelled.{vector_named}
-use Rattle.field_spec.proofs.Written.{dssi_value-row, attribute_value-row, attribute_rows_told, kind_of_rcnm-rcnm_of, vector_rcnm}
+use Rattle.field_spec.proofs.Written.{dssi_value-row, attribute_value-row, attribute_rows_told, place_has_value, end_has_value, vrid_has_value}
 
 pub number_decided : (b : List ℕ) (n : ℕ) → All (λ c. c < 256) b → (number_content b ≡ Ok n ↔ SpellsRow number_forms (number_row n) b)
 unfolding number_content
@@ -68,15 +67,8 @@ foid_decided b d bytes = row_told foid_row lnam_in foid_forms any_row (λ cut is
 pub vrid_decided : (b : List ℕ) (d : Vrid) → All (λ c. c < 256) b
     → (vrid_content b ≡ Ok d ↔ (SpellsRow vrid_forms (vrid_row d) b × (is_vector_kind d.name.kind ≡ true)))
 unfolding vrid_content
-vrid_decided b d bytes = row_decided vrid_row vrid_value vrid_forms names_a_vector (λ (d : Vrid). is_vector_kind d.name.kind ≡ true) (record {
-  respelled = vrid_respelled;
-  passes = vector_named;
-  valued = λ d is vector. record {
-    fit = is;
-    is_good = vector_rcnm d.name.kind vector;
-    value_is = ap (λ (k : Kind). record d { name = record { kind = k; id = d.name.id } }) (kind_of_rcnm-rcnm_of d.name.kind vector);
-  };
-}) b d bytes
+vrid_decided b d bytes = row_decided vrid_row vrid_value vrid_forms names_a_vector (λ (d : Vrid). is_vector_kind d.name.kind ≡ true)
+    (record { respelled = vrid_respelled; passes = vector_named; valued = vrid_has_value }) b d bytes
 
 pub attributes_decided : (level : ℕ) (b : List ℕ) (attrs : List Attr) → All (λ c. c < 256) b
     → (attribute_content level b ≡ Ok attrs ↔ SpellsRows level (attribute_forms level) (map (attribute_row level) attrs) b)
@@ -96,28 +88,14 @@ pub places_decided : (b : List ℕ) (places : List Spot) → All (λ c. c < 256)
     → (place_content b ≡ Ok places ↔ (SpellsRows 0 place_forms (map place_row places) b
     × AllByRecursion (λ s. is_vector_kind s.to.kind ≡ true) places))
 unfolding place_content
-places_decided b places bytes = rows_decided place_row place_value place_forms names_a_vector (λ (s : Spot). is_vector_kind s.to.kind ≡ true) (record {
-  respelled = place_respelled;
-  passes = vector_named;
-  valued = λ s is vector. record {
-    fit = is;
-    is_good = vector_rcnm s.to.kind vector;
-    value_is = ap (λ (k : Kind). record s { to = record { kind = k; id = s.to.id } }) (kind_of_rcnm-rcnm_of s.to.kind vector);
-  };
-}) 0 (record { takes = refl; fits = refl }) b places bytes
+places_decided b places bytes = rows_decided place_row place_value place_forms names_a_vector (λ (s : Spot). is_vector_kind s.to.kind ≡ true)
+    (record { respelled = place_respelled; passes = vector_named; valued = place_has_value }) 0 (record { takes = refl; fits = refl }) b places bytes
 
 pub ends_decided : (b : List ℕ) (ends : List End) → All (λ c. c < 256) b
     → (end_content b ≡ Ok ends ↔ (SpellsRows 0 end_forms (map end_row ends) b × AllByRecursion (λ e. is_vector_kind e.to.kind ≡ true) ends))
 unfolding end_content
-ends_decided b ends bytes = rows_decided end_row end_value end_forms names_a_vector (λ (e : End). is_vector_kind e.to.kind ≡ true) (record {
-  respelled = end_respelled;
-  passes = vector_named;
-  valued = λ e is vector. record {
-    fit = is;
-    is_good = vector_rcnm e.to.kind vector;
-    value_is = ap (λ (k : Kind). record e { to = record { kind = k; id = e.to.id } }) (kind_of_rcnm-rcnm_of e.to.kind vector);
-  };
-}) 0 (record { takes = refl; fits = refl }) b ends bytes
+ends_decided b ends bytes = rows_decided end_row end_value end_forms names_a_vector (λ (e : End). is_vector_kind e.to.kind ≡ true)
+    (record { respelled = end_respelled; passes = vector_named; valued = end_has_value }) 0 (record { takes = refl; fits = refl }) b ends bytes
 
 pub plane_decided : (b : List ℕ) (points : List (ℤ × ℤ)) → All (λ c. c < 256) b
     → (plane_content b ≡ Ok points ↔ SpellsRows 0 plane_forms (map plane_row points) b)

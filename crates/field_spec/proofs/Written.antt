@@ -7,17 +7,22 @@ use Rattle.std.specs.List.{flat_map, list_all, AllByRecursion}
 use Rattle.std.specs.Result.{result_map_both}
 use Rattle.s57_types.specs.Subfield.{Form, Subfield, form_of, row_bytes, field_terminator, is_plain, text, wide_text, unsigned, unsigned_of, text_of}
 use Rattle.s57_types.specs.Subfield.{wide_text_of}
-use Rattle.s57_types.specs.FieldRows.{dssi_forms, dssi_row, rcnm_of, attribute_forms, attribute_row}
+use Rattle.s57_types.specs.FieldRows.{dssi_forms, dssi_row, rcnm_of, attribute_forms, attribute_row, place_forms, place_row, end_forms, end_row}
+use Rattle.s57_types.specs.FieldRows.{vrid_forms, vrid_row}
 use Rattle.s57_types.specs.RecordFields.{terminator_of}
 use Rattle.s57_types.specs.Fitness.{is_vector_kind}
 use Rattle.s57_types.specs.declared.name.Kind.{Kind}
 use Rattle.s57_types.specs.declared.name.Kind.TheVariants.{Vi, Vc, Ve, Fe, Head}
 use Rattle.s57_types.specs.declared.record.Attr.{Attr}
+use Rattle.s57_types.specs.declared.record.End.{End}
+use Rattle.s57_types.specs.declared.record.Spot.{Spot}
 use Rattle.s57_types.specs.declared.field.Dssi.{Dssi}
+use Rattle.s57_types.specs.declared.field.Vrid.{Vrid}
 use Rattle.field_spec.specs.FieldContent.{IsRow, IsField, IsFieldOfRows}
 use Rattle.field_spec.specs.FieldBytes.{field_bytes, rows_bytes}
 use Rattle.field_spec.specs.FieldFit.{CanRepeat, IsFit, is_even}
 use Rattle.field_spec.specs.Contents.{judged, judged_row, row_as, rows_as, kind_of_rcnm, is_vector_rcnm, attribute_value, dssi_value, number_value}
+use Rattle.field_spec.specs.Contents.{names_a_vector, place_value, end_value, vrid_value}
 use Rattle.field_spec.specs.declared.fault.FieldFault.TheVariants.{BadField, BadText}
 use Rattle.field_spec.proofs.FieldsSpelled.{row_of_field, rows_of_field}
 
@@ -123,6 +128,22 @@ vector_rcnm Vc e = refl
 vector_rcnm Ve e = refl
 vector_rcnm Fe e = absurd cc
 vector_rcnm Head e = absurd cc
+
+-- values with names of vector records
+pub place_has_value : (x : Spot) → IsFit place_forms (place_row x) → is_vector_kind x.to.kind ≡ true
+    → HasValue place_value place_forms names_a_vector (place_row x) x
+place_has_value x fit vector = let same = kind_of_rcnm-rcnm_of x.to.kind vector in
+    record { fit = fit; is_good = vector_rcnm x.to.kind vector; value_is = ap (λ (k : Kind). record x { to = record { kind = k; id = x.to.id } }) same }
+
+pub end_has_value : (x : End) → IsFit end_forms (end_row x) → is_vector_kind x.to.kind ≡ true
+    → HasValue end_value end_forms names_a_vector (end_row x) x
+end_has_value x fit vector = let same = kind_of_rcnm-rcnm_of x.to.kind vector in
+    record { fit = fit; is_good = vector_rcnm x.to.kind vector; value_is = ap (λ (k : Kind). record x { to = record { kind = k; id = x.to.id } }) same }
+
+pub vrid_has_value : (x : Vrid) → IsFit vrid_forms (vrid_row x) → is_vector_kind x.name.kind ≡ true
+    → HasValue vrid_value vrid_forms names_a_vector (vrid_row x) x
+vrid_has_value x fit vector = let same = kind_of_rcnm-rcnm_of x.name.kind vector in
+    record { fit = fit; is_good = vector_rcnm x.name.kind vector; value_is = ap (λ (k : Kind). record x { name = record { kind = k; id = x.name.id } }) same }
 
 pub both_parts : (a b : Bool) → (a && b) ≡ true → (a ≡ true) × (b ≡ true)
 both_parts true b e = (refl, e)

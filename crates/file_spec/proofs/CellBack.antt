@@ -167,43 +167,43 @@ with_all-append c (x ∷ xs) ys = with_all-append (with_record x c) xs ys
 abbrev AreOf : Kind → List Rec → Type 0
 AreOf kind = AllByRecursion (λ r. (name_of r).kind ≡ kind)
 
-with_nodes : (c : Cell) (xs : List Rec) → AreOf Vi xs → with_all c xs ≡ record c { vi = c.vi ++ xs }
-unfolding with_all
-with_nodes c [] are = ap (λ (x : List Rec). record c { vi = x }) (sym (append-nil c.vi))
-with_nodes c (x ∷ xs) are =
-    ap (λ (kind : Kind). with_all (with_record_of_kind kind x c) xs) are.0 ∙ with_nodes (record c { vi = c.vi ++ (x ∷ []) }) xs are.1
-    ∙ ap (λ (y : List Rec). record c { vi = y }) (append_assoc c.vi (x ∷ []) xs)
+-- a cell with records behind those of a kind
+abbrev grown : Kind → Cell → List Rec → Cell
+grown Vi c xs = record c { vi = c.vi ++ xs }
+grown Vc c xs = record c { vc = c.vc ++ xs }
+grown Ve c xs = record c { ve = c.ve ++ xs }
+grown Fe c xs = record c { fe = c.fe ++ xs }
+grown HeadKind c xs = c
 
-with_connected : (c : Cell) (xs : List Rec) → AreOf Vc xs → with_all c xs ≡ record c { vc = c.vc ++ xs }
-unfolding with_all
-with_connected c [] are = ap (λ (x : List Rec). record c { vc = x }) (sym (append-nil c.vc))
-with_connected c (x ∷ xs) are =
-    ap (λ (kind : Kind). with_all (with_record_of_kind kind x c) xs) are.0 ∙ with_connected (record c { vc = c.vc ++ (x ∷ []) }) xs are.1
-    ∙ ap (λ (y : List Rec). record c { vc = y }) (append_assoc c.vc (x ∷ []) xs)
+grown_by_none : (kind : Kind) (c : Cell) → grown kind c [] ≡ c
+grown_by_none Vi c = ap (λ (x : List Rec). record c { vi = x }) (append-nil c.vi)
+grown_by_none Vc c = ap (λ (x : List Rec). record c { vc = x }) (append-nil c.vc)
+grown_by_none Ve c = ap (λ (x : List Rec). record c { ve = x }) (append-nil c.ve)
+grown_by_none Fe c = ap (λ (x : List Rec). record c { fe = x }) (append-nil c.fe)
+grown_by_none HeadKind c = refl
 
-with_edges : (c : Cell) (xs : List Rec) → AreOf Ve xs → with_all c xs ≡ record c { ve = c.ve ++ xs }
-unfolding with_all
-with_edges c [] are = ap (λ (x : List Rec). record c { ve = x }) (sym (append-nil c.ve))
-with_edges c (x ∷ xs) are =
-    ap (λ (kind : Kind). with_all (with_record_of_kind kind x c) xs) are.0 ∙ with_edges (record c { ve = c.ve ++ (x ∷ []) }) xs are.1
-    ∙ ap (λ (y : List Rec). record c { ve = y }) (append_assoc c.ve (x ∷ []) xs)
+grown_by_more : (kind : Kind) (c : Cell) (x : Rec) (xs : List Rec) → grown kind (with_record_of_kind kind x c) xs ≡ grown kind c (x ∷ xs)
+grown_by_more Vi c x xs = ap (λ (y : List Rec). record c { vi = y }) (append_assoc c.vi (x ∷ []) xs)
+grown_by_more Vc c x xs = ap (λ (y : List Rec). record c { vc = y }) (append_assoc c.vc (x ∷ []) xs)
+grown_by_more Ve c x xs = ap (λ (y : List Rec). record c { ve = y }) (append_assoc c.ve (x ∷ []) xs)
+grown_by_more Fe c x xs = ap (λ (y : List Rec). record c { fe = y }) (append_assoc c.fe (x ∷ []) xs)
+grown_by_more HeadKind c x xs = refl
 
-with_features : (c : Cell) (xs : List Rec) → AreOf Fe xs → with_all c xs ≡ record c { fe = c.fe ++ xs }
+with_kind : (kind : Kind) (c : Cell) (xs : List Rec) → AreOf kind xs → with_all c xs ≡ grown kind c xs
 unfolding with_all
-with_features c [] are = ap (λ (x : List Rec). record c { fe = x }) (sym (append-nil c.fe))
-with_features c (x ∷ xs) are =
-    ap (λ (kind : Kind). with_all (with_record_of_kind kind x c) xs) are.0 ∙ with_features (record c { fe = c.fe ++ (x ∷ []) }) xs are.1
-    ∙ ap (λ (y : List Rec). record c { fe = y }) (append_assoc c.fe (x ∷ []) xs)
+with_kind kind c [] are = sym (grown_by_none kind c)
+with_kind kind c (x ∷ xs) are = ap (λ (k : Kind). with_all (with_record_of_kind k x c) xs) are.0
+    ∙ with_kind kind (with_record_of_kind kind x c) xs are.1 ∙ grown_by_more kind c x xs
 
 whole_cell : (c : Cell) → IsWritable c → with_all (empty_cell c.head) (all_records c) ≡ c
 whole_cell c w =
     with_all-append (empty_cell c.head) (c.vi ++ c.vc ++ c.ve) c.fe
     ∙ ap (λ d. with_all d c.fe) (with_all-append (empty_cell c.head) (c.vi ++ c.vc) c.ve)
     ∙ ap (λ d. with_all (with_all d c.ve) c.fe) (with_all-append (empty_cell c.head) c.vi c.vc)
-    ∙ ap (λ d. with_all (with_all (with_all d c.vc) c.ve) c.fe) (with_nodes (empty_cell c.head) c.vi (recursion_from_All _ c.vi w.isolated_nodes))
-    ∙ ap (λ d. with_all (with_all d c.ve) c.fe) (with_connected (record (empty_cell c.head) { vi = c.vi }) c.vc (recursion_from_All _ c.vc w.connected_nodes))
-    ∙ ap (λ d. with_all d c.fe) (with_edges (record (empty_cell c.head) { vi = c.vi; vc = c.vc }) c.ve (recursion_from_All _ c.ve w.edges))
-    ∙ with_features (record (empty_cell c.head) { vi = c.vi; vc = c.vc; ve = c.ve }) c.fe (recursion_from_All _ c.fe w.features)
+    ∙ ap (λ d. with_all (with_all (with_all d c.vc) c.ve) c.fe) (with_kind Vi (empty_cell c.head) c.vi (recursion_from_All _ c.vi w.isolated_nodes))
+    ∙ ap (λ d. with_all (with_all d c.ve) c.fe) (with_kind Vc (record (empty_cell c.head) { vi = c.vi }) c.vc (recursion_from_All _ c.vc w.connected_nodes))
+    ∙ ap (λ d. with_all d c.fe) (with_kind Ve (record (empty_cell c.head) { vi = c.vi; vc = c.vc }) c.ve (recursion_from_All _ c.ve w.edges))
+    ∙ with_kind Fe (record (empty_cell c.head) { vi = c.vi; vc = c.vc; ve = c.ve }) c.fe (recursion_from_All _ c.fe w.features)
 
 -- in the empty cell all names are new
 all_new : (h : Head) (records : List Rec) → AreNew (empty_cell h) records

@@ -70,7 +70,7 @@ descriptions_lengths [] = refl
 descriptions_lengths (d ∷ ds) = ap (λ n. n ∷ field_lengths (map description_field ds)) (description_length d)
     ∙ ap (λ ns. counted d ∷ ns) (descriptions_lengths ds)
 
-descriptive_length : (aall nall : ℕ) → record_length (field_lengths (descriptive_fields aall nall)) ≡ 1578
+pub descriptive_length : (aall nall : ℕ) → record_length (field_lengths (descriptive_fields aall nall)) ≡ 1578
 unfolding digits counted
 descriptive_length aall nall = ap (λ (ns : List ℕ). record_length (123 ∷ ns)) (descriptions_lengths (descriptions aall nall))
 

@@ -9,11 +9,17 @@ use Rattle.s57_types.specs.FieldRows.{dsid_row, dssi_row, dspm_row}
 use Rattle.s57_types.specs.RecordFields.{number_field, field_of, written_length, length_limit}
 use Rattle.s57_types.specs.declared.fault.CellFault.{CellFault}
 use Rattle.s57_types.specs.declared.name.Kind.TheVariants.{Fe}
+use Rattle.s57_types.specs.declared.name.Lnam.{Lnam}
+use Rattle.s57_types.specs.declared.record.Attr.{Attr}
+use Rattle.s57_types.specs.declared.record.Partner.{Partner}
+use Rattle.s57_types.specs.declared.record.Spot.{Spot}
 use Rattle.s57_types.specs.declared.record.Rec.{Rec}
 use Rattle.s57_types.specs.declared.record.Rec.TheVariants.{V, F}
 use Rattle.s57_types.specs.declared.field.Dsid.{Dsid}
 use Rattle.s57_types.specs.declared.field.Dssi.{Dssi}
 use Rattle.s57_types.specs.declared.field.Dspm.{Dspm}
+use Rattle.s57_types.specs.declared.field.Frid.{Frid}
+use Rattle.s57_types.specs.declared.field.Vrid.{Vrid}
 use Rattle.s57_types.specs.declared.cell.Cell.{Cell}
 use Rattle.field_spec.specs.Contents.{dsid_content, dssi_content, dspm_content, frid_content, foid_content, attribute_content, partner_content}
 use Rattle.field_spec.specs.Contents.{place_content, vrid_content, end_content, plane_content, deep_content}
@@ -31,15 +37,11 @@ use Rattle.file_spec.specs.declared.tag.RecordType.TheVariants as types
 
 abbrev pub is_general_information : RecordType → Bool
 is_general_information types.GeneralInformation = true
-is_general_information types.GeographicReference = false
-is_general_information types.Vector = false
-is_general_information types.Feature = false
+is_general_information type = false
 
 abbrev pub is_geographic_reference : RecordType → Bool
-is_geographic_reference types.GeneralInformation = false
 is_geographic_reference types.GeographicReference = true
-is_geographic_reference types.Vector = false
-is_geographic_reference types.Feature = false
+is_geographic_reference type = false
 
 -- the two head records take no more bytes than they may, when they are written again
 abbrev pub fits_general_information : Dsid → Dssi → Bool
@@ -73,20 +75,44 @@ geographic_reference fields = do
   demand (fits_geographic_reference p) TooLong
   Ok p
 
+-- the vector record of an identifier and of the rows of fields
+abbrev pub vector_of : List Field → Vrid → Rec
+vector_of fields d = V (record {
+  name = d.name;
+  rver = d.rver;
+  attrs = rows_of tags.Attv (attribute_content 0) fields;
+  ends = rows_of tags.Vrpt end_content fields;
+  plane = rows_of tags.Sg2d plane_content fields;
+  deep = rows_of tags.Sg3d deep_content fields;
+})
+
 -- the values of the fields of a vector record that is inserted (S-57 Part 3, 7.7)
 abbrev pub vector_record : List Field → Result Rec RecordFault
 vector_record fields = do
   fields_fault 0 types.Vector [] fields
   d ← required tags.Vrid vrid_content fields
   demand (d.ruin == 1) NotBase
-  Ok (V (record {
-    name = d.name;
-    rver = d.rver;
-    attrs = rows_of tags.Attv (attribute_content 0) fields;
-    ends = rows_of tags.Vrpt end_content fields;
-    plane = rows_of tags.Sg2d plane_content fields;
-    deep = rows_of tags.Sg3d deep_content fields;
-  }))
+  Ok (vector_of fields d)
+
+-- the feature record of its two identifiers, with lists
+abbrev pub feature_with_lists : Frid → Lnam → List Attr → List Attr → List Partner → List Spot → Rec
+feature_with_lists d l attf natf partners places = F (record {
+  name = record { kind = Fe; id = d.rcid };
+  prim = d.prim;
+  grup = d.grup;
+  objl = d.objl;
+  rver = d.rver;
+  foid = l;
+  attf = attf;
+  natf = natf;
+  partners = partners;
+  places = places;
+})
+
+-- the same with the rows of fields, national attributes at the level NALL
+abbrev pub feature_of : ℕ → List Field → Frid → Lnam → Rec
+feature_of nall fields d l = feature_with_lists d l (rows_of tags.Attf (attribute_content 0) fields) (rows_of tags.Natf (attribute_content nall) fields)
+    (rows_of tags.Ffpt partner_content fields) (rows_of tags.Fspt place_content fields)
 
 -- the values of the fields of a feature record that is inserted, at the level NALL (S-57 Part 3, 7.6)
 abbrev pub feature_record : ℕ → List Field → Result Rec RecordFault
@@ -95,18 +121,7 @@ feature_record nall fields = do
   d ← required tags.Frid frid_content fields
   l ← required tags.Foid foid_content fields
   demand (d.ruin == 1) NotBase
-  Ok (F (record {
-    name = record { kind = Fe; id = d.rcid };
-    prim = d.prim;
-    grup = d.grup;
-    objl = d.objl;
-    rver = d.rver;
-    foid = l;
-    attf = rows_of tags.Attf (attribute_content 0) fields;
-    natf = rows_of tags.Natf (attribute_content nall) fields;
-    partners = rows_of tags.Ffpt partner_content fields;
-    places = rows_of tags.Fspt place_content fields;
-  }))
+  Ok (feature_of nall fields d l)
 
 -- no head record stands behind the two
 abbrev pub record_values : ℕ → List Field → RecordType → Result Rec RecordFault

@@ -25,114 +25,31 @@ pub record Description : Type 0 where
   pub labels : List ℕ
   pub formats : List ℕ
 
+abbrev pub described : FieldTag → Structure → ℕ → List ℕ → List ℕ → List ℕ → Description
+described tag structure level name labels formats =
+    record { tag = tag; structure = structure; level = level; name = name; labels = labels; formats = formats }
+
 -- the descriptions at the levels AALL and NALL
 abbrev pub descriptions : ℕ → ℕ → List Description
-descriptions aall nall = record {
-  tag = RecordNumber;
-  structure = one_number;
-  level = 0;
-  name = codes "ISO 8211 Record Identifier";
-  labels = [];
-  formats = codes "(b12)";
-} ∷ record {
-  tag = Dsid;
-  structure = one_row;
-  level = 0;
-  name = codes "Data set identification field";
-  labels = codes "RCNM!RCID!EXPP!INTU!DSNM!EDTN!UPDN!UADT!ISDT!STED!PRSP!PSDN!PRED!PROF!AGEN!COMT";
-  formats = codes "(b11,b14,2b11,3A,2A(8),R(4),b11,2A,b11,b12,A)";
-} ∷ record {
-  tag = Dssi;
-  structure = one_row;
-  level = 0;
-  name = codes "Data set structure information field";
-  labels = codes "DSTR!AALL!NALL!NOMR!NOCR!NOGR!NOLR!NOIN!NOCN!NOED!NOFA";
-  formats = codes "(3b11,8b14)";
-} ∷ record {
-  tag = Dspm;
-  structure = one_row;
-  level = 0;
-  name = codes "Data set parameter field";
-  labels = codes "RCNM!RCID!HDAT!VDAT!SDAT!CSCL!DUNI!HUNI!PUNI!COUN!COMF!SOMF!COMT";
-  formats = codes "(b11,b14,3b11,b14,4b11,2b14,A)";
-} ∷ record {
-  tag = Frid;
-  structure = one_row;
-  level = 0;
-  name = codes "Feature record identifier field";
-  labels = codes "RCNM!RCID!PRIM!GRUP!OBJL!RVER!RUIN";
-  formats = codes "(b11,b14,2b11,2b12,b11)";
-} ∷ record {
-  tag = Foid;
-  structure = one_row;
-  level = 0;
-  name = codes "Feature object identifier field";
-  labels = codes "AGEN!FIDN!FIDS";
-  formats = codes "(b12,b14,b12)";
-} ∷ record {
-  tag = Attf;
-  structure = rows;
-  level = aall;
-  name = codes "Feature record attribute field";
-  labels = codes "ATTL!ATVL";
-  formats = codes "(b12,A)";
-} ∷ record {
-  tag = Natf;
-  structure = rows;
-  level = nall;
-  name = codes "Feature record national attribute field";
-  labels = codes "ATTL!ATVL";
-  formats = codes "(b12,A)";
-} ∷ record {
-  tag = Ffpt;
-  structure = rows;
-  level = 0;
-  name = codes "Feature record to feature object pointer field";
-  labels = codes "LNAM!RIND!COMT";
-  formats = codes "(B(64),b11,A)";
-} ∷ record {
-  tag = Fspt;
-  structure = rows;
-  level = 0;
-  name = codes "Feature record to spatial record pointer field";
-  labels = codes "NAME!ORNT!USAG!MASK";
-  formats = codes "(B(40),3b11)";
-} ∷ record {
-  tag = Vrid;
-  structure = one_row;
-  level = 0;
-  name = codes "Vector record identifier field";
-  labels = codes "RCNM!RCID!RVER!RUIN";
-  formats = codes "(b11,b14,b12,b11)";
-} ∷ record {
-  tag = Attv;
-  structure = rows;
-  level = 0;
-  name = codes "Vector record attribute field";
-  labels = codes "ATTL!ATVL";
-  formats = codes "(b12,A)";
-} ∷ record {
-  tag = Vrpt;
-  structure = rows;
-  level = 0;
-  name = codes "Vector record pointer field";
-  labels = codes "NAME!ORNT!USAG!TOPI!MASK";
-  formats = codes "(B(40),4b11)";
-} ∷ record {
-  tag = Sg2d;
-  structure = rows;
-  level = 0;
-  name = codes "2-D coordinate field";
-  labels = codes "YCOO!XCOO";
-  formats = codes "(2b24)";
-} ∷ record {
-  tag = Sg3d;
-  structure = rows;
-  level = 0;
-  name = codes "3-D coordinate (sounding array) field";
-  labels = codes "YCOO!XCOO!VE3D";
-  formats = codes "(3b24)";
-} ∷ []
+descriptions aall nall =
+    described RecordNumber one_number 0 (codes "ISO 8211 Record Identifier") [] (codes "(b12)") ∷
+    described Dsid one_row 0 (codes "Data set identification field")
+    (codes "RCNM!RCID!EXPP!INTU!DSNM!EDTN!UPDN!UADT!ISDT!STED!PRSP!PSDN!PRED!PROF!AGEN!COMT") (codes "(b11,b14,2b11,3A,2A(8),R(4),b11,2A,b11,b12,A)") ∷
+    described Dssi one_row 0 (codes "Data set structure information field")
+    (codes "DSTR!AALL!NALL!NOMR!NOCR!NOGR!NOLR!NOIN!NOCN!NOED!NOFA") (codes "(3b11,8b14)") ∷
+    described Dspm one_row 0 (codes "Data set parameter field")
+    (codes "RCNM!RCID!HDAT!VDAT!SDAT!CSCL!DUNI!HUNI!PUNI!COUN!COMF!SOMF!COMT") (codes "(b11,b14,3b11,b14,4b11,2b14,A)") ∷
+    described Frid one_row 0 (codes "Feature record identifier field") (codes "RCNM!RCID!PRIM!GRUP!OBJL!RVER!RUIN") (codes "(b11,b14,2b11,2b12,b11)") ∷
+    described Foid one_row 0 (codes "Feature object identifier field") (codes "AGEN!FIDN!FIDS") (codes "(b12,b14,b12)") ∷
+    described Attf rows aall (codes "Feature record attribute field") (codes "ATTL!ATVL") (codes "(b12,A)") ∷
+    described Natf rows nall (codes "Feature record national attribute field") (codes "ATTL!ATVL") (codes "(b12,A)") ∷
+    described Ffpt rows 0 (codes "Feature record to feature object pointer field") (codes "LNAM!RIND!COMT") (codes "(B(64),b11,A)") ∷
+    described Fspt rows 0 (codes "Feature record to spatial record pointer field") (codes "NAME!ORNT!USAG!MASK") (codes "(B(40),3b11)") ∷
+    described Vrid one_row 0 (codes "Vector record identifier field") (codes "RCNM!RCID!RVER!RUIN") (codes "(b11,b14,b12,b11)") ∷
+    described Attv rows 0 (codes "Vector record attribute field") (codes "ATTL!ATVL") (codes "(b12,A)") ∷
+    described Vrpt rows 0 (codes "Vector record pointer field") (codes "NAME!ORNT!USAG!TOPI!MASK") (codes "(B(40),4b11)") ∷
+    described Sg2d rows 0 (codes "2-D coordinate field") (codes "YCOO!XCOO") (codes "(2b24)") ∷
+    described Sg3d rows 0 (codes "3-D coordinate (sounding array) field") (codes "YCOO!XCOO!VE3D") (codes "(3b24)") ∷ []
 
 -- which field stands under which in the tree of a record's fields
 abbrev pub tag_pairs : List (FieldTag × FieldTag)

@@ -99,19 +99,18 @@ module _ (near : Segment → Segment → Bool) where
   earlier_first : (xs ys ts : List Segment) → are_near (xs ++ ys) ts ≡ false → are_near xs ts ≡ false
   earlier_first xs ys ts h = (split_any xs ys (λ s. list_any (near s) ts) h).0
 
+  split_second : (ss zs ws : List Segment) → are_near ss (zs ++ ws) ≡ false → (are_near ss zs ≡ false) × (are_near ss ws ≡ false)
+  split_second [] zs ws h = (refl, refl)
+  split_second (s ∷ ss) zs ws h =
+      let here = split_any zs ws (near s) (first_fails (list_any (near s) (zs ++ ws)) (are_near ss (zs ++ ws)) h) in
+      let rest = split_second ss zs ws (second_fails (list_any (near s) (zs ++ ws)) (are_near ss (zs ++ ws)) h) in
+      ((λ i. here.0 i || rest.0 i), (λ i. here.1 i || rest.1 i))
+
   later_second : (ss zs ws : List Segment) → are_near ss (zs ++ ws) ≡ false → are_near ss ws ≡ false
-  later_second [] zs ws h = refl
-  later_second (s ∷ ss) zs ws h =
-      let here = (split_any zs ws (near s) (first_fails (list_any (near s) (zs ++ ws)) (are_near ss (zs ++ ws)) h)).1 in
-      let rest = later_second ss zs ws (second_fails (list_any (near s) (zs ++ ws)) (are_near ss (zs ++ ws)) h) in
-      λ i. here i || rest i
+  later_second ss zs ws h = (split_second ss zs ws h).1
 
   earlier_second : (ss zs ws : List Segment) → are_near ss (zs ++ ws) ≡ false → are_near ss zs ≡ false
-  earlier_second [] zs ws h = refl
-  earlier_second (s ∷ ss) zs ws h =
-      let here = (split_any zs ws (near s) (first_fails (list_any (near s) (zs ++ ws)) (are_near ss (zs ++ ws)) h)).0 in
-      let rest = earlier_second ss zs ws (second_fails (list_any (near s) (zs ++ ws)) (are_near ss (zs ++ ws)) h) in
-      λ i. here i || rest i
+  earlier_second ss zs ws h = (split_second ss zs ws h).0
 
   module _ (disjoint : (s t : Segment) → near s t ≡ false → are_disjoint (box_of s.0 s.1) (box_of t.0 t.1) ≡ true) where
     far_apart : (s t : Segment) → near s t ≡ false → meeting_of_segments s t ≡ Apart

@@ -5,6 +5,7 @@ use Rattle.std.specs.List.{list_any}
 use Rattle.std.specs.Ordering.{is_eq, is_lt}
 use Rattle.std.specs.declared.cmp.Ordering.{Ordering}
 use Rattle.std.specs.declared.cmp.Ordering.TheVariants.{Less, Equal, Greater}
+use Rattle.std.proofs.Math.Bool.{and_comm}
 use Rattle.std.proofs.lemmas.Bool.Decides.{nat_tests}
 use Rattle.std.proofs.lemmas.Int.{ints}
 use Rattle.s57_types.specs.declared.name.RecName.{RecName}
@@ -78,17 +79,9 @@ not_sharing (s ∷ ss) (t ∷ ts) h =
     (sym (λ i. (some_s i && some_t i) && ((has_oversized (s ∷ ss) || has_oversized (t ∷ ts)) || share_a_tile (s ∷ ss) (t ∷ ts))) ∙ h)
 
 -- ---- sharing goes both ways
-crossed : (a b c d : Bool) → ((a && b) && (c && d)) ≡ ((b && a) && (d && c))
-crossed true true true true = refl
-crossed true true true false = refl
-crossed true true false true = refl
-crossed true true false false = refl
-crossed true false c d = refl
-crossed false true c d = refl
-crossed false false c d = refl
-
 tiles_flip : (a b : TileRange) → have_common_tile a b ≡ have_common_tile b a
-tiles_flip a b = crossed (int_le a.row_from b.row_to) (int_le b.row_from a.row_to) (int_le a.col_from b.col_to) (int_le b.col_from a.col_to)
+tiles_flip a b =
+    λ i. and_comm (int_le a.row_from b.row_to) (int_le b.row_from a.row_to) i && and_comm (int_le a.col_from b.col_to) (int_le b.col_from a.col_to) i
 
 none_in : {X : Type 0} (xs : List X) → list_any (λ x. false) xs ≡ false
 none_in [] = refl

@@ -13,4 +13,5 @@ pub mod Moved
 pub mod AffectedSet
 pub mod Rows
 pub mod ListedTables
+pub mod LeastName
 pub mod Mates

@@ -1,3 +1,4 @@
+pub mod DigitCounts
 pub mod FrameTests
 pub mod PlacedBytes
 pub mod WrittenDigits

@@ -1,5 +1,5 @@
 -- Two segments on one line, and a point and a segment: the order of points tells what they have in common.
-use Rattle.std.proofs.Common.{◌≡◌, ℕ, ◌+◌, ◌*◌, ◌<◌, ◌≤◌, arith, refl, ap, sym, subst, ⊎_elim, inl, inr, ◌⊎◌, min, max, cond, Ordering}
+use Rattle.std.proofs.Common.{◌≡◌, ℕ, ◌+◌, ◌*◌, ◌<◌, ◌≤◌, arith, refl, ap, sym, subst, ⊎_elim, inl, inr, ◌⊎◌, ◌∙◌, min, max, cond, Ordering}
 use Rattle.std.specs.declared.cmp.Ordering.TheVariants.{Less, Equal, Greater}
 use Rattle.std.specs.Ordering.{MatchOrdering, int_cmp, ordering_then, is_lt}
 use Rattle.std.proofs.Math.Nat.{mul-le-mul_right}
@@ -32,25 +32,13 @@ ranked_by shift width a b fa fb Less columns e g = lower_row (shifted shift a.0)
 ranked_by shift width a b fa fb Greater columns e g = lower_row (shifted shift b.0) (shifted shift b.1) (shifted shift a.0) (shifted shift a.1) width
     (omega (arith, ints, int_ranked a.0 b.0 Greater e, shifted_is shift a.0 fa.y, shifted_is shift b.0 fb.y)) (in_grid shift width b fb).x
 ranked_by shift width a b fa fb Equal Less e g =
-    omega (
-      arith,
-      ints,
-      ap (λ z. shifted shift z * width) (int_ranked a.0 b.0 Equal e),
-      int_ranked a.1 b.1 Less g,
-      shifted_is shift a.1 fa.x,
-      shifted_is shift b.1 fb.x,
-    )
+    let rows = ap (λ z. shifted shift z * width) (int_ranked a.0 b.0 Equal e) in
+    omega (arith, ints, rows, int_ranked a.1 b.1 Less g, shifted_is shift a.1 fa.x, shifted_is shift b.1 fb.x)
 ranked_by shift width a b fa fb Equal Equal e g =
     omega (arith, ap (λ z. shifted shift z * width) (int_ranked a.0 b.0 Equal e), ap (shifted shift) (int_ranked a.1 b.1 Equal g))
 ranked_by shift width a b fa fb Equal Greater e g =
-    omega (
-      arith,
-      ints,
-      ap (λ z. shifted shift z * width) (int_ranked a.0 b.0 Equal e),
-      int_ranked a.1 b.1 Greater g,
-      shifted_is shift a.1 fa.x,
-      shifted_is shift b.1 fb.x,
-    )
+    let rows = ap (λ z. shifted shift z * width) (int_ranked a.0 b.0 Equal e) in
+    omega (arith, ints, rows, int_ranked a.1 b.1 Greater g, shifted_is shift a.1 fa.x, shifted_is shift b.1 fb.x)
 
 pub ranked : (shift width : ℕ) (a b : Point) → IsCovered shift width a → IsCovered shift width b → IsRanked shift width a b (point_cmp a b)
 ranked shift width a b fa fb = ranked_by shift width a b fa fb (int_cmp a.0 b.0) (int_cmp a.1 b.1) refl refl
@@ -73,21 +61,15 @@ chosen shift width a b e fa fb n which at_rank =
 
 earlier_by : (shift width : ℕ) (a b : Point) → IsCovered shift width a → IsCovered shift width b → (o : Ordering) → IsRanked shift width b a o
     → IsChosen shift width a b (cond (is_lt o) b a) (min (rank_of shift width a) (rank_of shift width b))
-earlier_by shift width a b fa fb Less h =
-    chosen shift width a b b fa fb (min (rank_of shift width a) (rank_of shift width b)) (inr refl) (omega (arith, h))
-earlier_by shift width a b fa fb Equal h =
-    chosen shift width a b a fa fb (min (rank_of shift width a) (rank_of shift width b)) (inl refl) (omega (arith, h))
-earlier_by shift width a b fa fb Greater h =
-    chosen shift width a b a fa fb (min (rank_of shift width a) (rank_of shift width b)) (inl refl) (omega (arith, h))
+earlier_by shift width a b fa fb Less h = chosen shift width a b b fa fb (min (rank_of shift width a) (rank_of shift width b)) (inr refl) (omega (arith, h))
+earlier_by shift width a b fa fb Equal h = chosen shift width a b a fa fb (min (rank_of shift width a) (rank_of shift width b)) (inl refl) (omega (arith, h))
+earlier_by shift width a b fa fb Greater h = chosen shift width a b a fa fb (min (rank_of shift width a) (rank_of shift width b)) (inl refl) (omega (arith, h))
 
 later_by : (shift width : ℕ) (a b : Point) → IsCovered shift width a → IsCovered shift width b → (o : Ordering) → IsRanked shift width b a o
     → IsChosen shift width a b (cond (is_lt o) a b) (max (rank_of shift width a) (rank_of shift width b))
-later_by shift width a b fa fb Less h =
-    chosen shift width a b a fa fb (max (rank_of shift width a) (rank_of shift width b)) (inl refl) (omega (arith, h))
-later_by shift width a b fa fb Equal h =
-    chosen shift width a b b fa fb (max (rank_of shift width a) (rank_of shift width b)) (inr refl) (omega (arith, h))
-later_by shift width a b fa fb Greater h =
-    chosen shift width a b b fa fb (max (rank_of shift width a) (rank_of shift width b)) (inr refl) (omega (arith, h))
+later_by shift width a b fa fb Less h = chosen shift width a b a fa fb (max (rank_of shift width a) (rank_of shift width b)) (inl refl) (omega (arith, h))
+later_by shift width a b fa fb Equal h = chosen shift width a b b fa fb (max (rank_of shift width a) (rank_of shift width b)) (inr refl) (omega (arith, h))
+later_by shift width a b fa fb Greater h = chosen shift width a b b fa fb (max (rank_of shift width a) (rank_of shift width b)) (inr refl) (omega (arith, h))
 
 pub earlier_is : (shift width : ℕ) (a b : Point) → IsCovered shift width a → IsCovered shift width b
     → IsChosen shift width a b (earlier a b) (min (rank_of shift width a) (rank_of shift width b))
@@ -141,43 +123,32 @@ low_of shift width p q r s = low_rank width (grid_point shift p) (grid_point shi
 abbrev pub high_of : ℕ → ℕ → Point → Point → Point → Point → ℕ
 high_of shift width p q r s = high_rank width (grid_point shift p) (grid_point shift q) (grid_point shift r) (grid_point shift s)
 
-start_by : (shift width : ℕ) (p q r s a b e : Point) → OnOneLine shift width p q r s
-    → IsChosen shift width p q a (min (rank_of shift width p) (rank_of shift width q))
-    → IsChosen shift width r s b (min (rank_of shift width r) (rank_of shift width s))
-    → IsChosen shift width a b e (max (rank_of shift width a) (rank_of shift width b)) → IsBound shift width p q r s e (low_of shift width p q r s)
-start_by shift width p q r s a b e f ca cb ce = record {
-  on_both = of_chosen (λ x. IsOnBothLines shift width p q r s x) a b e ce.which (of_first shift width p q r s a f ca.which)
-      (of_second shift width p q r s b f cb.which);
-  has_rank = omega (arith, ca.has_rank, cb.has_rank, ce.has_rank);
-}
-
-end_by : (shift width : ℕ) (p q r s a b e : Point) → OnOneLine shift width p q r s
-    → IsChosen shift width p q a (max (rank_of shift width p) (rank_of shift width q))
-    → IsChosen shift width r s b (max (rank_of shift width r) (rank_of shift width s))
-    → IsChosen shift width a b e (min (rank_of shift width a) (rank_of shift width b)) → IsBound shift width p q r s e (high_of shift width p q r s)
-end_by shift width p q r s a b e f ca cb ce = record {
-  on_both = of_chosen (λ x. IsOnBothLines shift width p q r s x) a b e ce.which (of_first shift width p q r s a f ca.which)
-      (of_second shift width p q r s b f cb.which);
-  has_rank = omega (arith, ca.has_rank, cb.has_rank, ce.has_rank);
-}
+-- what the ends of two segments choose among: of each two ends one, and of these one
+bound_is : (shift width : ℕ) (inner outer : Point → Point → Point) (least most : ℕ → ℕ → ℕ)
+    → ((a b : Point) → IsCovered shift width a → IsCovered shift width b
+    → IsChosen shift width a b (inner a b) (least (rank_of shift width a) (rank_of shift width b)))
+    → ((a b : Point) → IsCovered shift width a → IsCovered shift width b
+    → IsChosen shift width a b (outer a b) (most (rank_of shift width a) (rank_of shift width b)))
+    → (p q r s : Point) → OnOneLine shift width p q r s
+    → IsBound shift width p q r s (outer (inner p q) (inner r s))
+    (most (least (rank_of shift width p) (rank_of shift width q)) (least (rank_of shift width r) (rank_of shift width s)))
+bound_is shift width inner outer least most of_two of_both p q r s f =
+    let a = of_two p q f.covered.at_p f.covered.at_q in
+    let b = of_two r s f.covered.at_r f.covered.at_s in
+    let e = of_both (inner p q) (inner r s) a.covered b.covered in
+    record {
+      on_both = of_chosen (λ x. IsOnBothLines shift width p q r s x) (inner p q) (inner r s) (outer (inner p q) (inner r s)) e.which
+          (of_first shift width p q r s (inner p q) f a.which) (of_second shift width p q r s (inner r s) f b.which);
+      has_rank = e.has_rank ∙ (λ i. most (a.has_rank i) (b.has_rank i));
+    }
 
 pub start_is : (shift width : ℕ) (p q r s : Point) → OnOneLine shift width p q r s
     → IsBound shift width p q r s (start_of p q r s) (low_of shift width p q r s)
-start_is shift width p q r s f =
-    let a : IsChosen shift width p q (earlier p q) (min (rank_of shift width p) (rank_of shift width q)) =
-    earlier_is shift width p q f.covered.at_p f.covered.at_q in
-    let b : IsChosen shift width r s (earlier r s) (min (rank_of shift width r) (rank_of shift width s)) =
-    earlier_is shift width r s f.covered.at_r f.covered.at_s in
-    start_by shift width p q r s (earlier p q) (earlier r s) (start_of p q r s) f a b (later_is shift width (earlier p q) (earlier r s) a.covered b.covered)
+start_is shift width p q r s f = bound_is shift width earlier later min max (earlier_is shift width) (later_is shift width) p q r s f
 
 pub end_is : (shift width : ℕ) (p q r s : Point) → OnOneLine shift width p q r s
     → IsBound shift width p q r s (end_of p q r s) (high_of shift width p q r s)
-end_is shift width p q r s f =
-    let a : IsChosen shift width p q (later p q) (max (rank_of shift width p) (rank_of shift width q)) =
-    later_is shift width p q f.covered.at_p f.covered.at_q in
-    let b : IsChosen shift width r s (later r s) (max (rank_of shift width r) (rank_of shift width s)) =
-    later_is shift width r s f.covered.at_r f.covered.at_s in
-    end_by shift width p q r s (later p q) (later r s) (end_of p q r s) f a b (earlier_is shift width (later p q) (later r s) a.covered b.covered)
+end_is shift width p q r s f = bound_is shift width later earlier max min (later_is shift width) (earlier_is shift width) p q r s f
 
 -- ---- a common point at a bound
 pub record IsCommonAt (width : ℕ) (p q r s e : GridPoint) : Type 0 where

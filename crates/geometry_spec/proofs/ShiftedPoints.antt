@@ -20,14 +20,13 @@ pub even_before : (shift : ℕ) (a b c e : ℤ) (d k m l n : ℕ) → down a ≤
 even_before shift a b c e d k m l n fa fb fc fe g h same =
     same_in (scaled_between a b d m) (scaled_between c e d n) (omega (arith, shifted_between shift a b d k m fa fb g, shifted_between shift c e d l n fc fe h))
 
-same_shifted : (shift : ℕ) (a b : ℤ) (d k m e l n : ℕ) → down a ≤ shift → down b ≤ shift → k + m ≡ d → l + n ≡ e
-    → pos e *ℤ scaled_between a b d m ≡ pos d *ℤ scaled_between a b e n
-    → (k + m) * (l * shifted shift a + n * shifted shift b) ≡ (l + n) * (k * shifted shift a + m * shifted shift b)
-same_shifted shift a b d k m e l n fa fb g h same =
+-- how far two points of a segment are apart, before and after the shift
+apart_shifted : (shift : ℕ) (a b : ℤ) (d k m e l n : ℕ) → down a ≤ shift → down b ≤ shift → k + m ≡ d → l + n ≡ e
+    → up (pos e *ℤ scaled_between a b d m) + down (pos d *ℤ scaled_between a b e n) + (k + m) * (l * shifted shift a + n * shifted shift b)
+    ≡ down (pos e *ℤ scaled_between a b d m) + up (pos d *ℤ scaled_between a b e n) + (l + n) * (k * shifted shift a + m * shifted shift b)
+apart_shifted shift a b d k m e l n fa fb g h =
     omega (
       arith,
-      ap up same,
-      ap down same,
       product_is (pos e) (scaled_between a b d m),
       product_is (pos d) (scaled_between a b e n),
       ap (λ t. e * t) (shifted_between shift a b d k m fa fb g),
@@ -36,19 +35,16 @@ same_shifted shift a b d k m e l n fa fb g h same =
       ap (λ t. t * (k * shifted shift a + m * shifted shift b)) h,
     )
 
+same_shifted : (shift : ℕ) (a b : ℤ) (d k m e l n : ℕ) → down a ≤ shift → down b ≤ shift → k + m ≡ d → l + n ≡ e
+    → pos e *ℤ scaled_between a b d m ≡ pos d *ℤ scaled_between a b e n
+    → (k + m) * (l * shifted shift a + n * shifted shift b) ≡ (l + n) * (k * shifted shift a + m * shifted shift b)
+same_shifted shift a b d k m e l n fa fb g h same = omega (arith, ap up same, ap down same, apart_shifted shift a b d k m e l n fa fb g h)
+
 same_before : (shift : ℕ) (a b : ℤ) (d k m e l n : ℕ) → down a ≤ shift → down b ≤ shift → k + m ≡ d → l + n ≡ e
     → (k + m) * (l * shifted shift a + n * shifted shift b) ≡ (l + n) * (k * shifted shift a + m * shifted shift b)
     → pos e *ℤ scaled_between a b d m ≡ pos d *ℤ scaled_between a b e n
 same_before shift a b d k m e l n fa fb g h same =
-    same_in (pos e *ℤ scaled_between a b d m) (pos d *ℤ scaled_between a b e n) (omega (
-      arith,
-      product_is (pos e) (scaled_between a b d m),
-      product_is (pos d) (scaled_between a b e n),
-      ap (λ t. e * t) (shifted_between shift a b d k m fa fb g),
-      ap (λ t. d * t) (shifted_between shift a b e l n fa fb h),
-      ap (λ t. t * (l * shifted shift a + n * shifted shift b)) g,
-      ap (λ t. t * (k * shifted shift a + m * shifted shift b)) h,
-    ))
+    same_in (pos e *ℤ scaled_between a b d m) (pos d *ℤ scaled_between a b e n) (omega (arith, apart_shifted shift a b d k m e l n fa fb g h))
 
 on_shifted : (shift : ℕ) (a b c : ℤ) (d k m : ℕ) → down a ≤ shift → down b ≤ shift → down c ≤ shift → k + m ≡ d → scaled_between a b d m ≡ pos d *ℤ c
     → k * shifted shift a + m * shifted shift b ≡ (k + m) * shifted shift c

@@ -100,20 +100,17 @@ crossing_leftwards p q r s a m b n some en eb em ea = record {
   same_x = omega (arith, crossing_x p q r s, ap (λ t. t * s.x) en, ap (λ t. t * r.x) eb, ap (λ t. t * q.x) em, ap (λ t. t * p.x) ea);
 }
 
+-- with y and x exchanged left is right
+abbrev mirrored : GridPoint → GridPoint
+mirrored p = record { y = p.x; x = p.y }
+
 pub crossing_rightwards : (p q r s : GridPoint) (a m b n : ℕ) → 0 < b + n
     → n + right_sum p q r ≡ left_sum p q r → b + left_sum p q s ≡ right_sum p q s → m + left_sum r s p ≡ right_sum r s p
     → a + right_sum r s q ≡ left_sum r s q
     → Weights p q r s
-crossing_rightwards p q r s a m b n some en eb em ea = record {
-  a = a;
-  m = m;
-  b = b;
-  n = n;
-  some = omega (arith, four_determinants p q r s);
-  even = omega (arith, four_determinants p q r s);
-  same_y = omega (arith, crossing_y p q r s, ap (λ t. t * s.y) en, ap (λ t. t * r.y) eb, ap (λ t. t * q.y) em, ap (λ t. t * p.y) ea);
-  same_x = omega (arith, crossing_x p q r s, ap (λ t. t * s.x) en, ap (λ t. t * r.x) eb, ap (λ t. t * q.x) em, ap (λ t. t * p.x) ea);
-}
+crossing_rightwards p q r s a m b n some en eb em ea =
+    let w = crossing_leftwards (mirrored p) (mirrored q) (mirrored r) (mirrored s) a m b n some en eb em ea in
+    record { a = w.a; m = w.m; b = w.b; n = w.n; some = w.some; even = w.even; same_y = w.same_x; same_x = w.same_y }
 
 -- ---- one common point alone
 cancel_by : (u v k f g : ℕ) → k + g ≡ f → 0 < k → u * f + v * g ≡ u * g + v * f → u ≡ v
@@ -129,24 +126,22 @@ cancel u v f g h e = cancel_by u v (f - g) f g (omega arith) (omega arith) e
 pub same_proportion : (b n b' n' f g f' g' : ℕ) → b * f + n * f' ≡ b * g + n * g' → b' * f + n' * f' ≡ b' * g + n' * g' → (g < f) → b * n' ≡ b' * n
 same_proportion b n b' n' f g f' g' e e' h = cancel (b * n') (b' * n) f g h (omega (arith, ap (λ t. t * n') e, ap (λ t. t * n) e'))
 
+-- one coordinate of the points that two lists of weights give
+same_coordinate : (a m b n a' m' b' n' p q r s : ℕ) → b * n' ≡ b' * n → a + m ≡ b + n → a' + m' ≡ b' + n' → a * p + m * q ≡ b * r + n * s
+    → a' * p + m' * q ≡ b' * r + n' * s → (a + m) * (a' * p + m' * q) ≡ (a' + m') * (a * p + m * q)
+same_coordinate a m b n a' m' b' n' p q r s e even even' same same' =
+    omega (
+      arith,
+      ap (λ t. t * r) e,
+      ap (λ t. t * s) e,
+      ap (λ t. t * (a' + m')) same,
+      ap (λ t. t * (a + m)) same',
+      ap (λ t. t * (b' * r + n' * s)) even,
+      ap (λ t. t * (b * r + n * s)) even',
+    )
+
 pub same_by_proportion : (p q r s : GridPoint) (v w : Weights p q r s) → v.b * w.n ≡ w.b * v.n → IsSameWeighted p q v.a v.m w.a w.m
 same_by_proportion p q r s v w e = record {
-  y = omega (
-    arith,
-    ap (λ t. t * r.y) e,
-    ap (λ t. t * s.y) e,
-    ap (λ t. t * (w.a + w.m)) v.same_y,
-    ap (λ t. t * (v.a + v.m)) w.same_y,
-    ap (λ t. t * (w.b * r.y + w.n * s.y)) v.even,
-    ap (λ t. t * (v.b * r.y + v.n * s.y)) w.even,
-  );
-  x = omega (
-    arith,
-    ap (λ t. t * r.x) e,
-    ap (λ t. t * s.x) e,
-    ap (λ t. t * (w.a + w.m)) v.same_x,
-    ap (λ t. t * (v.a + v.m)) w.same_x,
-    ap (λ t. t * (w.b * r.x + w.n * s.x)) v.even,
-    ap (λ t. t * (v.b * r.x + v.n * s.x)) w.even,
-  );
+  y = same_coordinate v.a v.m v.b v.n w.a w.m w.b w.n p.y q.y r.y s.y e v.even w.even v.same_y w.same_y;
+  x = same_coordinate v.a v.m v.b v.n w.a w.m w.b w.n p.x q.x r.x s.x e v.even w.even v.same_x w.same_x;
 }

@@ -55,6 +55,17 @@ MinimalRunIsReported =
     codes "side ve 2 Orphan" ∷
     codes "end" ∷ [])
 
+-- the last lines of a report that leaves the dangling edge
+abbrev pub dangling_cell : List (List ℕ)
+dangling_cell =
+    codes "cell vi 0 vc 2 ve 2 fe 0" ∷
+    codes "findings 4" ∷
+    codes "rec ve 2 EndCount 1 0 1" ∷
+    codes "rec ve 2 DanglingEnd 1" ∷
+    codes "side ve 1 Orphan" ∷
+    codes "side ve 2 Orphan" ∷
+    codes "end" ∷ []
+
 -- the second of two commits that name one record is shown the first
 abbrev pub ClashIsReported : Type 0
 ClashIsReported =
@@ -70,13 +81,7 @@ ClashIsReported =
     codes "history" ∷
     codes "commit 1 desk 1 findings 4" ∷
     codes "set vc 1 2 p=0,1" ∷
-    codes "cell vi 0 vc 2 ve 2 fe 0" ∷
-    codes "findings 4" ∷
-    codes "rec ve 2 EndCount 1 0 1" ∷
-    codes "rec ve 2 DanglingEnd 1" ∷
-    codes "side ve 1 Orphan" ∷
-    codes "side ve 2 Orphan" ∷
-    codes "end" ∷ [])
+    dangling_cell)
 
 -- a session that has seen the newer commit may change its record
 abbrev pub ViewEndsTheClash : Type 0
@@ -172,13 +177,7 @@ GuardsAreContested =
     codes "set vc 2 2 p=0,3" ∷
     codes "commit 2 desk 2 findings 4" ∷
     codes "set vc 2 2 p=0,2" ∷
-    codes "cell vi 0 vc 2 ve 2 fe 0" ∷
-    codes "findings 4" ∷
-    codes "rec ve 2 EndCount 1 0 1" ∷
-    codes "rec ve 2 DanglingEnd 1" ∷
-    codes "side ve 1 Orphan" ∷
-    codes "side ve 2 Orphan" ∷
-    codes "end" ∷ [])
+    dangling_cell)
 
 -- an attribute beyond ASCII is bad at level 0 of texts alone; a guard of the head, and an edit of it, are contested by an edit of it
 abbrev pub accented : Edit

@@ -1,11 +1,12 @@
 //! A record frame.
 
 ghost use Rattle.std.specs.Prelude.{◌≡◌, ◌+◌, ◌<◌, ◌≤◌, length, List, ℕ, MatchResult, slice_get};
-ghost use Rattle.frame_spec.specs.RecordFrame.{FrameView, RecordFrame};
+ghost use Rattle.std.specs.Option.{option_map};
+ghost use Rattle.frame_spec.specs.RecordFrame.{Field, FrameView, RecordFrame};
 ghost use Rattle.frame_spec.specs.FrameFaults.{HasFrameFault};
 ghost use Rattle.frame_spec.specs.FrameDecision.{frame_at};
 
-use crate::leader::{Leader, entry_of, read_directory, read_leader, tag_at};
+use crate::leader::{Leader, entry_of, read_directory, read_leader, tag_at, tag_of};
 use frame_spec::{FrameFault, one_answer};
 use std::marker::Model;
 
@@ -85,6 +86,14 @@ impl Frame<'_> {
         ensures { result ≡ length self.now.fields }
     {
         self.count
+    }
+
+    /// The tag of the field at a place from 0 of the directory. The numbers of its entry aren't read once more.
+    pub fn tag(&self, k: usize) -> [u8; 4]
+        requires { k < length self.now.fields }
+        ensures { option_map (λ (f : Field). f.tag) (slice_get self.now.fields k) ≡ Some result }
+    {
+        tag_of(self.bytes, self.at, self.leader, self.count, k)
     }
 
     /// The tag and the bytes of the field at a place from 0 of the directory.

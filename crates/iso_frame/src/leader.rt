@@ -2,7 +2,7 @@
 
 ghost use Rattle.std.specs.Prelude.{◌≡◌, ◌+◌, ◌*◌, ◌^◌, ◌<◌, ◌≤◌, length, MatchOption};
 ghost use Rattle.frame_spec.specs.RecordFrame.{AreDigits, decimal_value, IsLeader, IsDirectory, entry_size_at, count_at, length_text, position_text};
-ghost use Rattle.frame_spec.specs.RecordFrame.{field_length, field_position, entry_place, bytes_at};
+ghost use Rattle.frame_spec.specs.RecordFrame.{field_length, field_position, field_tag, entry_place, bytes_at};
 ghost use Rattle.iso_frame.specs.Numbers.{AreNumbers, IsRead};
 
 /// The number that digits write, if they are digits.
@@ -140,4 +140,14 @@ pub fn tag_at(bytes: &[u8], place: usize) -> [u8; 4]
         bytes[place + 2],
         bytes[place + 3],
     ]
+}
+
+/// The tag of entry k of the directory of a record that was read.
+pub fn tag_of(bytes: &[u8], at: usize, leader: Leader, count: usize, k: usize) -> [u8; 4]
+    requires read { IsRead bytes.now at leader count }
+    requires below { k < count }
+    ensures { result ≡ field_tag bytes.now at k }
+{
+    let size = 4 + leader.length_size + leader.position_size;
+    tag_at(bytes, at + 24 + k * size)
 }

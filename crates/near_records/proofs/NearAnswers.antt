@@ -1,11 +1,11 @@
 -- Answers to ascending keys are found again by their keys.
-use Rattle.std.proofs.Common.{◌≡◌, ℕ, zero, suc, ◌+◌, ◌<◌, ◌≤◌, ◌⊎◌, inl, inr, true, false, true≢false, List, [], ◌∷◌, length, map, fold, get_or, refl, sym}
+use Rattle.std.proofs.Common.{◌≡◌, ℕ, ◌+◌, ◌<◌, ◌≤◌, inl, inr, true, false, true≢false, List, [], ◌∷◌, length, map, fold, get_or, refl, sym}
 use Rattle.std.proofs.Common.{ap, ◌∙◌, subst, arith}
 use Rattle.std.specs.List.Sorted.{IsSortedByKey, IsStrictlySortedBy, IsPartitionPoint}
 use Rattle.std.specs.Ordering.{is_eq, is_lt, match_ordering, ordering_reverse}
 use Rattle.std.specs.declared.cmp.Ordering.{Ordering}
 use Rattle.std.specs.declared.cmp.Ordering.TheVariants.{Less, Equal, Greater}
-use Rattle.std.proofs.Math.Nat.{eq-or-lt_of_le}
+use Rattle.std.proofs.lemmas.Bool.{cases_lt}
 use Rattle.std.proofs.lemmas.List.{get_or-map, length-map}
 use Rattle.std.proofs.lemmas.List.Elements.{All-map}
 use Rattle.std.proofs.lemmas.List.Folds.{list_any_none}
@@ -37,25 +37,6 @@ module _ {X : Type 0} (order : X → X → Ordering) where
 
   pub shorter_ascending : (xs : List X) → length (ascending order xs) ≤ length xs
   shorter_ascending xs = omega (arith, all_put [] xs)
-
--- ---- orders
-not_lt : (o : Ordering) → o ≡ Less → is_lt (ordering_reverse o) ≡ false
-not_lt Less e = refl
-not_lt Equal e = refl
-not_lt Greater e = absurd cc
-
-no_tie : (o : Ordering) → (o ≡ Less) ⊎ (o ≡ Greater) → is_eq (ordering_reverse o) ≡ false
-no_tie Less e = refl
-no_tie Equal (inl e) = absurd cc
-no_tie Equal (inr e) = absurd cc
-no_tie Greater e = refl
-
-side_of : (k i : ℕ) → (k < i) ⊎ (i ≤ k)
-side_of k zero = inr (omega arith)
-side_of k (suc i) = elim (side_of k i) [
-  | inl h ↦ inl (omega (arith, h))
-  | inr h ↦ elim (eq-or-lt_of_le h) [ inl e ↦ inl (omega (arith, e)) | inr l ↦ inr (omega (arith, l)) ]
-]
 
 -- ---- the keys of answers
 abbrev pub key_in : Answer → Key
@@ -96,8 +77,7 @@ module _ (c : Cell) (keys : List Key) (answers : List Answer) (all : map answer_
       let first = get_or-map key_in answers k d d.key (omega (arith, within)) in
       let next = get_or-map key_in answers (k + 1) d d.key within in
       let below : key_order (get_or answers k d).key (get_or answers (k + 1) d).key ≡ Less = (λ i. key_order (sym first i) (sym next i)) ∙ less in
-      ap is_lt (total_keys.antisymm (get_or answers (k + 1) d).key (get_or answers k d).key)
-      ∙ not_lt (key_order (get_or answers k d).key (get_or answers (k + 1) d).key) below
+      ap is_lt (total_keys.antisymm (get_or answers (k + 1) d).key (get_or answers k d).key ∙ ap ordering_reverse below)
 
   -- a key among the keys isn't missing from the answers
   pub never_missing : (key : Key) (i : ℕ) → has_key keys key ≡ true
@@ -106,8 +86,9 @@ module _ (c : Cell) (keys : List Key) (answers : List Answer) (all : map answer_
       let none : has_key (map key_in answers) key ≡ false =
       list_any_none (λ other. is_eq (key_order key other)) (map key_in answers)
       (All-map (λ other. is_eq (key_order key other) ≡ false) key_in answers (λ k d within.
-      let found = (get_or answers k d).key in
-      let either : (key_order found key ≡ Less) ⊎ (key_order found key ≡ Greater) =
-      elim (side_of k i) [ inl h ↦ inl (parts.0 k d (omega arith) h) | inr h ↦ inr (parts.1 k d h within) ] in
-      ap is_eq (total_keys.antisymm key found) ∙ no_tie (key_order found key) either)) in
+      let turned = total_keys.antisymm key (get_or answers k d).key in
+      elim (cases_lt k i) [
+        | inl h ↦ ap is_eq (turned ∙ ap ordering_reverse (parts.0 k d (omega arith) h))
+        | inr h ↦ ap is_eq (turned ∙ ap ordering_reverse (parts.1 k d h within))
+      ])) in
       true≢false (sym asked ∙ sym (holds-ascending key_order exact_keys key keys) ∙ ap (λ ks. has_key ks key) (sym same_keys) ∙ none)

@@ -1,8 +1,9 @@
 -- An order from its parts.
 use Rattle.std.proofs.Common.{◌≡◌, ◌+◌, ◌&&◌, ℕ, Bool, true, false, List, Some, None, Ok, Err, length, drop, take, filter_map, refl, sym, ◌∙◌, ap, codes}
-use Rattle.std.proofs.Common.{if◌then◌else◌}
+use Rattle.std.proofs.Common.{Bor, if◌then◌else◌, map}
 use Rattle.std.specs.Prelude.{nat_eq}
 use Rattle.std.specs.Cmp.Lexicographic.{pointwise}
+use Rattle.std.proofs.lemmas.List.{length-map}
 use Rattle.text_spec.specs.OrderLine.{order_of, order_items, first_bad_item, session_of, are_all_used, ends_well}
 use Rattle.order_text.specs.Counts.{AreTaken, IsItemRefusal, IsOrderRefusal}
 use Rattle.order_text.specs.declared.order.OrderRefusal.{OrderRefusal}
@@ -56,3 +57,12 @@ ended_by quotas text behind order used words count false so is are taken counted
     (ap (λ n. are_all_used quotas order && ends_well (drop 5 text) n) (sym counted) ∙ ap (λ t. are_all_used quotas order && ends_well t count)
     (sym is) ∙ sym answer)
     ∙ ap (λ n. Err (n + 1)) (sym counted)
+
+-- the same of items that are borrowed
+pub ended_at : (quotas text behind order used : List ℕ) (items : List (Bor (List ℕ))) (count : ℕ) (b : Bool) → begins text ≡ true
+    → behind ≡ drop 5 text → map (λ (item : Bor (List ℕ)). item.now) items ≡ order_items behind
+    → AreTaken quotas (map (λ (item : Bor (List ℕ)). item.now) items) order used → count ≡ length items
+    → b ≡ (are_all_used quotas order && ends_well behind count) → order_of quotas text ≡ (if b then Ok order else Err (count + 1))
+ended_at quotas text behind order used items count b so is are taken counted answer =
+    ended_by quotas text behind order used (map (λ (item : Bor (List ℕ)). item.now) items) count b so is are taken
+    (counted ∙ sym (length-map items (λ (item : Bor (List ℕ)). item.now))) answer

@@ -1,3 +1,0 @@
-pub mod Found
-pub mod Pairs
-pub mod Range

@@ -21,6 +21,9 @@ use s57_types::{Rec, RecName, Spot, Vector};
 use std::alloc::{AllocError, Global};
 use std::sync::ledger::Ledger;
 
+/// Where a mark is held, if it is anywhere, or out of memory.
+type Anchor = Result<Option<PagePoint>, AllocError>;
+
 /// A record, and where a mark of all of it is held.
 #[derive(Clone, Copy, Debug, PartialEq, Eq)]
 pub struct Held {
@@ -39,22 +42,6 @@ fn middle_through(around: Box4, points: &[Point]) -> Option<PagePoint>
     let first = page_point(around, points[(n - 1) / 2]);
     let second = page_point(around, points[n / 2]);
     Some(half_way(first, second))
-}
-
-/// Where a mark of an edge is held.
-fn edge_anchor<L: Ledger>(
-    alloc: Global,
-    look: &ListLook,
-    around: Box4,
-    edge: &Vector,
-    steps: &mut Steps<L>,
-) -> Result<Option<PagePoint>, AllocError>
-    ensures { IfOk result (λ at. at ≡ spec_middle_of (spec_stroke_of around (drawn_points look.now edge.now))) }
-{
-    match edge_points(alloc, look, edge.name, steps)? {
-        Some(points) => Ok(middle_through(around, points.as_slice())),
-        None => Ok(middle_through(around, edge.plane.as_slice())),
-    }
 }
 
 /// The first of some points on the page.
@@ -95,119 +82,6 @@ fn node_anchor(around: Box4, node: &Vector) -> Option<PagePoint>
     }
 }
 
-/// Where a mark of a node or an edge is held.
-fn vector_anchor<L: Ledger>(
-    alloc: Global,
-    look: &ListLook,
-    around: Box4,
-    vector: &Vector,
-    steps: &mut Steps<L>,
-) -> Result<Option<PagePoint>, AllocError>
-    ensures { IfOk result (λ at. at ≡ spec_anchor_of (vector_strokes look.now around vector.now)) }
-{
-    if is_edge_name(vector.name) {
-        return edge_anchor(alloc, look, around, vector, steps);
-    }
-    Ok(node_anchor(around, vector))
-}
-
-/// Where a mark of the vector record that a spatial pointer names is held.
-fn target_anchor<L: Ledger>(
-    alloc: Global,
-    look: &ListLook,
-    around: Box4,
-    spot: Spot,
-    steps: &mut Steps<L>,
-) -> Result<Option<PagePoint>, AllocError>
-    ensures { IfOk result (λ at. at ≡ spec_anchor_of (target_strokes look.now around spot)) }
-{
-    match look.get(spot.to, steps) {
-        Some(Rec::V(vector)) => vector_anchor(alloc, look, around, vector, steps),
-        _ => Ok(None),
-    }
-}
-
-/// Where a mark of the vector records that spatial pointers name is held: at the first that is anywhere.
-fn targets_anchor<L: Ledger>(
-    alloc: Global,
-    look: &ListLook,
-    around: Box4,
-    spots: &[Spot],
-    steps: &mut Steps<L>,
-) -> Result<Option<PagePoint>, AllocError>
-    ensures { IfOk result (λ at. at ≡ spec_anchor_of (flat_map (target_strokes look.now around) spots.now)) }
-{
-    for spot in spots {
-        let at = target_anchor(alloc, look, around, *spot, steps)?;
-        if at.is_some() {
-            return Ok(at);
-        }
-    }
-    Ok(None)
-}
-
-/// Where a mark of the record of a name is held.
-fn named_anchor<L: Ledger>(
-    alloc: Global,
-    look: &ListLook,
-    around: Box4,
-    name: RecName,
-    steps: &mut Steps<L>,
-) -> Result<Option<PagePoint>, AllocError>
-    ensures { IfOk result (λ at. at ≡ spec_anchor_of (strokes_named look.now around name)) }
-{
-    match look.get(name, steps) {
-        Some(Rec::V(vector)) => vector_anchor(alloc, look, around, vector, steps),
-        Some(Rec::F(feature)) => {
-            targets_anchor(alloc, look, around, feature.places.as_slice(), steps)
-        }
-        _ => Ok(None),
-    }
-}
-
-/// The same, where findings on one record follow each other: it isn't looked at again.
-fn held_anchor<L: Ledger>(
-    alloc: Global,
-    look: &ListLook,
-    around: Box4,
-    name: RecName,
-    held: &mut Option<Held>,
-    steps: &mut Steps<L>,
-) -> Result<Option<PagePoint>, AllocError>
-    requires { IsHeld look.now around held.old }
-    ensures at { IfOk result (λ at. at ≡ spec_anchor_of (strokes_named look.now around name)) }
-    ensures held { IsHeld look.now around held.new }
-{
-    if let Some(last) = *held {
-        if last.name == name {
-            return Ok(last.at);
-        }
-    }
-    let at = named_anchor(alloc, look, around, name, steps)?;
-    *held = Some(Held { name, at });
-    Ok(at)
-}
-
-/// Where a mark of what the spatial pointer of a feature at a place from 1 names is held.
-fn place_anchor<L: Ledger>(
-    alloc: Global,
-    look: &ListLook,
-    around: Box4,
-    name: RecName,
-    place: u32,
-    steps: &mut Steps<L>,
-) -> Result<Option<PagePoint>, AllocError>
-    ensures { IfOk result (λ at. at ≡ spec_anchor_of (strokes_at_place look.now around place (lookup_record look.now name))) }
-{
-    let Some(Rec::F(feature)) = look.get(name, steps) else {
-        return Ok(None);
-    };
-    match pointer_at(feature, place) {
-        Some(spot) => target_anchor(alloc, look, around, spot, steps),
-        None => Ok(None),
-    }
-}
-
 /// The record that a finding is about as a whole, if it is about one.
 fn whole_of(subject: Subject, finding: Finding) -> Option<RecName>
     ensures { IfSome result (λ name. (c : SpecCell) → (box : _) → place_about c box subject finding ≡ strokes_named c box name) }
@@ -236,24 +110,116 @@ fn whole_of(subject: Subject, finding: Finding) -> Option<RecName>
     }
 }
 
-/// Where the mark of a finding is held that may be about a part of a record.
-fn part_anchor<L: Ledger>(
+/// What marks are on: the part of a cell that lies in a box.
+#[derive(Drop)]
+struct View<'a, 'b> {
     alloc: Global,
-    look: &ListLook,
+    look: &'a ListLook<'b>,
     around: Box4,
-    subject: Subject,
-    finding: Finding,
-    steps: &mut Steps<L>,
-) -> Result<Option<PagePoint>, AllocError>
-    ensures { IfOk result (λ at. at ≡ spec_anchor_of (place_about look.now around subject finding)) }
-{
-    if let Subject::Rec(name) = subject {
-        if finding.kind != STACKED && finding.kind != SELF_MEET && is_at_place(finding.kind) {
-            return place_anchor(alloc, look, around, name, finding.nums[0], steps);
+}
+
+impl<'a, 'b> View<'a, 'b> {
+    /// Where a mark of an edge is held.
+    fn edge<L: Ledger>(&self, edge: &Vector, steps: &mut Steps<L>) -> Anchor
+        ensures { IfOk result (λ at. at ≡ spec_middle_of (spec_stroke_of self.now.around (drawn_points self.now.look.now edge.now))) }
+    {
+        match edge_points(self.alloc, self.look, edge.name, steps)? {
+            Some(points) => Ok(middle_through(self.around, points.as_slice())),
+            None => Ok(middle_through(self.around, edge.plane.as_slice())),
         }
     }
-    let strokes = place_of(alloc, look, around, subject, finding, steps)?;
-    Ok(anchor_of(strokes.as_slice()))
+
+    /// Where a mark of a node or an edge is held.
+    fn vector<L: Ledger>(&self, vector: &Vector, steps: &mut Steps<L>) -> Anchor
+        ensures { IfOk result (λ at. at ≡ spec_anchor_of (vector_strokes self.now.look.now self.now.around vector.now)) }
+    {
+        if is_edge_name(vector.name) {
+            return self.edge(vector, steps);
+        }
+        Ok(node_anchor(self.around, vector))
+    }
+
+    /// Where a mark of the vector record that a spatial pointer names is held.
+    fn target<L: Ledger>(&self, spot: Spot, steps: &mut Steps<L>) -> Anchor
+        ensures { IfOk result (λ at. at ≡ spec_anchor_of (target_strokes self.now.look.now self.now.around spot)) }
+    {
+        match self.look.get(spot.to, steps) {
+            Some(Rec::V(vector)) => self.vector(vector, steps),
+            _ => Ok(None),
+        }
+    }
+
+    /// Where a mark of the vector records that spatial pointers name is held: at the first that is anywhere.
+    fn targets<L: Ledger>(&self, spots: &[Spot], steps: &mut Steps<L>) -> Anchor
+        ensures { IfOk result (λ at. at ≡ spec_anchor_of (flat_map (target_strokes self.now.look.now self.now.around) spots.now)) }
+    {
+        for spot in spots {
+            let at = self.target(*spot, steps)?;
+            if at.is_some() {
+                return Ok(at);
+            }
+        }
+        Ok(None)
+    }
+
+    /// Where a mark of the record of a name is held.
+    fn named<L: Ledger>(&self, name: RecName, steps: &mut Steps<L>) -> Anchor
+        ensures { IfOk result (λ at. at ≡ spec_anchor_of (strokes_named self.now.look.now self.now.around name)) }
+    {
+        match self.look.get(name, steps) {
+            Some(Rec::V(vector)) => self.vector(vector, steps),
+            Some(Rec::F(feature)) => self.targets(feature.places.as_slice(), steps),
+            _ => Ok(None),
+        }
+    }
+
+    /// The same, where findings on one record follow each other: it isn't looked at again.
+    fn held<L: Ledger>(
+        &self,
+        name: RecName,
+        held: &mut Option<Held>,
+        steps: &mut Steps<L>,
+    ) -> Anchor
+        requires { IsHeld self.now.look.now self.now.around held.old }
+        ensures at { IfOk result (λ at. at ≡ spec_anchor_of (strokes_named self.now.look.now self.now.around name)) }
+        ensures held { IsHeld self.now.look.now self.now.around held.new }
+    {
+        if let Some(last) = *held {
+            if last.name == name {
+                return Ok(last.at);
+            }
+        }
+        let at = self.named(name, steps)?;
+        *held = Some(Held { name, at });
+        Ok(at)
+    }
+
+    /// Where a mark of what the spatial pointer of a feature at a place from 1 names is held.
+    fn at_place<L: Ledger>(&self, name: RecName, place: u32, steps: &mut Steps<L>) -> Anchor
+        ensures { IfOk result (λ at. at ≡ spec_anchor_of
+            (strokes_at_place self.now.look.now self.now.around place (lookup_record self.now.look.now name))) }
+    {
+        let Some(Rec::F(feature)) = self.look.get(name, steps) else {
+            return Ok(None);
+        };
+        match pointer_at(feature, place) {
+            Some(spot) => self.target(spot, steps),
+            None => Ok(None),
+        }
+    }
+
+    /// Where the mark of a finding is held that may be about a part of a record.
+    fn part<L: Ledger>(&self, subject: Subject, finding: Finding, steps: &mut Steps<L>) -> Anchor
+        ensures { IfOk result (λ at. at ≡ spec_anchor_of (place_about self.now.look.now self.now.around subject finding)) }
+    {
+        if let Subject::Rec(name) = subject {
+            if finding.kind != STACKED && finding.kind != SELF_MEET && is_at_place(finding.kind) {
+                return self.at_place(name, finding.nums[0], steps);
+            }
+        }
+        let strokes = place_of(self.alloc, self.look, self.around, subject, finding, steps)?;
+        Ok(anchor_of(strokes.as_slice()))
+    }
 }
 
 /// Where the mark of a finding on a subject is held, if it is anywhere. `held` is the record at which the last one was held that was about
@@ -271,8 +237,13 @@ pub fn mark_anchor<L: Ledger>(
     ensures at { IfOk result (λ at. at ≡ spec_anchor_of (place_about look.now around subject finding)) }
     ensures held { IsHeld look.now around held.new }
 {
+    let view = View {
+        alloc,
+        look,
+        around,
+    };
     match whole_of(subject, finding) {
-        Some(name) => held_anchor(alloc, look, around, name, held, steps),
-        None => part_anchor(alloc, look, around, subject, finding, steps),
+        Some(name) => view.held(name, held, steps),
+        None => view.part(subject, finding, steps),
     }
 }

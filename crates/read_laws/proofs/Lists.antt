@@ -3,23 +3,12 @@ use Rattle.std.proofs.Common.{◌≡◌, ℕ, ◌+◌, Bool, true, false, List, 
 use Rattle.std.specs.List.{AllByRecursion, enumerate_from, list_all, cons_option}
 use Rattle.rule_spec.specs.Records.{the_only}
 use Rattle.rule_spec.specs.Rule.{places_from}
-
-pub each_weaker : {X : Type 0} (P Q : X → Type 0) → ((x : X) → P x → Q x) → (xs : List X) → AllByRecursion P xs → AllByRecursion Q xs
-each_weaker P Q weaker [] all = tt
-each_weaker P Q weaker (x ∷ xs) all = (weaker x all.0, each_weaker P Q weaker xs all.1)
+pub use Rattle.cell_spec.proofs.EachItem.{each_weaker, each_front, each_back}
 
 pub each_from_both : {X : Type 0} (P Q R : X → Type 0) → ((x : X) → P x → Q x → R x) → (xs : List X) → AllByRecursion P xs
     → AllByRecursion Q xs → AllByRecursion R xs
 each_from_both P Q R both [] first second = tt
 each_from_both P Q R both (x ∷ xs) first second = (both x first.0 second.0, each_from_both P Q R both xs first.1 second.1)
-
-pub each_front : {X : Type 0} (P : X → Type 0) (xs ys : List X) → AllByRecursion P (xs ++ ys) → AllByRecursion P xs
-each_front P [] ys all = tt
-each_front P (x ∷ xs) ys all = (all.0, each_front P xs ys all.1)
-
-pub each_back : {X : Type 0} (P : X → Type 0) (xs ys : List X) → AllByRecursion P (xs ++ ys) → AllByRecursion P ys
-each_back P [] ys all = all
-each_back P (x ∷ xs) ys all = each_back P xs ys all.1
 
 pub each_joined : {X : Type 0} (P : X → Type 0) (xs ys : List X) → AllByRecursion P xs → AllByRecursion P ys → AllByRecursion P (xs ++ ys)
 each_joined P [] ys first second = second

@@ -39,24 +39,28 @@ fn dsid_length(dsid: &Dsid) -> usize
     )
 }
 
+/// Three lengths and a number more.
+fn sum_with(more: usize, first: usize, second: usize, third: usize) -> usize
+    ensures { result ≡ saturated (first + second + third + more) }
+{
+    first
+        .saturating_add(second)
+        .saturating_add(third)
+        .saturating_add(more)
+}
+
 /// The length of the field DSID by the lengths of its texts.
 pub fn identification_length(numbered: usize, described: usize, dated: usize) -> usize
     ensures { result ≡ saturated (numbered + described + dated + 12) }
 {
-    numbered
-        .saturating_add(described)
-        .saturating_add(dated)
-        .saturating_add(12)
+    sum_with(12, numbered, described, dated)
 }
 
 /// The length of three texts with their terminators.
 pub fn texts_length(first: usize, second: usize, third: usize) -> usize
     ensures { result ≡ saturated (first + second + third + 3) }
 {
-    first
-        .saturating_add(second)
-        .saturating_add(third)
-        .saturating_add(3)
+    sum_with(3, first, second, third)
 }
 
 pub fn fixed_texts_length(first: &[u8], second: &[u8], third: &[u8]) -> usize

@@ -9,7 +9,28 @@ use s57_types::{Dsid, Dspm, Dssi, Head, HeadEdit, Level, Text};
 use std::alloc::{AllocError, Global};
 use std::test::Fail;
 
+/// The values of the second head record, with this comment.
+fn parameters(comt: Text) -> Dspm {
+    let (hdat, vdat, sdat) = (2, 23, 23);
+    let (duni, huni, puni, coun) = (1, 1, 1, 1);
+    Dspm {
+        rcid: 1,
+        cscl: 10_000,
+        comf: 10_000_000,
+        somf: 10,
+        hdat,
+        vdat,
+        sdat,
+        duni,
+        huni,
+        puni,
+        coun,
+        comt,
+    }
+}
+
 pub fn head(alloc: Global, comment: Text) -> Result<Head, AllocError> {
+    let values = parameters(comment);
     Ok(Head {
         dsid_rcid: 1,
         intu: 5,
@@ -27,18 +48,18 @@ pub fn head(alloc: Global, comment: Text) -> Result<Head, AllocError> {
         dsid_comt: Text::make(alloc),
         aall: 1,
         nall: 2,
-        dspm_rcid: 1,
-        hdat: 2,
-        vdat: 23,
-        sdat: 23,
-        cscl: 10_000,
-        duni: 1,
-        huni: 1,
-        puni: 1,
-        coun: 1,
-        comf: 10_000_000,
-        somf: 10,
-        dspm_comt: comment,
+        dspm_rcid: values.rcid,
+        hdat: values.hdat,
+        vdat: values.vdat,
+        sdat: values.sdat,
+        cscl: values.cscl,
+        duni: values.duni,
+        huni: values.huni,
+        puni: values.puni,
+        coun: values.coun,
+        comf: values.comf,
+        somf: values.somf,
+        dspm_comt: values.comt,
     })
 }
 
@@ -182,20 +203,7 @@ fn general_information_has_at_most_99_999_bytes(rt: HostRuntime) -> Result<(), F
 fn geographic_reference_has_at_most_99_999_bytes(rt: HostRuntime) -> Result<(), Fail> {
     let alloc = rt.alloc();
     for (length, answer) in [(99_925, true), (99_926, false)] {
-        let dspm = Dspm {
-            rcid: 1,
-            hdat: 2,
-            vdat: 23,
-            sdat: 23,
-            cscl: 10_000,
-            duni: 1,
-            huni: 1,
-            puni: 1,
-            coun: 1,
-            comf: 10_000_000,
-            somf: 10,
-            comt: long_text(alloc, length)?,
-        };
+        let dspm = parameters(long_text(alloc, length)?);
         assert_eq!(rt; is_geographic_reference_short(&dspm), answer);
     }
     Ok(())

@@ -21,12 +21,15 @@ use Rattle.history_spec.specs.Steps.{History, Event, AcceptedCommit, view, fault
 use Rattle.history_spec.specs.Steps.{contested_names, state_refusal, edits_asked}
 
 -- an edit leaves the head's level of national texts
+level_with : (h : CellHead) (edit : Edit) → (head_by h (Some edit)).nall ≡ h.nall
+level_with h (Add r) = refl
+level_with h (Set r) = refl
+level_with h (Del n) = refl
+level_with h (Head e) = refl
+
 level_by : (h : CellHead) (edit : Option Edit) → (head_by h edit).nall ≡ h.nall
 level_by h None = refl
-level_by h (Some (Add r)) = refl
-level_by h (Some (Set r)) = refl
-level_by h (Some (Del n)) = refl
-level_by h (Some (Head e)) = refl
+level_by h (Some edit) = level_with h edit
 
 pub level_left : (desk : ℕ) (event : Event) (reply : Reply) (h : History) → (left_after desk event reply h).cell.head.nall ≡ h.cell.head.nall
 unfolding apply_edits

@@ -2,6 +2,8 @@ pub mod Ascending
 pub mod Changes
 pub mod Found
 pub mod Joined
+pub mod Pairs
 pub mod Place
 pub mod Runs
+pub mod Sought
 pub mod Whole

@@ -1,3 +1,4 @@
+pub mod Claims
 pub mod Copies
 pub mod Halves
 pub mod Starts

@@ -23,43 +23,35 @@ module _ {X : Type 0} (blocks : List (List X)) (starts new : List ℕ) (i : ℕ)
     fits = omega (arith, old.fits, length-joined-set blocks i rows in_range, same);
   }
 
-  -- one more row in a block raises the starts behind it
+  -- another number of rows in a block moves the starts behind it
+  starts_moved : (rows : List X) → length (joined blocks) + length rows < 2 ^ 64 + length (block_at blocks i) → length new ≡ length starts
+      → ((k : ℕ) → k < i + 1 → get_or new k 0 ≡ get_or starts k 0)
+      → ((k : ℕ) → i + 1 ≤ k → k < length starts → get_or new k 0 + length (block_at blocks i) ≡ get_or starts k 0 + length rows)
+      → AreStarts (set blocks i rows) new
+  starts_moved rows fits len before moved = record {
+    count = omega (arith, old.count, length-set blocks i rows, len);
+    start = λ k lt. elim (cases_lt i k) [
+      | inl high ↦
+          let there = moved k (omega arith) (omega (arith, old.count, length-set blocks i rows)) in
+          omega (arith, old.start k (omega (arith, length-set blocks i rows)), rows_before-set_high blocks i k rows high in_range, there)
+      | inr low ↦ omega (arith, old.start k (omega (arith, length-set blocks i rows)), rows_before-set_low blocks i k rows low, before k (omega arith))
+    ];
+    fits = omega (arith, fits, length-joined-set blocks i rows in_range);
+  }
+
+  -- one more row in a block raises them
   pub starts_raised : (rows : List X) → length rows ≡ length (block_at blocks i) + 1 → length (joined blocks) + 1 < 2 ^ 64
       → length new ≡ length starts → ((k : ℕ) → k < i + 1 → get_or new k 0 ≡ get_or starts k 0)
       → ((k : ℕ) → i + 1 ≤ k → k < length starts → get_or new k 0 ≡ get_or starts k 0 + 1) → AreStarts (set blocks i rows) new
-  starts_raised rows grown fits len before raised = record {
-    count = omega (arith, old.count, length-set blocks i rows, len);
-    start = λ k lt. elim (cases_lt i k) [
-      | inl high ↦ omega (
-        arith,
-        old.start k (omega (arith, length-set blocks i rows)),
-        rows_before-set_high blocks i k rows high in_range,
-        grown,
-        raised k (omega arith) (omega (arith, old.count, length-set blocks i rows)),
-      )
-      | inr low ↦ omega (arith, old.start k (omega (arith, length-set blocks i rows)), rows_before-set_low blocks i k rows low, before k (omega arith))
-    ];
-    fits = omega (arith, fits, length-joined-set blocks i rows in_range, grown);
-  }
+  starts_raised rows grown fits len before raised =
+      starts_moved rows (omega (arith, fits, grown)) len before (λ k from lt. omega (arith, raised k from lt, grown))
 
   -- one row less lowers them
   pub starts_lowered : (rows : List X) → length rows + 1 ≡ length (block_at blocks i) → length new ≡ length starts
       → ((k : ℕ) → k < i + 1 → get_or new k 0 ≡ get_or starts k 0)
       → ((k : ℕ) → i + 1 ≤ k → k < length starts → get_or new k 0 + 1 ≡ get_or starts k 0) → AreStarts (set blocks i rows) new
-  starts_lowered rows shrunk len before lowered = record {
-    count = omega (arith, old.count, length-set blocks i rows, len);
-    start = λ k lt. elim (cases_lt i k) [
-      | inl high ↦ omega (
-        arith,
-        old.start k (omega (arith, length-set blocks i rows)),
-        rows_before-set_high blocks i k rows high in_range,
-        shrunk,
-        lowered k (omega arith) (omega (arith, old.count, length-set blocks i rows)),
-      )
-      | inr low ↦ omega (arith, old.start k (omega (arith, length-set blocks i rows)), rows_before-set_low blocks i k rows low, before k (omega arith))
-    ];
-    fits = omega (arith, old.fits, length-joined-set blocks i rows in_range, shrunk);
-  }
+  starts_lowered rows shrunk len before lowered =
+      starts_moved rows (let fits = old.fits in omega (arith, fits, shrunk)) len before (λ k from lt. omega (arith, lowered k from lt, shrunk))
 
   -- a block without rows goes with its start
   pub starts_removed : length (block_at blocks i) ≡ 0 → length new + 1 ≡ length starts → SameBelow starts new i → ShiftedDown starts new i

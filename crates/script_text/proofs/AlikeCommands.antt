@@ -37,8 +37,7 @@ alike_vectors : (v v' : Vector) → IsVectorOfWidth v → IsVectorOfWidth v' →
 alike_vectors v v' w w' same =
     let word = λ (k : ℕ). ap (λ t. get_or t k []) same in
     let items : vector_items v ≡ vector_items v' = ap (drop 3) same in
-    let one = sorted_vector v in
-    let other = sorted_vector v' in
+    let one = sorted_vector v in let other = sorted_vector v' in
     same_vector v.name v.rver v.attrs v.ends v.plane v.deep v'
     (same_name v.name v'.name (word 0) (same_number v.name.id v'.name.id w.name w'.name (word 1)))
     (same_number v.rver v'.rver (omega (arith, w.rver)) (omega (arith, w'.rver)) (word 2))
@@ -52,8 +51,7 @@ alike_features : (f f' : Feature) → IsFeatureOfWidth f → IsFeatureOfWidth f'
 alike_features f f' w w' same =
     let word = λ (k : ℕ). ap (λ t. get_or t k []) same in
     let items : feature_items f ≡ feature_items f' = ap (drop 9) same in
-    let one = sorted_feature f in
-    let other = sorted_feature f' in
+    let one = sorted_feature f in let other = sorted_feature f' in
     same_feature f.name f.prim f.grup f.objl f.rver f.foid f.attf f.natf f.partners f.places f'
     (same_name f.name f'.name (word 0) (same_number f.name.id f'.name.id w.name w'.name (word 1)))
     (same_number f.prim f'.prim (omega (arith, w.prim)) (omega (arith, w'.prim)) (word 3))
@@ -149,40 +147,19 @@ record IsOther (word : List ℕ) : Type 0 where
   no_list : word ≡ codes "list" → ⊥
   no_guard : word ≡ codes "guard" → ⊥
 
+letters : {word other : List ℕ} → word ≡ other → get_or word 0 0 ≡ get_or other 0 0
+letters e = ap (λ w. get_or w 0 0) e
+
+other_by : (word : List ℕ) → (get_or word 0 0 ≡ 118 → ⊥) → (get_or word 0 0 ≡ 99 → ⊥) → (word ≡ codes "drop" → ⊥) → (get_or word 0 0 ≡ 108 → ⊥)
+    → (get_or word 0 0 ≡ 103 → ⊥) → IsOther word
+other_by word v c drop l g =
+    record { no_view = λ e. v (letters e); no_commit = λ e. c (letters e); no_drop = drop; no_list = λ e. l (letters e); no_guard = λ e. g (letters e) }
+
 other_first : (edit : Edit) → IsOther (first_word (Push edit))
-other_first (Add r) = record {
-  no_view = λ e. omega (arith, ap (λ w. get_or w 0 0) e);
-  no_commit = λ e. omega (arith, ap (λ w. get_or w 0 0) e);
-  no_drop = λ e. omega (arith, ap (λ w. get_or w 0 0) e);
-  no_list = λ e. omega (arith, ap (λ w. get_or w 0 0) e);
-  no_guard =
-      λ e. omega (arith, ap (λ w. get_or w 0 0) e);
-}
-other_first (Set r) = record {
-  no_view = λ e. omega (arith, ap (λ w. get_or w 0 0) e);
-  no_commit = λ e. omega (arith, ap (λ w. get_or w 0 0) e);
-  no_drop = λ e. omega (arith, ap (λ w. get_or w 0 0) e);
-  no_list = λ e. omega (arith, ap (λ w. get_or w 0 0) e);
-  no_guard =
-      λ e. omega (arith, ap (λ w. get_or w 0 0) e);
-}
-other_first (Del n) = record {
-  no_view = λ e. omega (arith, ap (λ w. get_or w 0 0) e);
-  no_commit = λ e. omega (arith, ap (λ w. get_or w 0 0) e);
-  no_drop = λ e. omega (arith, ap length e);
-  no_list = λ e. omega (arith, ap (λ w. get_or w 0 0) e);
-  no_guard =
-      λ e. omega (arith, ap (λ w. get_or w 0 0) e);
-}
-other_first (Head e') = record {
-  no_view = λ e. omega (arith, ap (λ w. get_or w 0 0) e);
-  no_commit =
-      λ e. omega (arith, ap (λ w. get_or w 0 0) e);
-  no_drop = λ e. omega (arith, ap (λ w. get_or w 0 0) e);
-  no_list =
-      λ e. omega (arith, ap (λ w. get_or w 0 0) e);
-  no_guard = λ e. omega (arith, ap (λ w. get_or w 0 0) e);
-}
+other_first (Add r) = other_by (codes "add") (λ e. omega arith) (λ e. omega arith) (λ e. omega (arith, letters e)) (λ e. omega arith) (λ e. omega arith)
+other_first (Set r) = other_by (codes "set") (λ e. omega arith) (λ e. omega arith) (λ e. omega (arith, letters e)) (λ e. omega arith) (λ e. omega arith)
+other_first (Del n) = other_by (codes "del") (λ e. omega arith) (λ e. omega arith) (λ e. omega (arith, ap length e)) (λ e. omega arith) (λ e. omega arith)
+other_first (Head e') = other_by (codes "set") (λ e. omega arith) (λ e. omega arith) (λ e. omega (arith, letters e)) (λ e. omega arith) (λ e. omega arith)
 
 alike_by : (c d : Command) → IsCommand c → IsCommand d → first_word c ≡ first_word d → spaced_words (other_words c) ≡ spaced_words (other_words d) → c ≡ d
 alike_by View d can can' first words = view_of d (sym first)

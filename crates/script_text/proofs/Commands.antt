@@ -127,60 +127,30 @@ del_found (Head e) words read found not_add not_set can spelled = absurd (not_se
 -- the command of a first word
 pub view_of : (c : Command) → first_word c ≡ codes "view" → View ≡ c
 view_of View word = refl
-view_of Commit word = absurd (omega (arith, ap (λ w. get_or w 0 0) word))
-view_of Drop word = absurd (omega (arith, ap (λ w. get_or w 0 0) word))
-view_of (Findings shown) word = absurd (omega (arith, ap (λ w. get_or w 0 0) word))
 view_of (Push (Add r)) word = absurd (omega (arith, ap (λ w. get_or w 0 0) word))
-view_of (Push (Set r)) word = absurd (omega (arith, ap (λ w. get_or w 0 0) word))
-view_of (Push (Del n)) word = absurd (omega (arith, ap (λ w. get_or w 0 0) word))
-view_of (Push (Head e)) word = absurd (omega (arith, ap (λ w. get_or w 0 0) word))
-view_of (Guard n) word = absurd (omega (arith, ap (λ w. get_or w 0 0) word))
+view_of c word = absurd (omega (arith, ap (λ w. get_or w 0 0) word))
 
 pub commit_of : (c : Command) → first_word c ≡ codes "commit" → Commit ≡ c
-commit_of View word = absurd (omega (arith, ap (λ w. get_or w 0 0) word))
 commit_of Commit word = refl
-commit_of Drop word = absurd (omega (arith, ap (λ w. get_or w 0 0) word))
-commit_of (Findings shown) word = absurd (omega (arith, ap (λ w. get_or w 0 0) word))
 commit_of (Push (Add r)) word = absurd (omega (arith, ap (λ w. get_or w 0 0) word))
-commit_of (Push (Set r)) word = absurd (omega (arith, ap (λ w. get_or w 0 0) word))
-commit_of (Push (Del n)) word = absurd (omega (arith, ap (λ w. get_or w 0 0) word))
-commit_of (Push (Head e)) word = absurd (omega (arith, ap (λ w. get_or w 0 0) word))
-commit_of (Guard n) word = absurd (omega (arith, ap (λ w. get_or w 0 0) word))
+commit_of c word = absurd (omega (arith, ap (λ w. get_or w 0 0) word))
 
 pub drop_of : (c : Command) → first_word c ≡ codes "drop" → Drop ≡ c
-drop_of View word = absurd (omega (arith, ap (λ w. get_or w 0 0) word))
-drop_of Commit word = absurd (omega (arith, ap (λ w. get_or w 0 0) word))
 drop_of Drop word = refl
-drop_of (Findings shown) word = absurd (omega (arith, ap (λ w. get_or w 0 0) word))
-drop_of (Push (Add r)) word = absurd (omega (arith, ap (λ w. get_or w 0 0) word))
-drop_of (Push (Set r)) word = absurd (omega (arith, ap (λ w. get_or w 0 0) word))
 drop_of (Push (Del n)) word = absurd (omega (arith, ap length word))
-drop_of (Push (Head e)) word = absurd (omega (arith, ap (λ w. get_or w 0 0) word))
-drop_of (Guard n) word = absurd (omega (arith, ap (λ w. get_or w 0 0) word))
+drop_of c word = absurd (omega (arith, ap (λ w. get_or w 0 0) word))
 
 pub list_found : (c : Command) (words : List ℕ) (read : ℕ) → ((n : ℕ) → n < 2 ^ 32 → words ≡ spaced_words (decimal n ∷ []) → read ≡ n)
     → first_word c ≡ codes "list" → IsCommand c → words ≡ spaced_words (other_words c) → Findings read ≡ c
-list_found View words read found first can spelled = absurd (omega (arith, ap (λ w. get_or w 0 0) first))
-list_found Commit words read found first can spelled = absurd (omega (arith, ap (λ w. get_or w 0 0) first))
-list_found Drop words read found first can spelled = absurd (omega (arith, ap (λ w. get_or w 0 0) first))
 list_found (Findings shown) words read found first can spelled = ap (λ (x : ℕ). Findings x) (found shown (omega (arith, can)) spelled)
 list_found (Push (Add r)) words read found first can spelled = absurd (omega (arith, ap (λ w. get_or w 0 0) first))
-list_found (Push (Set r)) words read found first can spelled = absurd (omega (arith, ap (λ w. get_or w 0 0) first))
-list_found (Push (Del n)) words read found first can spelled = absurd (omega (arith, ap (λ w. get_or w 0 0) first))
-list_found (Push (Head e)) words read found first can spelled = absurd (omega (arith, ap (λ w. get_or w 0 0) first))
-list_found (Guard n) words read found first can spelled = absurd (omega (arith, ap (λ w. get_or w 0 0) first))
+list_found c words read found first can spelled = absurd (omega (arith, ap (λ w. get_or w 0 0) first))
 
 pub guard_found : (c : Command) (words : List ℕ) (read : RecName) → ((n : RecName) → IsNameOfWidth n → words ≡ spaced_words (name_words n) → read ≡ n)
     → first_word c ≡ codes "guard" → IsCommand c → words ≡ spaced_words (other_words c) → Guard read ≡ c
-guard_found View words read found first can spelled = absurd (omega (arith, ap (λ w. get_or w 0 0) first))
-guard_found Commit words read found first can spelled = absurd (omega (arith, ap (λ w. get_or w 0 0) first))
-guard_found Drop words read found first can spelled = absurd (omega (arith, ap (λ w. get_or w 0 0) first))
-guard_found (Findings shown) words read found first can spelled = absurd (omega (arith, ap (λ w. get_or w 0 0) first))
 guard_found (Push (Add r)) words read found first can spelled = absurd (omega (arith, ap (λ w. get_or w 0 0) first))
-guard_found (Push (Set r)) words read found first can spelled = absurd (omega (arith, ap (λ w. get_or w 0 0) first))
-guard_found (Push (Del n)) words read found first can spelled = absurd (omega (arith, ap (λ w. get_or w 0 0) first))
-guard_found (Push (Head e)) words read found first can spelled = absurd (omega (arith, ap (λ w. get_or w 0 0) first))
 guard_found (Guard n) words read found first can spelled = ap (λ (x : RecName). Guard x) (found n (name_of_width n can.1) spelled)
+guard_found c words read found first can spelled = absurd (omega (arith, ap (λ w. get_or w 0 0) first))
 
 abbrev pub IsEditFound : List ℕ → List ℕ → Edit → Type 0
 IsEditFound first words read = (edit : Edit) → IsCommand (Push edit) → first ≡ first_word (Push edit)
@@ -199,26 +169,12 @@ push_found (Push edit) first words read found not_view not_commit not_drop not_l
 
 -- a line is its words and a line feed
 pub line_is : (c : Command) → command_line c ≡ command_text c ++ 10 ∷ []
-line_is View = refl
-line_is Commit = refl
-line_is Drop = refl
-line_is (Findings shown) = refl
 line_is (Push (Add r)) = refl
-line_is (Push (Set r)) = refl
-line_is (Push (Del n)) = refl
-line_is (Push (Head e)) = refl
-line_is (Guard n) = refl
+line_is c = refl
 
 pub free_first : (c : Command) → IsFree 32 (first_word c)
-free_first View = record { free = refl }
-free_first Commit = record { free = refl }
-free_first Drop = record { free = refl }
-free_first (Findings shown) = record { free = refl }
 free_first (Push (Add r)) = record { free = refl }
-free_first (Push (Set r)) = record { free = refl }
-free_first (Push (Del n)) = record { free = refl }
-free_first (Push (Head e)) = record { free = refl }
-free_first (Guard n) = record { free = refl }
+free_first c = record { free = refl }
 
 pub text_cut : (c : Command) (text : List ℕ) → text ≡ command_text c → IsCut 32 text (first_word c) (spaced_words (other_words c))
 text_cut c text same = cut_of 32 text (first_word c) (spaced_words (other_words c)) same (free_first c).free (from_parts 32 (other_words c))

@@ -72,15 +72,8 @@ no_feed text front rest free free' same =
 
 -- no command's line is passed over
 pub spoken_by : (c : Command) → is_skipped (command_text c) ≡ false
-spoken_by View = refl
-spoken_by Commit = refl
-spoken_by Drop = refl
-spoken_by (Findings shown) = refl
 spoken_by (Push (Add r)) = refl
-spoken_by (Push (Set r)) = refl
-spoken_by (Push (Del n)) = refl
-spoken_by (Push (Head e)) = refl
-spoken_by (Guard n) = refl
+spoken_by c = refl
 
 -- the text of a line says what the line is
 same_body : (l l' : ScriptLine) → IsLine l → IsLine l' → body l ≡ body l' → l ≡ l'

@@ -1,7 +1,7 @@
 -- Words with a letter and the values that they stand for.
 use Rattle.std.proofs.Common.{◌≡◌, ℕ, ◌<◌, Bool, cond, true, false, List, [], ◌∷◌, ◌++◌, length, map, get_or, drop, All, OnOk, Result, Ok, Err, refl, sym}
-use Rattle.std.proofs.Common.{ap, ◌∙◌, arith, subst, append_assoc}
-use Rattle.std.proofs.lemmas.Bool.{eq-eqb}
+use Rattle.std.proofs.Common.{ap, ◌∙◌, arith, eqb, subst, append_assoc}
+use Rattle.std.proofs.lemmas.Bool.{eq-eqb, eqb-true, eqb-false}
 use Rattle.std.proofs.lemmas.List.{length-append, append-nil}
 use Rattle.std.proofs.lemmas.List.Elements.{All-head, All-tail, All-nil, All-cons, All-append, filter-append}
 use Rattle.s57_types.specs.Subfield.{holds}
@@ -124,21 +124,32 @@ left_by others words rest word behind some next (w ∷ more) free others_are res
       rest_is = now.1;
     }
 
-pub cut_step : (text rest word behind : List ℕ) (words : List (List ℕ)) → IsCutTo text rest words → 0 < length rest → IsNextWord rest word behind
+cut_step : (text rest word behind : List ℕ) (words : List (List ℕ)) → IsCutTo text rest words → 0 < length rest → IsNextWord rest word behind
     → IsCutTo text behind (words ++ word ∷ [])
 cut_step text rest word behind words cut some next = λ others free spelled.
     let left = cut others free spelled in
     left_by others words rest word behind some next left.more left.free left.others_are left.rest_is
+
+-- the same by the test for an empty rest
+pub cut_step_if : (text rest word behind : List ℕ) (words : List (List ℕ)) → IsCutTo text rest words → eqb (length rest) 0 ≡ false
+    → IsNextWord rest word behind → IsCutTo text behind (words ++ word ∷ [])
+cut_step_if text rest word behind words cut test next =
+    let not_none = eqb-false (length rest) 0 test in
+    let some : 0 < length rest = omega (arith, not_none) in
+    cut_step text rest word behind words cut some next
 
 cut_end_by : (others words : List (List ℕ)) (rest : List ℕ) → length rest ≡ 0 → (more : List (List ℕ)) → others ≡ words ++ more
     → rest ≡ spaced_words more → others ≡ words
 cut_end_by others words rest none [] others_are rest_is = others_are ∙ append-nil words
 cut_end_by others words rest none (w ∷ more) others_are rest_is = absurd (omega (arith, ap length rest_is))
 
-pub cut_end : (text rest : List ℕ) (words : List (List ℕ)) → IsCutTo text rest words → length rest ≡ 0 → AreWordsOf text words
+cut_end : (text rest : List ℕ) (words : List (List ℕ)) → IsCutTo text rest words → length rest ≡ 0 → AreWordsOf text words
 cut_end text rest words cut none = λ others free spelled.
     let left = cut others free spelled in
     cut_end_by others words rest none left.more left.others_are left.rest_is
+
+pub cut_end_if : (text rest : List ℕ) (words : List (List ℕ)) → IsCutTo text rest words → eqb (length rest) 0 ≡ true → AreWordsOf text words
+cut_end_if text rest words cut test = cut_end text rest words cut (eqb-true (length rest) 0 test)
 
 -- the words with a letter among the items of four lists
 pub each_begins : {X : Type 0} (letter : ℕ) (item : X → List ℕ) → ((x : X) → begins letter (item x) ≡ true) → (xs : List X)

@@ -30,6 +30,13 @@ pub record IsSorted (v : Vector) (words : List (List ℕ)) : Type 0 where
   pub plane : with_letter 112 words ≡ map plane_item v.plane
   pub deep : with_letter 100 words ≡ map deep_item v.deep
 
+-- the lists of items are those of the vector record
+pub record AreOf (items : VectorItems) (v : Vector) : Type 0 where
+  pub attrs : items.attrs ≡ v.attrs
+  pub ends : items.ends ≡ v.ends
+  pub plane : items.plane ≡ v.plane
+  pub deep : items.deep ≡ v.deep
+
 pub sorted_vector : (v : Vector) → IsSorted v (vector_items v)
 sorted_vector v =
     let attrs = map (attribute_item (codes "a")) v.attrs in
@@ -53,19 +60,12 @@ sorted_vector v =
           (each_begins 100 deep_item (λ x. refl) v.deep);
     }
 
--- the lists of items are those of the vector record
-pub record AreOf (items : VectorItems) (v : Vector) : Type 0 where
-  pub attrs : items.attrs ≡ v.attrs
-  pub ends : items.ends ≡ v.ends
-  pub plane : items.plane ≡ v.plane
-  pub deep : items.deep ≡ v.deep
-
 pub vector_items_are : (v : Vector) (text : List ℕ) (items : VectorItems) → IsVectorOfWidth v → AreVectorItemsOf text items
     → text ≡ spaced_words (vector_items v) → AreOf items v
 vector_items_are v text items width of spelled =
+    let lists = of.items_are in
     let words_are = of.are (vector_items v) (without_vector_items 32 v (omega arith) width) spelled in
     let sorted = subst (IsSorted v) words_are (sorted_vector v) in
-    let lists = of.items_are in
     record {
       attrs = lists.attrs.found v.attrs width.attrs sorted.attrs;
       ends = lists.ends.found v.ends width.ends sorted.ends;

@@ -21,13 +21,13 @@ use Rattle.script_text.specs.Widths.{IsNameOfWidth, IsIdentityOfWidth, IsAttribu
 use Rattle.script_text.specs.Widths.{IsPlaceOfWidth, IsVectorOfWidth, IsFeatureOfWidth, IsRecordOfWidth}
 
 -- what holds of each element of two lists
-pub all_front : {X : Type 0} (P : X → Type 0) (xs ys : List X) → All P (xs ++ ys) → All P xs
-all_front P [] ys all = All-nil P
-all_front P (x ∷ xs) ys all = All-cons P x xs (All-head P x (xs ++ ys) all) (all_front P xs ys (All-tail P x (xs ++ ys) all))
-
 pub all_back : {X : Type 0} (P : X → Type 0) (xs ys : List X) → All P (xs ++ ys) → All P ys
 all_back P [] ys all = all
 all_back P (x ∷ xs) ys all = all_back P xs ys (All-tail P x (xs ++ ys) all)
+
+pub all_front : {X : Type 0} (P : X → Type 0) (xs ys : List X) → All P (xs ++ ys) → All P xs
+all_front P [] ys all = All-nil P
+all_front P (x ∷ xs) ys all = All-cons P x xs (All-head P x (xs ++ ys) all) (all_front P xs ys (All-tail P x (xs ++ ys) all))
 
 all_of_rows : {X Y : Type 0} (P : Y → Type 0) (Q : X → Type 0) (row : X → List Y) → ((x : X) → All P (row x) → Q x) → (xs : List X)
     → All P (flat_map row xs) → All Q xs

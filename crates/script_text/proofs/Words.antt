@@ -45,6 +45,9 @@ free_decimal mark n apart fits = decimal_by_steps (λ _ digits. IsFree mark digi
     (λ m digits many free. free_append free (free_cons (48 + m % 10) (apart (m % 10) (omega arith)) (free_nothing mark)))
     n fits
 
+pub free_of_colons : (n : ℕ) → n < 2 ^ 32 → IsFree 58 (decimal n)
+free_of_colons n fits = free_decimal 58 n (λ d below here. omega arith) (omega arith)
+
 pub free_signed : (mark : ℕ) (z : ℤ) → IsNoDigit mark → (45 ≡ mark → ⊥) → FitsSigned w32 z → IsFree mark (signed_decimal z)
 free_signed mark (pos n) apart other fits = free_decimal mark n apart (omega (arith, fits.sfits))
 free_signed mark (negsuc n) apart other fits = free_cons 45 other (free_decimal mark (suc n) apart (omega (arith, fits.sfits)))

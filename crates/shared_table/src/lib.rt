@@ -4,6 +4,7 @@
 mod entry;
 mod filled;
 mod layer;
+mod levels;
 mod piece;
 mod rows;
 mod run;

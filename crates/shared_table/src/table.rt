@@ -6,11 +6,9 @@ ghost use Rattle.std.specs.Arc.{arc_value};
 ghost use Rattle.row_spec.specs.Rows.{IsAscending, value_of, with_row, without_key, lower_bound};
 ghost use Rattle.shared_table.specs.Pieces.{IsRunAt};
 
-use crate::filled::{layers_of, runs_of};
-use crate::layer::Layer;
+use crate::levels::{LowerLevels, lower_levels_of};
 use crate::piece::Piece;
 use crate::rows::SharedRows;
-use crate::run::Run;
 use crate::top::{Top, put_at_top, take_from_top, top_of};
 use s57_types::Duplicate;
 use std::alloc::{AllocError, Global};
@@ -18,7 +16,7 @@ use std::marker::Model;
 use std::sync::Arc;
 
 // The pieces of a table in five levels, of which the top has as many pieces as come.
-type Root<K, V> = Top<K, V, Layer<K, V, Layer<K, V, Run<K, V>>>>;
+type Root<K, V> = Top<K, V, LowerLevels<K, V>>;
 
 /// A sorted table, seen as its rows in ascending order of their keys. A copy is a count and shares all pieces, and a change of one of
 /// the two leaves the other as it is. An `Err` means out of memory, and leaves the table as it was.
@@ -134,11 +132,9 @@ impl<K: Ord + Copy + Drop, V: Duplicate + Drop> SharedTable<K, V> {
         requires { IsAscending K.cmp rows.items }
         ensures { IfOk result (λ table. table ≡ rows.items) }
     {
-        let runs = runs_of(alloc, rows)?;
-        let low = layers_of(alloc, runs)?;
-        let middle = layers_of(alloc, low)?;
+        let pieces = lower_levels_of(alloc, rows)?;
         Ok(SharedTable {
-            root: Some(top_of(alloc, middle)?),
+            root: Some(top_of(alloc, pieces)?),
         })
     }
 

@@ -1,5 +1,5 @@
 -- What a writable cell has under the names of its records.
-use Rattle.std.proofs.Common.{◌≡◌, ◌⊎◌, subst, ◌==◌, ◌&&◌, Bool, true, false, List, [], ◌∷◌, ◌++◌, Option, None, Some, cond, map, true≢false, refl, sym, ap}
+use Rattle.std.proofs.Common.{◌≡◌, ◌⊎◌, subst, ◌==◌, ◌&&◌, Bool, true, false, List, ◌++◌, Option, None, Some, cond, map, true≢false, refl, sym, ap}
 use Rattle.std.proofs.Common.{◌∙◌, inl, inr}
 use Rattle.std.specs.Prelude.{option_and_then}
 use Rattle.std.specs.Cmp.{eq_by_cmp_equiv}
@@ -11,7 +11,6 @@ use Rattle.s57_types.specs.Heads.{head_name}
 use Rattle.s57_types.specs.declared.name.Kind.{Kind}
 use Rattle.s57_types.specs.declared.name.Kind.TheVariants.{Vi, Vc, Ve, Fe, Head}
 use Rattle.s57_types.specs.declared.name.RecName.{RecName}
-use Rattle.s57_types.specs.declared.record.Feature.{Feature}
 use Rattle.s57_types.specs.declared.record.Vector.{Vector}
 use Rattle.s57_types.specs.declared.record.Rec.{Rec}
 use Rattle.s57_types.specs.declared.record.Rec.TheVariants.{V, F, H}
@@ -21,7 +20,7 @@ use Rattle.cell_spec.specs.Names.{kind_rank, same_name}
 use Rattle.cell_spec.specs.Writable.{AreOfKind, IsWritable}
 use Rattle.cell_spec.proofs.Orders.{names_tie, one_when_same, same_from_either, total_names}
 use Rattle.rule_spec.specs.Records.{edge_named, feature_named, feature_of, is_edge_name, vector_of}
-use Rattle.answer_laws.proofs.Among.{Among, among_append, among_map, found, found_only, in_back, in_front, known_of, one_of_name}
+use Rattle.answer_laws.proofs.Among.{Among, among_append, among_map, found, found_only, in_front, known_of, one_of_name}
 use Rattle.answer_laws.proofs.Distinct.{distinct_back, distinct_front}
 use Rattle.cell_findings.proofs.WritableLists.{all_well_named, is_well_named}
 
@@ -29,23 +28,16 @@ pub named_same : (n : RecName) → same_name n n ≡ true
 named_same n = sym (names_tie n n) ∙ (eq_by_cmp_equiv total_names).refl n
 
 -- ---- no record has the head's name
-vector_apart : (k : Kind) → is_vector_kind k ≡ true → (kind_rank Head == kind_rank k) ≡ false
-vector_apart Vi e = refl
-vector_apart Vc e = refl
-vector_apart Ve e = refl
-vector_apart Fe e = refl
-vector_apart Head e = cc
-
-feature_apart : (k : Kind) → is_feature_kind k ≡ true → (kind_rank Head == kind_rank k) ≡ false
-feature_apart Vi e = refl
-feature_apart Vc e = refl
-feature_apart Ve e = refl
-feature_apart Fe e = refl
-feature_apart Head e = cc
+apart : (passes : Kind → Bool) → passes Head ≡ false → (k : Kind) → passes k ≡ true → (kind_rank Head == kind_rank k) ≡ false
+apart passes fails Vi e = refl
+apart passes fails Vc e = refl
+apart passes fails Ve e = refl
+apart passes fails Fe e = refl
+apart passes fails Head e = cc
 
 no_head : (r : Rec) → is_well_named r ≡ true → same_name head_name (name_of r) ≡ false
-no_head (V v) e = ap (λ b. b && (head_name.id == v.name.id)) (vector_apart v.name.kind e)
-no_head (F f) e = ap (λ b. b && (head_name.id == f.name.id)) (feature_apart f.name.kind e)
+no_head (V v) e = ap (λ b. b && (head_name.id == v.name.id)) (apart is_vector_kind refl v.name.kind e)
+no_head (F f) e = ap (λ b. b && (head_name.id == f.name.id)) (apart is_feature_kind refl f.name.kind e)
 no_head (H h) e = cc
 
 -- ---- a list of one kind that isn't that of features has no feature

@@ -1,15 +1,14 @@
 //! The areas round a point.
 
 ghost use Rattle.std.specs.Prelude.{◌≡◌, IfOk};
-ghost use Rattle.skin_probe.specs.Sheet.{sheet_of, winds_round};
-ghost use Rattle.skin_probe.specs.Sorts.{is_of_sort};
-ghost use Rattle.skin_probe.specs.Totals.{unbalanced_total, winding_total};
+ghost use Rattle.skin_probe.specs.Sheet.{sheet_of};
+ghost use Rattle.skin_probe.specs.Totals.{unbalanced_total};
 ghost use Rattle.skin_probe.specs.WindingLaws.{AreSumsByEdges};
 
 use crate::area::AreaSort;
 use crate::balance::unbalanced_sides;
 use crate::law::{balanced_sides_equal_winding, winding_sum_by_edges};
-use crate::sheet::{ProbeSheet, SortWinds, probe_sort};
+use crate::sheet::{ProbeSheet, probe_sort};
 use cell_bench::Bench;
 use chain_topo::Steps;
 use geo_exact::Point;
@@ -23,22 +22,6 @@ fn unbalanced_of(bench: &Bench) -> u32
     bench.known();
     let table = bench.findings();
     unbalanced_sides(table)
-}
-
-/// What is told of the areas of a sort in the cell of a bench.
-fn winds_of_sort<L: Ledger>(
-    alloc: Global,
-    bench: &Bench,
-    sort: AreaSort,
-    at: Point,
-    steps: &mut Steps<L>,
-) -> Result<SortWinds, AllocError>
-    ensures rounds { IfOk result (λ winds. winds.rounds ≡ winds_round (is_of_sort sort) bench.now at) }
-    ensures total { IfOk result (λ winds. winds.total ≡ winding_total (is_of_sort sort) bench.now at) }
-{
-    let store = bench.store();
-    let winds = probe_sort(alloc, store, sort, at, steps)?;
-    Ok(winds)
 }
 
 /// What is told of the areas round a point.
@@ -55,8 +38,8 @@ fn sheet_at<L: Ledger>(
     bench.known();
     winding_sum_by_edges();
     balanced_sides_equal_winding();
-    let group1 = winds_of_sort(alloc, bench, AreaSort::Group1, at, steps)?;
-    let cover = winds_of_sort(alloc, bench, AreaSort::Coverage, at, steps)?;
+    let group1 = probe_sort(alloc, bench, AreaSort::Group1, at, steps)?;
+    let cover = probe_sort(alloc, bench, AreaSort::Coverage, at, steps)?;
     let unbalanced = unbalanced_of(bench);
     Ok(ProbeSheet {
         group1: group1.rounds,

@@ -8,6 +8,7 @@ ghost use Rattle.skin_probe.specs.Winding.{sum_of};
 
 use crate::area::{AreaSort, areas_of};
 use crate::winding::{area_winding, plus};
+use cell_bench::Bench;
 use chain_topo::Steps;
 use geo_exact::Point;
 use record_store::RecordStore;
@@ -95,14 +96,15 @@ fn going_round(alloc: Global, winds: &[(u32, i64)]) -> Result<Winds, AllocError>
 /// The areas of a sort that go round a point, and the sum of the winding numbers of all of them.
 pub(crate) fn probe_sort<L: Ledger>(
     alloc: Global,
-    store: &RecordStore,
+    bench: &Bench,
     sort: AreaSort,
     at: Point,
     steps: &mut Steps<L>,
 ) -> Result<SortWinds, AllocError>
-    ensures rounds { IfOk result (λ winds. winds.rounds ≡ winds_round (is_of_sort sort) store.now at) }
-    ensures total { IfOk result (λ winds. winds.total ≡ winding_total (is_of_sort sort) store.now at) }
+    ensures rounds { IfOk result (λ winds. winds.rounds ≡ winds_round (is_of_sort sort) bench.now at) }
+    ensures total { IfOk result (λ winds. winds.total ≡ winding_total (is_of_sort sort) bench.now at) }
 {
+    let store = bench.store();
     let areas = areas_of(alloc, store, sort)?;
     let areas = areas.as_slice();
     let winds = winds_of(alloc, store, areas, at, steps)?;

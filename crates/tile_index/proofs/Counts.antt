@@ -1,7 +1,8 @@
 -- How many numbers and tiles there are, and one more of them.
-use Rattle.std.proofs.Common.{◌≡◌, ◌&&◌, ◌||◌, ℕ, ◌+◌, Bool, true, false, refl, sym, ap, ◌∙◌, arith, ℤ, is_eq, min}
+use Rattle.std.proofs.Common.{◌≡◌, ◌&&◌, ◌||◌, ℕ, ◌+◌, Bool, true, false, sym, ap, ◌∙◌, arith, ℤ, is_eq, min}
 use Rattle.std.specs.Prelude.{int_le, int_lt, nat_lt, pos, ◌+ℤ◌, ◌≤ℤ◌, ◌<ℤ◌, unsigned_abs}
 use Rattle.std.specs.Ordering.{int_cmp}
+use Rattle.std.proofs.Math.Bool.{and-false, and-or_distrib_left, and-or_distrib_right, or-false, or_assoc}
 use Rattle.std.proofs.lemmas.Bool.Decides.{nat_tests}
 use Rattle.std.proofs.lemmas.Int.{ints}
 use Rattle.geometry_spec.specs.Tiles.{at_least_zero}
@@ -28,27 +29,16 @@ before_next c n x is = grind (arith, ints, nat_tests)
 
 -- a test that holds with one of two, or with another
 spread_left : (a r w y : Bool) → ((a || (r && w)) || (r && y)) ≡ (a || (r && (w || y)))
-spread_left true r w y = refl
-spread_left false true w y = refl
-spread_left false false w y = refl
+spread_left a r w y = or_assoc a (r && w) (r && y) ∙ ap (λ b. a || b) (sym (and-or_distrib_left r w y))
 
 spread_right : (a r w y : Bool) → ((a || (w && r)) || (y && r)) ≡ (a || ((w || y) && r))
-spread_right true r w y = refl
-spread_right false true true y = refl
-spread_right false false true true = refl
-spread_right false false true false = refl
-spread_right false true false y = refl
-spread_right false false false y = refl
+spread_right a r w y = or_assoc a (w && r) (y && r) ∙ ap (λ b. a || b) (sym (and-or_distrib_right w y r))
 
 none_left : (a r w : Bool) → w ≡ false → a ≡ (a || (r && w))
-none_left true r w e = refl
-none_left false true w e = sym e
-none_left false false w e = refl
+none_left a r w e = sym (ap (λ b. a || b) (ap (λ v. r && v) e ∙ and-false r) ∙ or-false a)
 
 none_right : (a r w : Bool) → w ≡ false → a ≡ (a || (w && r))
-none_right true r w e = refl
-none_right false r true e = cc
-none_right false r false e = refl
+none_right a r w e = sym (ap (λ b. a || (b && r)) e ∙ or-false a)
 
 module _ (f x : ℤ) (r all : Bool) where
   -- ---- by columns of a row

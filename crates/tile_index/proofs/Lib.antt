@@ -3,7 +3,6 @@ pub mod Counts
 pub mod Folded
 pub mod InPlace
 pub mod Meeting
-pub mod Names
 pub mod Near
 pub mod Ranges
 pub mod Tilings

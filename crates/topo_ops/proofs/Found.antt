@@ -1,8 +1,8 @@
 -- The edits of an edit set find their records where those of vector records do.
-use Rattle.std.proofs.Common.{◌≡◌, ℕ, ◌<◌, Bool, true, false, ◌&&◌, List, [], ◌++◌, None, length, map, refl, ap, ◌∙◌, arith}
+use Rattle.std.proofs.Common.{◌≡◌, ℕ, ◌<◌, Bool, true, false, List, [], ◌++◌, None, length, map, refl, ap, ◌∙◌, arith}
 use Rattle.std.specs.Prelude.{filter_map}
 use Rattle.std.specs.List.{IsDistinct, list_all}
-use Rattle.std.proofs.lemmas.Bool.{and_from}
+use Rattle.std.proofs.lemmas.Bool.{and_from, and_parts}
 use Rattle.std.proofs.lemmas.List.{append-nil, get_or-map, length-map}
 use Rattle.std.proofs.lemmas.List.Elements.{filter_map-append, recursion_from_All}
 use Rattle.std.proofs.lemmas.List.Folds.{list_all-append}
@@ -30,23 +30,18 @@ use Rattle.topo_ops.specs.Features.{feature_edit, features_at}
 use Rattle.topo_ops.proofs.FeatureEdits.{features_found, none_added}
 use Rattle.topo_ops.proofs.Records.{good_names}
 
-vector_apart : (k : Kind) (id : ℕ) (rest : Bool) → (is_vector_kind k && rest) ≡ true → same_name head_name (record { kind = k; id = id }) ≡ false
-vector_apart Vi id rest e = refl
-vector_apart Vc id rest e = refl
-vector_apart Ve id rest e = refl
-vector_apart Fe id rest e = refl
-vector_apart HeadKind id rest e = cc
-
-feature_apart : (k : Kind) (id : ℕ) (rest : Bool) → (is_feature_kind k && rest) ≡ true → same_name head_name (record { kind = k; id = id }) ≡ false
-feature_apart Vi id rest e = refl
-feature_apart Vc id rest e = refl
-feature_apart Ve id rest e = refl
-feature_apart Fe id rest e = refl
-feature_apart HeadKind id rest e = cc
+-- a kind that passes a test which the head's fails is another
+not_head : (passes : Kind → Bool) → passes HeadKind ≡ false → (k : Kind) (id : ℕ) → passes k ≡ true
+    → same_name head_name (record { kind = k; id = id }) ≡ false
+not_head passes fails Vi id e = refl
+not_head passes fails Vc id e = refl
+not_head passes fails Ve id e = refl
+not_head passes fails Fe id e = refl
+not_head passes fails HeadKind id e = cc
 
 not_the_head : (r : Rec) → has_good_names r ≡ true → same_name head_name (name_of r) ≡ false
-not_the_head (V v) good = vector_apart v.name.kind v.name.id _ good
-not_the_head (F f) good = feature_apart f.name.kind f.name.id _ good
+not_the_head (V v) good = not_head is_vector_kind refl v.name.kind v.name.id (and_parts (is_vector_kind v.name.kind) _ good).0
+not_the_head (F f) good = not_head is_feature_kind refl f.name.kind f.name.id (and_parts (is_feature_kind f.name.kind) _ good).0
 not_the_head (H h) good = cc
 
 names_with_head : (c : Cell) → IsReadable c → HaveDistinctNames (head_and_records c)

@@ -24,15 +24,14 @@ use Rattle.cell_spec.proofs.Orders.{one_when_same, same_from_either}
 use Rattle.edit_answers.specs.Named.{answered_by}
 use Rattle.edit_sets.specs.FormFault.{IsFormed}
 use Rattle.geometry_spec.specs.Points.{Point}
-use Rattle.rule_spec.specs.declared.side.EdgeUse.{EdgeUse}
-use Rattle.rule_spec.specs.EdgePoints.{edge_line_of, node_position}
+use Rattle.rule_spec.specs.EdgePoints.{edge_line_of, node_at, node_position}
 use Rattle.rule_spec.specs.Records.{edge_named, feature_named, is_edge_name, node_named, the_only, vector_of}
 use Rattle.answer_laws.specs.EditedAnswers.{FindTheirRecords}
 use Rattle.answer_laws.proofs.Among.{Among, among_map, known_of, none_found}
 use Rattle.topo_ops.specs.Causes.{form_refused, version_end}
 use Rattle.topo_ops.specs.Chains.{Chain, chain_named, edge_name}
 use Rattle.topo_ops.specs.Features.{feature_with, names_pointing}
-use Rattle.topo_ops.specs.FeatureTrace.{feature_trace, trace_along, trace_named}
+use Rattle.topo_ops.specs.FeatureTrace.{trace_along, trace_named}
 use Rattle.topo_ops.specs.Join.{attrs_differ, chains_fault, edits_of_join, feature_unpaired, features_fault, features_of_join, is_end_of, is_other_pointer}
 use Rattle.topo_ops.specs.Join.{join_by, join_fault, joined_edge, joined_places, node_used, not_a_chain, unpaired_from}
 use Rattle.topo_ops.specs.Kept.{JoinKeeps, counts_of}
@@ -48,13 +47,13 @@ use Rattle.topo_ops.proofs.Lines.{ChainParts, LineParts, begins_kept, chain_part
 use Rattle.topo_ops.proofs.Pairs.{joined_names_none, none_names, paired_again, split_nothing}
 use Rattle.topo_ops.proofs.PlaceCounts.{counted, first_counted, other_counted, same_self, second_counted}
 use Rattle.topo_ops.proofs.Pointers.{any_pointing, none_of_record, told}
-use Rattle.topo_ops.proofs.Records.{IsVector, is_feature, is_vector, named_feature}
-use Rattle.topo_ops.proofs.Reworked.{feature_after, is_of_vector, reworked, side_after, vector_after}
+use Rattle.topo_ops.proofs.Records.{IsVector, is_vector, named_feature}
+use Rattle.topo_ops.proofs.Reworked.{is_of_vector, reworked, side_after, traces_kept, vector_after}
 use Rattle.topo_ops.proofs.Rows.{all_none}
 use Rattle.topo_ops.proofs.SameLines.{line_same, node_no_feature, position_same}
 use Rattle.topo_ops.proofs.SplitKept.{free_by}
 use Rattle.topo_ops.proofs.Traces.{Halved, same_trace}
-use Rattle.topo_ops.proofs.UseSums.{AreaClass}
+use Rattle.topo_ops.proofs.UseSums.{class_kept}
 
 none_mapped : {X Y : Type 0} (g : X → Y) (o : Option X) → option_map g o ≡ None → o ≡ None
 none_mapped g None e = refl
@@ -65,6 +64,9 @@ some_node : (c : Cell) (n : RecName) (p : Point) (o : Option Vector) → node_na
     → (v : Vector) × (node_named c n ≡ Some v)
 some_node c n p None is e = cc
 some_node c n p (Some v) is e = (v, is)
+
+place_before : (k : ℕ) → k + 1 - 1 ≡ k
+place_before k = omega arith
 
 -- a feature before the join is what a split makes of it behind the join
 record Rejoined (e f : RecName) (g h : Feature) : Type 0 where
@@ -167,8 +169,7 @@ module _ (nall : ℕ) (c : Cell) (readable : IsReadable c) (edge other : ℕ) (p
   end_tells : (k : ℕ) (x : End) → slice_get p.edge.ends k ≡ Some x → is_other_pointer p q (record { from = p.edge.name; place = k + 1 }) ≡ false
       → (x.topi == 2) ≡ true
   end_tells k x at none =
-      let before : k + 1 - 1 ≡ k = omega arith in
-      let here : slice_get p.edge.ends (k + 1 - 1) ≡ Some x = ap (slice_get p.edge.ends) before ∙ at in
+      let here : slice_get p.edge.ends (k + 1 - 1) ≡ Some x = ap (slice_get p.edge.ends) (place_before k) ∙ at in
       let test : (is_end_of 2 p.edge (record { from = p.edge.name; place = k + 1 }) || is_end_of 1 q.edge (record { from = p.edge.name; place = k + 1 }))
       ≡ ((x.topi == 2) || false) =
       λ i. (same_self p.edge.name i && option_map_or (λ (y : End). y.topi == 2) (here i) false)
@@ -182,35 +183,29 @@ module _ (nall : ℕ) (c : Cell) (readable : IsReadable c) (edge other : ℕ) (p
   begin_tells : (k : ℕ) (x : End) → slice_get q.edge.ends k ≡ Some x → is_other_pointer p q (record { from = q.edge.name; place = k + 1 }) ≡ false
       → (x.topi == 1) ≡ true
   begin_tells k x at none =
-      let before : k + 1 - 1 ≡ k = omega arith in
-      let here : slice_get q.edge.ends (k + 1 - 1) ≡ Some x = ap (slice_get q.edge.ends) before ∙ at in
+      let here : slice_get q.edge.ends (k + 1 - 1) ≡ Some x = ap (slice_get q.edge.ends) (place_before k) ∙ at in
       let test : (is_end_of 2 p.edge (record { from = q.edge.name; place = k + 1 }) || is_end_of 1 q.edge (record { from = q.edge.name; place = k + 1 }))
       ≡ (x.topi == 1) =
       λ i. ((same_from_either q.edge.name p.edge.name ∙ edges_apart) i && option_map_or (λ (y : End). y.topi == 2) (slice_get p.edge.ends (k + 1 - 1)) false)
       || (same_self q.edge.name i && option_map_or (λ (y : End). y.topi == 1) (here i) false) in
       sym test ∙ not-false _ none
 
-  begins_apart : same_name n p.line.begins ≡ false
-  begins_apart = false_from_ne_true (same_name n p.line.begins) (λ same.
-      let there = end_at 1 p.edge p.line.begins p_line.begins_at in
-      let all = told (is_other_pointer p q) n p.edge (λ x. x.topi == 2) end_tells
-      (none_of_record (is_other_pointer p q) c n (V p.edge) none_other p_old.among) in
-      let two = known_of (λ (x : End). same_name n x.to ≡ true → (x.topi == 2) ≡ true) there.end p.edge.ends all there.among
+  -- where the ends that name the node have one indicator, an end with another one is of another node
+  other_end : (v : Vector) (m : RecName) (topi other : ℕ) → node_at topi v ≡ Some m
+      → AllByRecursion (λ (x : End). same_name n x.to ≡ true → (x.topi == other) ≡ true) v.ends → (topi ≡ other → ⊥) → same_name n m ≡ false
+  other_end v m topi other at all differ = false_from_ne_true (same_name n m) (λ same.
+      let there = end_at topi v m at in
+      let tested = known_of (λ (x : End). same_name n x.to ≡ true → (x.topi == other) ≡ true) there.end v.ends all there.among
       (ap (same_name n) there.to_is ∙ same) in
-      let is_two = eqb-true there.end.topi 2 two in
-      let is_one = eqb-true there.end.topi 1 there.topi_is in
-      omega (arith, is_two, is_one))
+      differ (sym (eqb-true there.end.topi topi there.topi_is) ∙ eqb-true there.end.topi other tested))
+
+  begins_apart : same_name n p.line.begins ≡ false
+  begins_apart = other_end p.edge p.line.begins 1 2 p_line.begins_at (told (is_other_pointer p q) n p.edge (λ x. x.topi == 2) end_tells
+      (none_of_record (is_other_pointer p q) c n (V p.edge) none_other p_old.among)) (λ same. omega (arith, same))
 
   ends_apart : same_name n q.line.ends ≡ false
-  ends_apart = false_from_ne_true (same_name n q.line.ends) (λ same.
-      let there = end_at 2 q.edge q.line.ends q_line.ends_at in
-      let all = told (is_other_pointer p q) n q.edge (λ x. x.topi == 1) begin_tells
-      (none_of_record (is_other_pointer p q) c n (V q.edge) none_other q_old.among) in
-      let one = known_of (λ (x : End). same_name n x.to ≡ true → (x.topi == 1) ≡ true) there.end q.edge.ends all there.among
-      (ap (same_name n) there.to_is ∙ same) in
-      let is_one = eqb-true there.end.topi 1 one in
-      let is_two = eqb-true there.end.topi 2 there.topi_is in
-      omega (arith, is_two, is_one))
+  ends_apart = other_end q.edge q.line.ends 2 1 q_line.ends_at (told (is_other_pointer p q) n q.edge (λ x. x.topi == 1) begin_tells
+      (none_of_record (is_other_pointer p q) c n (V q.edge) none_other q_old.among)) (λ same. omega (arith, same))
 
   -- ---- the edits
   abbrev lead : List Edit
@@ -317,42 +312,27 @@ module _ (nall : ℕ) (c : Cell) (readable : IsReadable c) (edge other : ℕ) (p
   rejoined : (g : Feature) → feature_named c g.name ≡ Some g → Rejoined e f g (reworked c readable lead vectors change targets g)
   rejoined g named = rejoined_by g (is_among (names_pointing c targets) g.name) named refl
 
-  trace_by : (m : RecName) (o : Option Feature) → feature_named c m ≡ o
-      → option_map (feature_trace d) (option_map (reworked c readable lead vectors change targets) o) ≡ option_map (feature_trace c) o
-  trace_by m None is = refl
-  trace_by m (Some g) is =
-      let there = is_feature c m g is in
-      let back = rejoined g (ap (feature_named c) there.name_is ∙ is) in
-      ap (λ x. Some x)
-      (sym (same_trace (edge_line_of d) (edge_line_of c) e f halved _ back.none) ∙ ap (trace_along (edge_line_of c)) back.again)
-
   traces : (m : RecName) → trace_named d m ≡ trace_named c m
-  traces m = ap (option_map (feature_trace d)) (feature_after c readable lead vectors change targets fit m) ∙ trace_by m (feature_named c m) refl
+  traces = traces_kept c readable lead vectors change targets fit (λ g named among.
+      let back = rejoined g named in
+      sym (same_trace (edge_line_of d) (edge_line_of c) e f halved _ back.none) ∙ ap (trace_along (edge_line_of c)) back.again)
 
   -- ---- sides
-  class_by : (of_use : EdgeUse → Bool) (of_feature : Feature → Bool) (class : AreaClass of_use of_feature) (g : Feature) (b : Bool)
-      → of_feature (cond b (feature_with (change g.places) g) g) ≡ of_feature g
-  class_by of_use of_feature class g true = class.keeps (change g.places) g
-  class_by of_use of_feature class g false = refl
-
   sides : (m k : RecName)
       → ((turn : ℕ → Bool) (ps : List Spot) → AllByRecursion (λ (x : Spot). same_name x.to f ≡ false) ps
-      → counted k turn (split_places e f ps) ≡ counted m turn ps)
-      → counts_of d m ≡ counts_of c k
+      → counted k turn (split_places e f ps) ≡ counted m turn ps) → counts_of d m ≡ counts_of c k
   sides m k count = same_counts c d m k (λ of_use of_feature class ornt.
       side_after c readable lead vectors change targets fit of_use of_feature class ornt m k (λ g there.
       let back = rejoined g (named_feature c fit.names g there) in
       let h : Feature = reworked c readable lead vectors change targets g in
-      (λ i. counted m (λ t. class_by of_use of_feature class g (is_among (names_pointing c targets) g.name) i && (t == ornt)) h.places)
+      let kept = class_kept of_use of_feature class (change g.places) g (is_among (names_pointing c targets) g.name) in
+      (λ i. counted m (λ t. kept i && (t == ornt)) h.places)
       ∙ sym (count (λ t. of_feature g && (t == ornt)) h.places back.none)
       ∙ ap (counted k (λ t. of_feature g && (t == ornt))) back.again))
 
   pub join_keeps : JoinKeeps c d j
   join_keeps = record {
-    keeps = record {
-      traces = traces;
-      others = λ m one second. sides m m (λ turn ps none. other_counted e f apart turn m one second ps none);
-    };
+    keeps = record { traces = traces; others = λ m one second. sides m m (λ turn ps none. other_counted e f apart turn m one second ps none) };
     first = sides e e (λ turn ps none. first_counted e f apart turn ps none);
     second = sides e f (λ turn ps none. second_counted e f apart turn ps none);
   }

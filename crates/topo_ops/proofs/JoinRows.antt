@@ -12,7 +12,7 @@ use Rattle.topo_ops.specs.Refusals.{IsRefusal, first_of}
 use Rattle.topo_ops.specs.declared.operation.EdgeJoin.{EdgeJoin}
 use Rattle.topo_ops.specs.declared.refusal.OpRefusal.{OpRefusal}
 use Rattle.topo_ops.specs.declared.refusal.OpRefusal.TheVariants.{NoEdge}
-use Rattle.topo_ops.proofs.Rows.{first_here, first_later, first_only, missing, refused_as}
+use Rattle.topo_ops.proofs.Rows.{first_later, first_only, first_told, missing, refused_as}
 
 abbrev with_first : ℕ → Cell → EdgeJoin → Chain → Option OpRefusal
 with_first nall c j p = option_map_or (join_fault nall c j p) (chain_named c j.other) (Some (NoEdge j.other.id))
@@ -53,17 +53,14 @@ module _ (c : Cell) (j : EdgeJoin) (p q : Chain) (p_found : chain_named c j.edge
   features_row nall = features_fault j p.edge users ∷ form_row nall
 
   pub at_chains : (e : OpRefusal) → IsRefusal (chains_fault c p q) e → (nall : ℕ) → IsRefusal (join_refusal nall c j) e
-  at_chains e h nall = refused_as (chains_fault c p q) (join_refusal nall c j) (λ x is. is_fault nall
-      ∙ first_here (chains_fault c p q) (features_row nall) x is) e h
+  at_chains = first_told (chains_fault c p q) features_row (λ nall. join_refusal nall c j) is_fault
 
   module _ (chains : chains_fault c p q ≡ None) where
     behind_chains : (nall : ℕ) → join_refusal nall c j ≡ first_of (features_row nall)
     behind_chains nall = is_fault nall ∙ first_later (chains_fault c p q) (features_row nall) chains
 
     at_features : (e : OpRefusal) → IsRefusal (features_fault j p.edge users) e → (nall : ℕ) → IsRefusal (join_refusal nall c j) e
-    at_features e h nall =
-        refused_as (features_fault j p.edge users) (join_refusal nall c j)
-        (λ x is. behind_chains nall ∙ first_here (features_fault j p.edge users) (form_row nall) x is) e h
+    at_features = first_told (features_fault j p.edge users) form_row (λ nall. join_refusal nall c j) behind_chains
 
     -- all but the form is right
     at_form : features_fault j p.edge users ≡ None → (nall : ℕ) → join_refusal nall c j ≡ form_refused nall (join_edits c j)

@@ -1,7 +1,7 @@
 -- What a cell of distinct names answers to the names of its records.
-use Rattle.std.proofs.Common.{◌≡◌, inr, ℕ, Bool, true, false, ◌&&◌, Option, None, Some, cond, is_some, refl, sym, ap, ◌∙◌}
+use Rattle.std.proofs.Common.{◌≡◌, inr, ℕ, Bool, true, false, Option, None, Some, cond, is_some, refl, sym, ap, ◌∙◌}
 use Rattle.std.specs.Prelude.{not, option_and_then}
-use Rattle.std.proofs.lemmas.Bool.{both_ways as contradiction}
+use Rattle.std.proofs.lemmas.Bool.{and_parts, both_ways as contradiction}
 use Rattle.s57_types.specs.Fitness.{has_good_names, is_feature_kind, is_vector_kind, unfitness}
 use Rattle.s57_types.specs.declared.fault.Unfit.{Unfit}
 use Rattle.s57_types.specs.declared.fault.Unfit.TheVariants.{BadName}
@@ -109,25 +109,26 @@ pub good_names : (nall : ℕ) (r : Rec) → unfitness nall r ≡ None → has_go
 unfolding unfitness
 good_names nall r fit = good_by (has_good_names r) _ fit
 
-feature_kind_by : (k : Kind) (rest : Bool) (id : ℕ) → (is_feature_kind k && rest) ≡ true → is_of_kind Fe (record { kind = k; id = id }) ≡ true
-feature_kind_by Vi rest id e = cc
-feature_kind_by Vc rest id e = cc
-feature_kind_by Ve rest id e = cc
-feature_kind_by Fe rest id e = refl
-feature_kind_by HeadKind rest id e = cc
+no_feature_kind : (k : Kind) → is_vector_kind k ≡ true → is_feature_kind k ≡ false
+no_feature_kind Vi e = refl
+no_feature_kind Vc e = refl
+no_feature_kind Ve e = refl
+no_feature_kind Fe e = cc
+no_feature_kind HeadKind e = refl
+
+kind_by : (k : Kind) (id : ℕ) → is_of_kind Fe (record { kind = k; id = id }) ≡ is_feature_kind k
+kind_by Vi id = refl
+kind_by Vc id = refl
+kind_by Ve id = refl
+kind_by Fe id = refl
+kind_by HeadKind id = refl
 
 pub feature_kind : (nall : ℕ) (f : Feature) → unfitness nall (F f) ≡ None → is_of_kind Fe f.name ≡ true
-feature_kind nall f fit = feature_kind_by f.name.kind _ f.name.id (good_names nall (F f) fit)
-
-vector_kind_by : (k : Kind) (rest : Bool) (id : ℕ) → (is_vector_kind k && rest) ≡ true → is_of_kind Fe (record { kind = k; id = id }) ≡ false
-vector_kind_by Vi rest id e = refl
-vector_kind_by Vc rest id e = refl
-vector_kind_by Ve rest id e = refl
-vector_kind_by Fe rest id e = cc
-vector_kind_by HeadKind rest id e = cc
+feature_kind nall f fit = kind_by f.name.kind f.name.id ∙ (and_parts (is_feature_kind f.name.kind) _ (good_names nall (F f) fit)).0
 
 pub vector_kind : (nall : ℕ) (v : Vector) → unfitness nall (V v) ≡ None → is_of_kind Fe v.name ≡ false
-vector_kind nall v fit = vector_kind_by v.name.kind _ v.name.id (good_names nall (V v) fit)
+vector_kind nall v fit =
+    kind_by v.name.kind v.name.id ∙ no_feature_kind v.name.kind (and_parts (is_vector_kind v.name.kind) _ (good_names nall (V v) fit)).0
 
 pub no_head : (nall : ℕ) (r : Rec) → unfitness nall r ≡ None → (c : Cell) → H c.head ≡ r → ⊥
 no_head nall (V v) fit c same = cc

@@ -36,6 +36,7 @@ use Rattle.answer_laws.proofs.Among.{Among, known_of}
 use Rattle.answer_laws.proofs.EditedNames.{names_after}
 use Rattle.answer_laws.proofs.EditedRecords.{changed_in, records_moved}
 use Rattle.topo_ops.specs.Features.{feature_edit, feature_with, features_at, names_pointing}
+use Rattle.topo_ops.specs.FeatureTrace.{feature_trace, trace_named}
 use Rattle.topo_ops.proofs.AscendingSums.{counted_in, sum_filter_map, sum_same}
 use Rattle.topo_ops.proofs.FeatureEdits.{feature_edited, is_among, none_added}
 use Rattle.topo_ops.proofs.Records.{feature_kind, is_feature, named_feature, no_head, vector_kind}
@@ -172,6 +173,19 @@ module _ (c : Cell) (readable : IsReadable c) (lead : List Edit) (vectors : list
     -- the features of the edited cell
     pub feature_after : (n : RecName) → feature_named d n ≡ option_map reworked (feature_named c n)
     feature_after n = after_by n (feature_named c n) refl
+
+    trace_by : ((f : Feature) → feature_named c f.name ≡ Some f → Among (F f) (all_records c) → feature_trace d (reworked f) ≡ feature_trace c f)
+        → (n : RecName) (o : Option Feature) → feature_named c n ≡ o
+        → option_map (feature_trace d) (option_map reworked o) ≡ option_map (feature_trace c) o
+    trace_by each n None named = refl
+    trace_by each n (Some f) named =
+        let there = is_feature c n f named in
+        ap (λ trace. Some trace) (each f (ap (feature_named c) there.name_is ∙ named) there.among)
+
+    -- each name's trace is kept where each feature keeps its own
+    pub traces_kept : ((f : Feature) → feature_named c f.name ≡ Some f → Among (F f) (all_records c) → feature_trace d (reworked f) ≡ feature_trace c f)
+        → (n : RecName) → trace_named d n ≡ trace_named c n
+    traces_kept each n = ap (option_map (feature_trace d)) (feature_after n) ∙ trace_by each n (feature_named c n) refl
 
     no_feature_by : (n : RecName) (o : Option Feature) → is_of_kind Fe n ≡ false → feature_named c n ≡ o → o ≡ None
     no_feature_by n None kind is = refl

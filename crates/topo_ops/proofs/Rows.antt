@@ -1,5 +1,5 @@
 -- The first cause of a table.
-use Rattle.std.proofs.Common.{◌≡◌, List, [], ◌∷◌, Option, None, Some, Ok, Err, Result, refl, sym, subst}
+use Rattle.std.proofs.Common.{◌≡◌, ◌∙◌, ℕ, List, [], ◌∷◌, Option, None, Some, Ok, Err, Result, refl, sym, subst}
 use Rattle.std.specs.Prelude.{IsErrAnd, MatchResult}
 use Rattle.std.specs.List.{AllByRecursion}
 use Rattle.std.specs.Option.{option_map_or}
@@ -44,6 +44,11 @@ refused_as p q same (NotPaired id place) h = same (NotPaired id place) h
 refused_as p q same (VersionEnd name) h = same (VersionEnd name) h
 refused_as p q same (Form fault) h = same (Form fault) h
 refused_as p q same NoMemory h = tt
+
+-- what the first row of a table tells
+pub first_told : (row : Option OpRefusal) (rest : ℕ → List (Option OpRefusal)) (refusal : ℕ → Option OpRefusal)
+    → ((nall : ℕ) → refusal nall ≡ first_of (row ∷ rest nall)) → (e : OpRefusal) → IsRefusal row e → (nall : ℕ) → IsRefusal (refusal nall) e
+first_told row rest refusal is e h nall = refused_as row (refusal nall) (λ x here. is nall ∙ first_here row (rest nall) x here) e h
 
 pub first_only : {X : Type 0} (o : Option X) → first_of (o ∷ []) ≡ o
 first_only None = refl

@@ -1,6 +1,6 @@
 -- The edit set of a split or a join that nothing refuses.
-use Rattle.std.proofs.Common.{◌≡◌, ℕ, List, [], Option, None, Some, refl, sym, ap, subst, ◌∙◌}
-use Rattle.std.specs.Prelude.{option_map}
+use Rattle.std.proofs.Common.{◌≡◌, ℕ, List, [], Option, None, Some, Result, refl, sym, ap, subst, ◌∙◌}
+use Rattle.std.specs.Prelude.{IsErrAnd, MatchResult, option_map}
 use Rattle.std.specs.Option.{option_map_or}
 use Rattle.s57_types.specs.declared.cell.Cell.{Cell}
 use Rattle.cell_spec.specs.declared.edit.Edit.{Edit}
@@ -17,6 +17,7 @@ use Rattle.topo_ops.specs.declared.operation.EdgeJoin.{EdgeJoin}
 use Rattle.topo_ops.specs.declared.operation.EdgeSplit.{EdgeSplit}
 use Rattle.topo_ops.specs.declared.refusal.OpRefusal.{OpRefusal}
 use Rattle.topo_ops.proofs.JoinKept.{join_found, join_keeps}
+use Rattle.topo_ops.proofs.Rows.{handed_on}
 use Rattle.topo_ops.proofs.SplitKept.{split_found, split_keeps}
 use Rattle.topo_ops.specs.declared.refusal.OpRefusal.TheVariants.{NoEdge, Form}
 use Rattle.topo_ops.proofs.JoinRows.{are_edits as are_join_edits, is_fault as is_join_fault}
@@ -31,6 +32,11 @@ no_form_fault : (nall : ℕ) (edits : List Edit) → form_fault nall edits [] �
 no_form_fault nall edits e = ap (option_map (λ fault. Form fault)) e
 
 module _ (nall : ℕ) (c : Cell) (readable : IsReadable c) (set : GuardedEdits) (formed : IsFormed set.nall set.edits set.guards) where
+  formed_as : (edits : List Edit) → set.edits ≡ edits → set.guards ≡ [] → set.nall ≡ nall → IsFormed nall edits []
+  formed_as edits are no_guards level =
+      subst (λ guards. IsFormed nall edits guards) no_guards
+      (subst (λ list. IsFormed nall list set.guards) are (subst (λ n. IsFormed n set.edits set.guards) level formed))
+
   module _ (edge at node fresh : ℕ) (is : IsSetOf nall (split_edits c (split_by edge at node fresh)) [] set)
       (all_but_form : split_refusal nall c (split_by edge at node fresh) ≡ form_refused nall (split_edits c (split_by edge at node fresh))) where
     not_refused : split_refusal nall c (split_by edge at node fresh) ≡ None
@@ -47,9 +53,7 @@ module _ (nall : ℕ) (c : Cell) (readable : IsReadable c) (set : GuardedEdits) 
         let found = split_there.1 in
         let edits : set.edits ≡ edits_of_split c s chain = is.edits_are ∙ are_split_edits c s chain found in
         let fault : split_fault nall c s chain ≡ None = sym (is_split_fault c s chain found nall) ∙ not_refused in
-        let form : IsFormed nall (edits_of_split c s chain) [] =
-        subst (λ guards. IsFormed nall (edits_of_split c s chain) guards) is.guards_are
-        (subst (λ list. IsFormed nall list set.guards) edits (subst (λ level. IsFormed level set.edits set.guards) is.nall_is formed)) in
+        let form = formed_as (edits_of_split c s chain) edits is.guards_are is.nall_is in
         record {
           not_refused = not_refused;
           edits_are = is.edits_are;
@@ -84,9 +88,7 @@ module _ (nall : ℕ) (c : Cell) (readable : IsReadable c) (set : GuardedEdits) 
         let q = second_there.0 in
         let edits : set.edits ≡ edits_of_join c j p q = is.edits_are ∙ are_join_edits c j p q first_there.1 second_there.1 in
         let fault : join_fault nall c j p q ≡ None = sym (is_join_fault c j p q first_there.1 second_there.1 nall) ∙ not_refused_join in
-        let form : IsFormed nall (edits_of_join c j p q) [] =
-        subst (λ guards. IsFormed nall (edits_of_join c j p q) guards) is.guards_are
-        (subst (λ list. IsFormed nall list set.guards) edits (subst (λ level. IsFormed level set.edits set.guards) is.nall_is formed)) in
+        let form = formed_as (edits_of_join c j p q) edits is.guards_are is.nall_is in
         record {
           not_refused = not_refused_join;
           edits_are = is.edits_are;
@@ -98,23 +100,16 @@ module _ (nall : ℕ) (c : Cell) (readable : IsReadable c) (set : GuardedEdits) 
         }
 
 -- ---- what the calls answer
-module _ (nall : ℕ) (c : Cell) (s t : EdgeSplit) (same : s ≡ t) where
-  pub split_refused : (e : OpRefusal) → ((level : ℕ) → IsRefusal (split_refusal level c s) e) → IsRefusal (split_refusal nall c t) e
-  split_refused e h = subst (λ x. IsRefusal (split_refusal nall c x) e) same (h nall)
+module _ {S T : Type 0} (refusal : ℕ → S → Option OpRefusal) (nall : ℕ) (s t : S) (same : s ≡ t) (Good : T → Type 0) (r : Result T OpRefusal)
+    (e : OpRefusal) (told : IsErrAnd r (λ x. x ≡ e)) where
+  -- a refusal of the one operation is that of the same one
+  pub refused_call : ((level : ℕ) → IsRefusal (refusal level s) e) → MatchResult r Good (IsRefusal (refusal nall t))
+  refused_call h = handed_on Good (IsRefusal (refusal nall t)) e r (subst (λ x. IsRefusal (refusal nall x) e) same (h nall)) told
 
-  pub split_unformed : (edits : List Edit) → edits ≡ split_edits c s → ((level : ℕ) → split_refusal level c s ≡ form_refused level (split_edits c s))
-      → (e : OpRefusal) → IsRefusal (form_refused nall edits) e → IsRefusal (split_refusal nall c t) e
-  split_unformed edits are all_but_form e h =
-      subst (λ o. IsRefusal o e) (ap (form_refused nall) are ∙ sym (all_but_form nall) ∙ ap (split_refusal nall c) same) h
-
-module _ (nall : ℕ) (c : Cell) (s t : EdgeJoin) (same : s ≡ t) where
-  pub join_refused : (e : OpRefusal) → ((level : ℕ) → IsRefusal (join_refusal level c s) e) → IsRefusal (join_refusal nall c t) e
-  join_refused e h = subst (λ x. IsRefusal (join_refusal nall c x) e) same (h nall)
-
-  pub join_unformed : (edits : List Edit) → edits ≡ join_edits c s → ((level : ℕ) → join_refusal level c s ≡ form_refused level (join_edits c s))
-      → (e : OpRefusal) → IsRefusal (form_refused nall edits) e → IsRefusal (join_refusal nall c t) e
-  join_unformed edits are all_but_form e h =
-      subst (λ o. IsRefusal o e) (ap (form_refused nall) are ∙ sym (all_but_form nall) ∙ ap (join_refusal nall c) same) h
+  pub unformed_call : (edits all : List Edit) → edits ≡ all → ((level : ℕ) → refusal level s ≡ form_refused level all)
+      → IsRefusal (form_refused nall edits) e → MatchResult r Good (IsRefusal (refusal nall t))
+  unformed_call edits all are all_but_form h = handed_on Good (IsRefusal (refusal nall t)) e r
+      (subst (λ o. IsRefusal o e) (ap (form_refused nall) are ∙ sym (all_but_form nall) ∙ ap (refusal nall) same) h) told
 
 module _ (nall : ℕ) (c : Cell) (readable : IsReadable c) (set : GuardedEdits) (formed : IsFormed set.nall set.edits set.guards) (edits : List Edit)
     (is : IsSetOf nall edits [] set) where

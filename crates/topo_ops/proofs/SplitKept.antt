@@ -1,7 +1,7 @@
 -- What a split keeps.
 use Rattle.std.proofs.Common.{◌≡◌, inl, ℕ, ◌+◌, ◌-◌, ◌<◌, ◌≤◌, Bool, true, false, ◌&&◌, ◌||◌, List, [], ◌∷◌, ◌++◌, Option, None, Some, cond, drop, get_or}
 use Rattle.std.proofs.Common.{is_some, length, map, take, refl, sym, ap, ◌∙◌, arith, append_assoc, length-append}
-use Rattle.std.specs.Prelude.{◌==◌, nat_le, nat_lt, not, option_and_then, option_map, option_to_list, slice_get}
+use Rattle.std.specs.Prelude.{◌==◌, nat_le, nat_lt, not, option_and_then, option_to_list, slice_get}
 use Rattle.std.specs.List.{AllByRecursion, list_all, list_any}
 use Rattle.std.proofs.lemmas.Bool.{and_parts, false_from_ne_true, leb-true, ltb-false, or_parts}
 use Rattle.std.proofs.lemmas.List.{drop_more, nil_from_length, take-append-drop}
@@ -25,7 +25,6 @@ use Rattle.cell_spec.proofs.Orders.{one_when_same}
 use Rattle.edit_answers.specs.Named.{answered_by}
 use Rattle.edit_sets.specs.FormFault.{IsFormed}
 use Rattle.geometry_spec.specs.Points.{Point}
-use Rattle.rule_spec.specs.declared.side.EdgeUse.{EdgeUse}
 use Rattle.rule_spec.specs.EdgePoints.{edge_line_of, node_at, node_position}
 use Rattle.rule_spec.specs.Records.{edge_named, feature_named, is_edge_name, the_only, vector_of}
 use Rattle.answer_laws.specs.EditedAnswers.{FindTheirRecords}
@@ -33,7 +32,7 @@ use Rattle.answer_laws.proofs.Among.{Among}
 use Rattle.topo_ops.specs.Causes.{form_refused, name_taken, version_end}
 use Rattle.topo_ops.specs.Chains.{Chain, chain_named, edge_name, node_name}
 use Rattle.topo_ops.specs.Features.{feature_with, features_at, names_pointing}
-use Rattle.topo_ops.specs.FeatureTrace.{feature_trace, trace_along, trace_named}
+use Rattle.topo_ops.specs.FeatureTrace.{trace_along, trace_named}
 use Rattle.topo_ops.specs.Kept.{SplitKeeps, counts_of}
 use Rattle.topo_ops.specs.Split.{bad_place, cut_fault, edits_of_split, first_part, new_node, points_before, second_part, split_by, split_fault, split_places}
 use Rattle.topo_ops.specs.declared.operation.EdgeSplit.{EdgeSplit}
@@ -46,12 +45,12 @@ use Rattle.topo_ops.proofs.Lines.{ChainParts, LineParts, begins_kept, chain_part
 use Rattle.topo_ops.proofs.Pairs.{none_names, split_nothing}
 use Rattle.topo_ops.proofs.PlaceCounts.{counted, first_counted, other_counted, same_self, second_counted}
 use Rattle.topo_ops.proofs.Pointers.{unnamed}
-use Rattle.topo_ops.proofs.Records.{IsVector, is_feature, is_vector, named_feature}
-use Rattle.topo_ops.proofs.Reworked.{feature_after, is_of_vector, reworked, side_after, vector_after}
+use Rattle.topo_ops.proofs.Records.{IsVector, is_vector, named_feature}
+use Rattle.topo_ops.proofs.Reworked.{is_of_vector, reworked, side_after, traces_kept, vector_after}
 use Rattle.topo_ops.proofs.Rows.{all_none}
 use Rattle.topo_ops.proofs.SameLines.{line_same, other_node, position_same}
 use Rattle.topo_ops.proofs.Traces.{Halved, same_trace}
-use Rattle.topo_ops.proofs.UseSums.{AreaClass}
+use Rattle.topo_ops.proofs.UseSums.{class_kept}
 
 -- ---- a name that isn't in use
 pub record IsFree (c : Cell) (n : RecName) : Type 0 where
@@ -273,40 +272,25 @@ module _ (nall : ℕ) (c : Cell) (readable : IsReadable c) (edge at node fresh :
       ≡ split_places e f g.places
   places_split g named = places_by g (is_among (names_pointing c targets) g.name) named refl
 
-  trace_by : (m : RecName) (o : Option Feature) → feature_named c m ≡ o
-      → option_map (feature_trace d) (option_map (reworked c readable lead vectors change targets) o) ≡ option_map (feature_trace c) o
-  trace_by m None is = refl
-  trace_by m (Some g) is =
-      let there = is_feature c m g is in
-      let named : feature_named c g.name ≡ Some g = ap (feature_named c) there.name_is ∙ is in
-      ap (λ x. Some x) (ap (trace_along (edge_line_of d)) (places_split g named)
-      ∙ same_trace (edge_line_of c) (edge_line_of d) e f halved g.places (none_of_fresh g there.among))
-
   traces : (m : RecName) → trace_named d m ≡ trace_named c m
-  traces m = ap (option_map (feature_trace d)) (feature_after c readable lead vectors change targets fit m) ∙ trace_by m (feature_named c m) refl
+  traces = traces_kept c readable lead vectors change targets fit (λ g named among.
+      ap (trace_along (edge_line_of d)) (places_split g named)
+      ∙ same_trace (edge_line_of c) (edge_line_of d) e f halved g.places (none_of_fresh g among))
 
   -- ---- sides
-  class_by : (of_use : EdgeUse → Bool) (of_feature : Feature → Bool) (class : AreaClass of_use of_feature) (g : Feature) (b : Bool)
-      → of_feature (cond b (feature_with (change g.places) g) g) ≡ of_feature g
-  class_by of_use of_feature class g true = class.keeps (change g.places) g
-  class_by of_use of_feature class g false = refl
-
   sides : (m p : RecName)
       → ((turn : ℕ → Bool) (ps : List Spot) → AllByRecursion (λ (x : Spot). same_name x.to f ≡ false) ps
-      → counted m turn (split_places e f ps) ≡ counted p turn ps)
-      → counts_of d m ≡ counts_of c p
+      → counted m turn (split_places e f ps) ≡ counted p turn ps) → counts_of d m ≡ counts_of c p
   sides m p count = same_counts c d m p (λ of_use of_feature class ornt.
       side_after c readable lead vectors change targets fit of_use of_feature class ornt m p (λ g there.
       let named = named_feature c fit.names g there in
-      (λ i. counted m (λ t. class_by of_use of_feature class g (is_among (names_pointing c targets) g.name) i && (t == ornt)) (places_split g named i))
+      let kept = class_kept of_use of_feature class (change g.places) g (is_among (names_pointing c targets) g.name) in
+      (λ i. counted m (λ t. kept i && (t == ornt)) (places_split g named i))
       ∙ count (λ t. of_feature g && (t == ornt)) g.places (none_of_fresh g there)))
 
   pub split_keeps : SplitKeeps c d s
   split_keeps = record {
-    keeps = record {
-      traces = traces;
-      others = λ m one other. sides m m (λ turn ps none. other_counted e f apart turn m one other ps none);
-    };
+    keeps = record { traces = traces; others = λ m one other. sides m m (λ turn ps none. other_counted e f apart turn m one other ps none) };
     first = sides e e (λ turn ps none. first_counted e f apart turn ps none);
     second = sides f e (λ turn ps none. second_counted e f apart turn ps none);
   }

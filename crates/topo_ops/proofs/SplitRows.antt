@@ -13,7 +13,7 @@ use Rattle.topo_ops.specs.Split.{cut_fault, edits_by_split, edits_of_split, spli
 use Rattle.topo_ops.specs.declared.operation.EdgeSplit.{EdgeSplit}
 use Rattle.topo_ops.specs.declared.refusal.OpRefusal.{OpRefusal}
 use Rattle.topo_ops.specs.declared.refusal.OpRefusal.TheVariants.{NoEdge}
-use Rattle.topo_ops.proofs.Rows.{first_here, first_later, first_only, missing, refused_as}
+use Rattle.topo_ops.proofs.Rows.{first_later, first_only, first_told, missing}
 
 pub no_edge : (c : Cell) (s : EdgeSplit) (e : OpRefusal) → IsRefusal (no_chain s.edge (chain_named c s.edge)) e → (nall : ℕ)
     → IsRefusal (split_refusal nall c s) e
@@ -40,17 +40,14 @@ module _ (c : Cell) (s : EdgeSplit) (chain : Chain) (found : chain_named c s.edg
   versions_row nall = version_end chain.edge users ∷ form_row nall
 
   pub at_cut : (e : OpRefusal) → IsRefusal (cut_fault c s chain) e → (nall : ℕ) → IsRefusal (split_refusal nall c s) e
-  at_cut e h nall = refused_as (cut_fault c s chain) (split_refusal nall c s) (λ x is. is_fault nall
-      ∙ first_here (cut_fault c s chain) (versions_row nall) x is) e h
+  at_cut = first_told (cut_fault c s chain) versions_row (λ nall. split_refusal nall c s) is_fault
 
   module _ (can_cut : cut_fault c s chain ≡ None) where
     behind_cut : (nall : ℕ) → split_refusal nall c s ≡ first_of (versions_row nall)
     behind_cut nall = is_fault nall ∙ first_later (cut_fault c s chain) (versions_row nall) can_cut
 
     at_versions : (e : OpRefusal) → IsRefusal (version_end chain.edge users) e → (nall : ℕ) → IsRefusal (split_refusal nall c s) e
-    at_versions e h nall =
-        refused_as (version_end chain.edge users) (split_refusal nall c s)
-        (λ x is. behind_cut nall ∙ first_here (version_end chain.edge users) (form_row nall) x is) e h
+    at_versions = first_told (version_end chain.edge users) form_row (λ nall. split_refusal nall c s) behind_cut
 
     -- all but the form is right
     at_form : version_end chain.edge users ≡ None → (nall : ℕ) → split_refusal nall c s ≡ form_refused nall (split_edits c s)

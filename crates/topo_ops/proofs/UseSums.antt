@@ -30,6 +30,12 @@ pub record AreaClass (of_use : EdgeUse → Bool) (of_feature : Feature → Bool)
   pub agree : (r : Ref) (f : Feature) (s : Spot) → of_use (use_of_row r f s) ≡ of_feature f
   pub keeps : (places : List Spot) (f : Feature) → of_feature (feature_with places f) ≡ of_feature f
 
+-- whether its places change or not, a feature stays what it is
+pub class_kept : (of_use : EdgeUse → Bool) (of_feature : Feature → Bool) → AreaClass of_use of_feature → (places : List Spot) (f : Feature) (b : Bool)
+    → of_feature (cond b (feature_with places f) f) ≡ of_feature f
+class_kept of_use of_feature class places f true = class.keeps places f
+class_kept of_use of_feature class places f false = refl
+
 -- how often a record uses an edge with an orientation, where it is an area of the class
 abbrev pub uses_in : (Feature → Bool) → ℕ → RecName → Rec → ℕ
 uses_in of_feature ornt n (V v) = 0

@@ -1,4 +1,8 @@
 //! What each step on a word tells the handle that made it.
+
+ghost use Rattle.turn_gate.specs.Outcomes.{TakesTicket, LooksForTurn, PassesTurn, CallsSleepers, DrawsNumber, ComparesHistories};
+ghost use Rattle.turn_gate.specs.Outcomes.{giving_view, new_view, joined_view, spent_view};
+
 use crate::chronicle::Chronicle;
 use crate::view::HandleView;
 use atomic_table::{Join, Play, Split};
@@ -7,8 +11,6 @@ use atomic_table::{Join, Play, Split};
 pub(crate) struct TicketTaken;
 
 impl<V: Chronicle> Play<Option<V>, HandleView<V::Entry, V::Origin>> for TicketTaken {
-    ghost use Rattle.turn_gate.specs.Outcomes.{TakesTicket};
-
     ghost then = { TakesTicket };
 }
 
@@ -16,8 +18,6 @@ impl<V: Chronicle> Play<Option<V>, HandleView<V::Entry, V::Origin>> for TicketTa
 pub(crate) struct TurnLookedUp;
 
 impl<V: Chronicle> Play<Option<V>, HandleView<V::Entry, V::Origin>> for TurnLookedUp {
-    ghost use Rattle.turn_gate.specs.Outcomes.{LooksForTurn};
-
     ghost then = { LooksForTurn V.origin V.entries V.number };
 }
 
@@ -25,8 +25,6 @@ impl<V: Chronicle> Play<Option<V>, HandleView<V::Entry, V::Origin>> for TurnLook
 pub(crate) struct TurnPassed;
 
 impl<V: Chronicle> Play<Option<V>, HandleView<V::Entry, V::Origin>> for TurnPassed {
-    ghost use Rattle.turn_gate.specs.Outcomes.{PassesTurn};
-
     ghost then = { PassesTurn V.entries V.number };
 }
 
@@ -34,8 +32,6 @@ impl<V: Chronicle> Play<Option<V>, HandleView<V::Entry, V::Origin>> for TurnPass
 pub(crate) struct SleepersCalled;
 
 impl<V: Chronicle> Play<Option<V>, HandleView<V::Entry, V::Origin>> for SleepersCalled {
-    ghost use Rattle.turn_gate.specs.Outcomes.{CallsSleepers};
-
     ghost then = { CallsSleepers };
 }
 
@@ -43,8 +39,6 @@ impl<V: Chronicle> Play<Option<V>, HandleView<V::Entry, V::Origin>> for Sleepers
 pub(crate) struct NumberDrawn;
 
 impl<V: Chronicle> Play<Option<V>, HandleView<V::Entry, V::Origin>> for NumberDrawn {
-    ghost use Rattle.turn_gate.specs.Outcomes.{DrawsNumber};
-
     ghost then = { DrawsNumber };
 }
 
@@ -52,8 +46,6 @@ impl<V: Chronicle> Play<Option<V>, HandleView<V::Entry, V::Origin>> for NumberDr
 pub(crate) struct HistoriesCompared;
 
 impl<V: Chronicle> Play<Option<V>, HandleView<V::Entry, V::Origin>> for HistoriesCompared {
-    ghost use Rattle.turn_gate.specs.Outcomes.{ComparesHistories};
-
     ghost then = { ComparesHistories V.number };
 }
 
@@ -61,8 +53,6 @@ impl<V: Chronicle> Play<Option<V>, HandleView<V::Entry, V::Origin>> for Historie
 pub(crate) struct HandleSplit;
 
 impl<E, O> Split<HandleView<E, O>> for HandleSplit {
-    ghost use Rattle.turn_gate.specs.Outcomes.{giving_view, new_view};
-
     ghost left = { giving_view };
 
     ghost right = { new_view };
@@ -72,8 +62,6 @@ impl<E, O> Split<HandleView<E, O>> for HandleSplit {
 pub(crate) struct HandlesJoined;
 
 impl<E, O> Join<HandleView<E, O>> for HandlesJoined {
-    ghost use Rattle.turn_gate.specs.Outcomes.{joined_view, spent_view};
-
     ghost both = { joined_view };
 
     ghost spent = { spent_view };

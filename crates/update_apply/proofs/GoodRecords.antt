@@ -1,6 +1,6 @@
 -- The names and texts of what an update makes: they were read, or are those of the cell, so they can be written.
 use Rattle.std.proofs.Common.{◌≡◌, inl, inr, ℕ, zero, suc, ◌+◌, ◌-◌, ◌==◌, ◌&&◌, ◌||◌, Bool, true, false, cond, not, List, [], ◌∷◌, ◌++◌, length, take}
-use Rattle.std.proofs.Common.{drop, filter, nat_le, nat_lt, Option, None, Some, Result, Ok, Err, refl, sym, ap, subst, ◌∙◌}
+use Rattle.std.proofs.Common.{drop, filter, nat_le, nat_lt, Option, None, Some, Result, Ok, refl, sym, ap, subst, ◌∙◌}
 use Rattle.std.specs.Prelude.{if◌then◌else◌, slice_set}
 use Rattle.std.specs.List.{list_all, list_any, flat_map}
 use Rattle.std.specs.Option.{option_and_then}
@@ -36,7 +36,7 @@ use Rattle.file_spec.specs.RecordReading.{rows_of}
 use Rattle.file_spec.specs.declared.tag.FieldTag.{FieldTag}
 use Rattle.file_spec.specs.declared.tag.FieldTag.TheVariants as tags
 use Rattle.decode_laws.proofs.Contents.{and_true, attribute_is_plain, attributes_are_plain, end_names_vector, partner_is_plain, place_names_vector}
-use Rattle.decode_laws.proofs.Records.{IsGood, demanded}
+use Rattle.decode_laws.proofs.Records.{IsGood, demanded, rows_pass}
 use Rattle.answer_laws.proofs.Among.{Among, found, known_of}
 use Rattle.update_spec.specs.ControlFields.{instruction_of}
 use Rattle.update_spec.specs.UpdatedAttributes.{is_delete_value, place_of_code, updated_attributes, with_given, with_place, without_place}
@@ -120,29 +120,7 @@ attributes_pass test level (x ∷ given) attrs g all =
     let parts = both_parts (test x) (list_all test given) g in
     attributes_pass test level given (with_given level attrs x) parts.1 (taken_pass test level attrs x parts.0 all)
 
--- ---- rows that were read
-flat_pass : {A X : Type 0} (test : X → Bool) (g : A → List X) → ((a : A) → list_all test (g a) ≡ true) → (fs : List A) → list_all test (flat_map g fs) ≡ true
-flat_pass test g each [] = refl
-flat_pass test g each (a ∷ fs) = all_joined test (g a) (flat_map g fs) (each a) (flat_pass test g each fs)
-
-pub rows_pass : {X : Type 0} (tag : FieldTag) (content : List ℕ → Result (List X) FieldFault) (test : X → Bool)
-    → ((b : List ℕ) (xs : List X) → content b ≡ Ok xs → list_all test xs ≡ true)
-    → (fields : List Field) → list_all test (rows_of tag content fields) ≡ true
-rows_pass {X = X} tag content test each fields = flat_pass test (λ (f : Field). result_unwrap_or (content f.bytes) [])
-    (λ f. by f (content f.bytes) refl) (filter (is_tagged tag) fields)
-  where
-    by : (f : Field) (r : Result (List X) FieldFault) → content f.bytes ≡ r → list_all test (result_unwrap_or r []) ≡ true
-    by f (Ok xs) is = each f.bytes xs is
-    by f (Err e) is = refl
-
 -- ---- texts of rows, one after the other
-pub texts_flat : {X : Type 0} (row : X → List Subfield) (xs : List X) → list_all (λ x. list_all is_plain (row x)) xs ≡ true
-    → list_all is_plain (flat_map row xs) ≡ true
-texts_flat row [] all = refl
-texts_flat row (x ∷ xs) all =
-    let parts = both_parts (list_all is_plain (row x)) (list_all (λ y. list_all is_plain (row y)) xs) all in
-    all_joined is_plain (row x) (flat_map row xs) parts.0 (texts_flat row xs parts.1)
-
 texts_each : {X : Type 0} (row : X → List Subfield) (xs : List X) → list_all is_plain (flat_map row xs) ≡ true
     → list_all (λ x. list_all is_plain (row x)) xs ≡ true
 texts_each row [] all = refl
@@ -242,8 +220,8 @@ pub target_feature_is_good : (c : Cell) → IsReadable c → (n : RecName) (targ
 target_feature_is_good c readable n target is = by (lookup_record c n) refl is
   where
     by : (o : Option Rec) → lookup_record c n ≡ o → option_and_then feature_in o ≡ Some target → IsGood c.head.nall (F target)
-    by None found is = absurd cc
     by (Some (V v)) found is = absurd cc
+    by None found is = absurd cc
     by (Some (F f)) found is = let same : f ≡ target = cc in
         subst (λ (t : Feature). IsGood c.head.nall (F t)) same (feature_found c readable n f found)
     by (Some (H h)) found is = absurd cc

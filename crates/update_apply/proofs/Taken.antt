@@ -37,9 +37,9 @@ use Rattle.file_spec.specs.declared.tag.RecordType.{RecordType}
 use Rattle.file_spec.specs.declared.tag.RecordType.TheVariants as types
 use Rattle.decode_laws.proofs.Contents.{and_true, attribute_is_plain, attributes_are_plain, end_names_vector, ends_name_vectors, partner_is_plain}
 use Rattle.decode_laws.proofs.Contents.{partners_are_plain, place_names_vector, places_name_vectors, vrid_names_vector}
-use Rattle.decode_laws.proofs.Records.{IsGood, demanded, passed, required_is, step}
-use Rattle.update_apply.proofs.GoodRecords.{attributes_pass, feature_rows, fits_when_short, nationals_are_plain, rows_pass, target_feature_is_good}
-use Rattle.update_apply.proofs.GoodRecords.{target_vector_is_good, texts_flat, texts_joined, updated_pass, vector_rows}
+use Rattle.decode_laws.proofs.Records.{IsGood, demanded, passed, required_is, rows_pass, step, texts_flat}
+use Rattle.update_apply.proofs.GoodRecords.{attributes_pass, feature_rows, fits_when_short, nationals_are_plain, target_feature_is_good}
+use Rattle.update_apply.proofs.GoodRecords.{target_vector_is_good, texts_joined, updated_pass, vector_rows}
 use Rattle.update_spec.specs.ControlFields.{instruction_of, control_among, has_controls}
 use Rattle.update_spec.specs.UpdateFaults.{of_record}
 use Rattle.update_spec.specs.UpdateFields.{checked_fields}
@@ -48,7 +48,7 @@ use Rattle.update_spec.specs.UpdatedRows.{Coordinates, updated_rows, updated_coo
 use Rattle.update_spec.specs.UpdateRecords.{are_mixed, feature_edit, feature_in, feature_name, feature_update, given_coordinates, identifiers}
 use Rattle.update_spec.specs.UpdateRecords.{inserted_feature, inserted_vector, is_new, is_next, is_short, modified_feature, modified_vector, no_update}
 use Rattle.update_spec.specs.UpdateRecords.{record_update, target_feature, target_vector, update_limit, update_of_type, vector_edit, vector_in}
-use Rattle.update_spec.specs.UpdateRecords.{vector_update}
+use Rattle.update_spec.specs.UpdateRecords.{feature_with, vector_update, vector_with}
 use Rattle.update_spec.specs.declared.control.ControlTag.TheVariants.{Vrpc, Sgcc, Ffpc, Fspc}
 use Rattle.update_spec.specs.declared.control.Instruction.{Instruction}
 use Rattle.update_spec.specs.declared.control.Instruction.TheVariants.{Insert, Delete, Modify}
@@ -120,16 +120,6 @@ deleted_is : (c : Cell) (n : RecName) (e : Edit) → (same_name n head_name ≡ 
 deleted_is c n e there same = subst (Founded c n) same (record { name_is = refl; has = there.1; fit = refl; no_head = there.0 })
 
 -- ---- vector records
-abbrev pub vector_with : Vector → Vrid → List Field → List End → Coordinates → Rec
-vector_with target d fields ends points = V (record {
-  name = d.name;
-  rver = d.rver;
-  attrs = updated_attributes 0 (rows_of tags.Attv (attribute_content 0) fields) target.attrs;
-  ends = ends;
-  plane = points.0;
-  deep = points.1;
-})
-
 abbrev pub points_then : Vector → Vrid → List Field → List End → Result Rec UpdateFault
 points_then target d fields ends = updated_coordinates (control_among Sgcc fields) (given_coordinates fields) (target.plane, target.deep)
     >>= λ points. Ok (vector_with target d fields ends points)
@@ -200,20 +190,6 @@ vector_founded Modify c readable d fields e kind is =
     replaced_is c d.name r.0 e (vector_there c d.name t.0 t.1) made.named made.good r.2
 
 -- ---- feature records
-abbrev pub feature_with : ℕ → Feature → Frid → List Field → List Partner → List Spot → Rec
-feature_with level target d fields partners places = F (record {
-  name = feature_name d;
-  prim = target.prim;
-  grup = target.grup;
-  objl = target.objl;
-  rver = d.rver;
-  foid = target.foid;
-  attf = updated_attributes 0 (rows_of tags.Attf (attribute_content 0) fields) target.attf;
-  natf = updated_attributes level (rows_of tags.Natf (attribute_content level) fields) target.natf;
-  partners = partners;
-  places = places;
-})
-
 abbrev pub places_then : ℕ → Feature → Frid → List Field → List Partner → Result Rec UpdateFault
 places_then level target d fields partners = updated_rows (control_among Fspc fields) (rows_of tags.Fspt place_content fields) target.places
     >>= λ places. Ok (feature_with level target d fields partners places)

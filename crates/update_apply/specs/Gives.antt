@@ -24,15 +24,15 @@ abbrev pub GivesUpdate : {X : Type 0} → Result X StepRefusal → Result X Upda
 GivesUpdate (Ok x) defined = defined ≡ Ok x
 GivesUpdate (Err refusal) defined = Refuses refusal defined
 
--- the refusal of the record of a number, which begins at an offset
-abbrev pub refusal_at : ℕ → ℕ → StepRefusal → UpdateRefusal
-refusal_at number offset (Fault fault) = update.Fault (update_fault_at number offset fault)
-refusal_at number offset NoMemory = update.NoMemory
-
 -- a refusal for the fault of the record of a number, which begins at an offset
 abbrev pub RefusesAt : {X : Type 0} → ℕ → ℕ → StepRefusal → Result X CellFault → Type 0
 RefusesAt number offset (Fault fault) defined = defined ≡ Err (update_fault_at number offset fault)
 RefusesAt number offset NoMemory defined = Unit {0}
+
+-- the refusal of the record of a number, which begins at an offset
+abbrev pub refusal_at : ℕ → ℕ → StepRefusal → UpdateRefusal
+refusal_at number offset (Fault fault) = update.Fault (update_fault_at number offset fault)
+refusal_at number offset NoMemory = update.NoMemory
 
 -- what the record that must be there says, and the place behind it, or its fault
 abbrev pub GivesNext : {X : Type 0} → List ℕ → Bool → ℕ → ℕ → (List Field → Result X UpdateFault) → Result (X × ℕ) StepRefusal → Type 0

@@ -57,14 +57,8 @@ greater_level a b = if nat_lt 0 a || nat_lt 0 b then One else Zero
 
 -- the head takes over the update number and the issue date, and the greater level; the update's date of application has no effect
 abbrev pub head_update : Head → Dsid → Dssi → HeadEdit
-head_update h d s = record {
-  edtn = h.edtn;
-  updn = d.updn;
-  uadt = h.uadt;
-  isdt = d.isdt;
-  aall = greater_level h.aall s.aall;
-  comt = h.dsid_comt;
-}
+head_update h d s =
+    record { edtn = h.edtn; updn = d.updn; uadt = h.uadt; isdt = d.isdt; aall = greater_level h.aall s.aall; comt = h.dsid_comt }
 
 -- the edit of the head, and the level NALL of the update
 abbrev pub told_by_values : Head → Dsid → Dssi → Result (HeadEdit × ℕ) UpdateFault

@@ -8,7 +8,10 @@ use Rattle.s57_types.specs.RecordFields.{written_length, length_limit}
 use Rattle.s57_types.specs.declared.name.Kind.TheVariants.{Fe}
 use Rattle.s57_types.specs.declared.name.Lnam.{Lnam}
 use Rattle.s57_types.specs.declared.name.RecName.{RecName}
+use Rattle.s57_types.specs.declared.record.End.{End}
 use Rattle.s57_types.specs.declared.record.Feature.{Feature}
+use Rattle.s57_types.specs.declared.record.Partner.{Partner}
+use Rattle.s57_types.specs.declared.record.Spot.{Spot}
 use Rattle.s57_types.specs.declared.record.Vector.{Vector}
 use Rattle.s57_types.specs.declared.record.Rec.{Rec}
 use Rattle.s57_types.specs.declared.record.Rec.TheVariants.{V, F, H}
@@ -22,6 +25,7 @@ use Rattle.cell_spec.specs.declared.edit.Edit.TheVariants.{Add, Set, Del}
 use Rattle.cell_spec.specs.Lookup.{lookup_record}
 use Rattle.cell_spec.specs.Names.{same_identity}
 use Rattle.edit_sets.specs.FormFault.{has_edit_of}
+use Rattle.file_spec.specs.DecodedCell.{vector_of, feature_of}
 use Rattle.file_spec.specs.FieldTags.{is_tagged}
 use Rattle.file_spec.specs.RecordFaults.{◌>>=◌, ◌>>◌, demand}
 use Rattle.file_spec.specs.RecordReading.{record_type, required, rows_of}
@@ -73,27 +77,23 @@ given_coordinates fields = (rows_of tags.Sg2d plane_content fields, rows_of tags
 
 -- the rows of the fields are the record; control fields have nothing to go by
 unfoldable pub inserted_vector : Vrid → List Field → Rec
-inserted_vector d fields = V (record {
+inserted_vector d fields = vector_of fields d
+
+abbrev pub vector_with : Vector → Vrid → List Field → List End → Coordinates → Rec
+vector_with target d fields ends points = V (record {
   name = d.name;
   rver = d.rver;
-  attrs = rows_of tags.Attv (attribute_content 0) fields;
-  ends = rows_of tags.Vrpt end_content fields;
-  plane = rows_of tags.Sg2d plane_content fields;
-  deep = rows_of tags.Sg3d deep_content fields;
+  attrs = updated_attributes 0 (rows_of tags.Attv (attribute_content 0) fields) target.attrs;
+  ends = ends;
+  plane = points.0;
+  deep = points.1;
 })
 
 unfoldable pub modified_vector : Vector → Vrid → List Field → Result Rec UpdateFault
 modified_vector target d fields = do
   ends ← updated_rows (control_among Vrpc fields) (rows_of tags.Vrpt end_content fields) target.ends
   points ← updated_coordinates (control_among Sgcc fields) (given_coordinates fields) (target.plane, target.deep)
-  Ok (V (record {
-    name = d.name;
-    rver = d.rver;
-    attrs = updated_attributes 0 (rows_of tags.Attv (attribute_content 0) fields) target.attrs;
-    ends = ends;
-    plane = points.0;
-    deep = points.1;
-  }))
+  Ok (vector_with target d fields ends points)
 
 unfoldable pub vector_edit : Instruction → Cell → Vrid → List Field → Result Edit UpdateFault
 vector_edit Insert c d fields = do
@@ -116,36 +116,28 @@ abbrev pub feature_name : Frid → RecName
 feature_name d = record { kind = Fe; id = d.rcid }
 
 unfoldable pub inserted_feature : ℕ → Frid → Lnam → List Field → Rec
-inserted_feature level d l fields = F (record {
-  name = feature_name d;
-  prim = d.prim;
-  grup = d.grup;
-  objl = d.objl;
-  rver = d.rver;
-  foid = l;
-  attf = rows_of tags.Attf (attribute_content 0) fields;
-  natf = rows_of tags.Natf (attribute_content level) fields;
-  partners = rows_of tags.Ffpt partner_content fields;
-  places = rows_of tags.Fspt place_content fields;
-})
+inserted_feature level d l fields = feature_of level fields d l
 
 -- the primitive, the group, the class and the identifier stay
+abbrev pub feature_with : ℕ → Feature → Frid → List Field → List Partner → List Spot → Rec
+feature_with level target d fields partners places = F (record {
+  name = feature_name d;
+  prim = target.prim;
+  grup = target.grup;
+  objl = target.objl;
+  rver = d.rver;
+  foid = target.foid;
+  attf = updated_attributes 0 (rows_of tags.Attf (attribute_content 0) fields) target.attf;
+  natf = updated_attributes level (rows_of tags.Natf (attribute_content level) fields) target.natf;
+  partners = partners;
+  places = places;
+})
+
 unfoldable pub modified_feature : ℕ → Feature → Frid → List Field → Result Rec UpdateFault
 modified_feature level target d fields = do
   partners ← updated_rows (control_among Ffpc fields) (rows_of tags.Ffpt partner_content fields) target.partners
   places ← updated_rows (control_among Fspc fields) (rows_of tags.Fspt place_content fields) target.places
-  Ok (F (record {
-    name = feature_name d;
-    prim = target.prim;
-    grup = target.grup;
-    objl = target.objl;
-    rver = d.rver;
-    foid = target.foid;
-    attf = updated_attributes 0 (rows_of tags.Attf (attribute_content 0) fields) target.attf;
-    natf = updated_attributes level (rows_of tags.Natf (attribute_content level) fields) target.natf;
-    partners = partners;
-    places = places;
-  }))
+  Ok (feature_with level target d fields partners places)
 
 unfoldable pub feature_edit : Instruction → Cell → ℕ → Frid → Lnam → List Field → Result Edit UpdateFault
 feature_edit Insert c level d l fields = do

@@ -1,30 +1,8 @@
-use Rattle.std.proofs.Common.{ℕ, ◌≤◌, List, Option, IfSome, length, ap, arith, subst}
+use Rattle.std.proofs.Common.{ℕ, ◌≤◌, List, length, ap, arith, subst}
 use Rattle.commit_book.specs.Books.{history_of}
-use Rattle.crash_disk.specs.Disk.{LeavesOnly}
 use Rattle.book_journal.specs.Journals.{IsJournalOf}
-use Rattle.book_journal.proofs.Opening.{begun_as_before, begun_told, no_place, read_journal, read_short}
+use Rattle.book_journal.proofs.Opening.{begun_after, begun_told, no_place, read_journal, read_short}
 use Rattle.book_journal.proofs.open.open_book.Goals as goal
-
--- an empty list is made of a file of at most one byte
-pub returns-in_err-begin_list-clause-moments : goal.returns-in_err-begin_list-clause-moments
-returns-in_err-begin_list-clause-moments g c =
-    let content = g.D.Disk.content in
-    let old = c.args.disk.now in
-    let short = read_short (content old) c.in_ok-bytes.bytes.items c.in_ok-bytes.ensures.bytes (omega (arith, c.len.ensures, c.if-len-gt1.false)) in
-    let second = subst (λ (o : Option (List ℕ)). IfSome o (λ (file : List ℕ). LeavesOnly g.D.Disk.moment g.D.Disk.left_since c.read_disk.new.disk
-    c.begin_list.new.disk (λ (image : List ℕ). length image ≤ 1))) c.read_disk.ensures.same c.begin_list.ensures.moments in
-    begun_as_before content g.D.Disk.images g.D.Disk.moment g.D.Disk.left_since c.args.cell old c.read_disk.new.disk c.begin_list.new.disk
-    (g.met.D.Disk.reads_an_image old) short c.read_disk.ensures.moments second
-
-pub returns-clause-moments : goal.returns-clause-moments
-returns-clause-moments g c =
-    let content = g.D.Disk.content in
-    let old = c.args.disk.now in
-    let short = read_short (content old) c.in_ok-bytes.bytes.items c.in_ok-bytes.ensures.bytes (omega (arith, c.len.ensures, c.if-len-gt1.false)) in
-    let second = subst (λ (o : Option (List ℕ)). IfSome o (λ (file : List ℕ). LeavesOnly g.D.Disk.moment g.D.Disk.left_since c.read_disk.new.disk
-    c.begin_list.new.disk (λ (image : List ℕ). length image ≤ 1))) c.read_disk.ensures.same c.begin_list.ensures.moments in
-    begun_as_before content g.D.Disk.images g.D.Disk.moment g.D.Disk.left_since c.args.cell old c.read_disk.new.disk c.begin_list.new.disk
-    (g.met.D.Disk.reads_an_image old) short c.read_disk.ensures.moments second
 
 pub returns-clause-opened : goal.returns-clause-opened
 returns-clause-opened g c =
@@ -40,3 +18,18 @@ returns-clause-opened g c =
       standing = begun_told g.D.Disk.content g.D.Disk.images c.args.cell book place file c.read_disk.new.disk c.begin_list.new.disk short replayed
           c.begin_list.ensures.told c.in_ok-begin_list.ensures.content c.in_ok-begin_list.ensures.kept;
     }
+
+-- an empty list is made of a file of at most one byte
+pub returns-in_err-begin_list-clause-moments : goal.returns-in_err-begin_list-clause-moments
+returns-in_err-begin_list-clause-moments g c =
+    begun_after g.D.Disk.content g.D.Disk.images g.D.Disk.moment g.D.Disk.left_since c.args.cell c.args.disk.now c.read_disk.new.disk
+    c.begin_list.new.disk (g.met.D.Disk.reads_an_image c.args.disk.now)
+    (read_short (g.D.Disk.content c.args.disk.now) c.in_ok-bytes.bytes.items c.in_ok-bytes.ensures.bytes (omega (arith, c.len.ensures, c.if-len-gt1.false)))
+    c.read_disk.ensures.moments c.read_disk.ensures.same c.begin_list.ensures.moments
+
+pub returns-clause-moments : goal.returns-clause-moments
+returns-clause-moments g c =
+    begun_after g.D.Disk.content g.D.Disk.images g.D.Disk.moment g.D.Disk.left_since c.args.cell c.args.disk.now c.read_disk.new.disk
+    c.begin_list.new.disk (g.met.D.Disk.reads_an_image c.args.disk.now)
+    (read_short (g.D.Disk.content c.args.disk.now) c.in_ok-bytes.bytes.items c.in_ok-bytes.ensures.bytes (omega (arith, c.len.ensures, c.if-len-gt1.false)))
+    c.read_disk.ensures.moments c.read_disk.ensures.same c.begin_list.ensures.moments

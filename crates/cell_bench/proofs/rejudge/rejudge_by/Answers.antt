@@ -5,7 +5,7 @@ use Rattle.rule_spec.specs.Affected.{affected_list, change_by}
 use Rattle.cell_bench.specs.Limits.{IsFull}
 use Rattle.cell_bench.specs.Rejudging.{fresh_among, fresh_in, with_rows}
 use Rattle.cell_bench.proofs.EditedTables.{rejudged_by}
-use Rattle.cell_bench.proofs.Judging.{AreOf, ended, fresh_as, full_so, rows_as}
+use Rattle.cell_bench.proofs.Judging.{AreOf, are_of, ended, fresh_as, full_so, rows_as}
 use Rattle.cell_bench.proofs.KeptSubjects.{subjects_kept}
 use Rattle.cell_bench.proofs.rejudge.rejudge_by.Goals as goal
 
@@ -14,13 +14,8 @@ returns-in_err-enter_all c =
     let edits = c.args.edits.now.edits in
     let cell = c.args.store.now in
     let judged = affected_list (change_by edits cell) in
-    let are : AreOf edits cell c.args.verdicts.now (apply_edits edits cell) c.in_ok-rejudged.rejudged c.forget_all.new.self c.args.gone.now judged = record {
-      over_is = refl;
-      start_is = c.in_ok-rejudged.ensures;
-      gone_is = c.requires.gone;
-      judged_is = refl;
-      after_is = c.in_ok-forget_all.ensures;
-    } in
+    let are : AreOf edits cell c.args.verdicts.now (apply_edits edits cell) c.in_ok-rejudged.rejudged c.forget_all.new.self c.args.gone.now judged =
+    are_of refl c.in_ok-rejudged.ensures c.requires.gone refl c.in_ok-forget_all.ensures in
     let count : fresh_among c.args.rows.now ≡ fresh_in (apply_edits edits cell) judged =
     ap fresh_among c.requires.rows ∙ fresh_as (apply_edits edits cell) judged in
     let refused = err_from_is_err_and c.from_residual-in_err-enter_all.result c.from_residual-in_err-enter_all.ensures.1 in
@@ -35,13 +30,8 @@ returns c =
     let rows = c.args.verdicts.now in
     let fit = c.requires.found in
     let judged = affected_list (change_by edits cell) in
-    let are : AreOf edits cell rows (apply_edits edits cell) c.in_ok-rejudged.rejudged c.forget_all.new.self c.args.gone.now judged = record {
-      over_is = refl;
-      start_is = c.in_ok-rejudged.ensures;
-      gone_is = c.requires.gone;
-      judged_is = refl;
-      after_is = c.in_ok-forget_all.ensures;
-    } in
+    let are : AreOf edits cell rows (apply_edits edits cell) c.in_ok-rejudged.rejudged c.forget_all.new.self c.args.gone.now judged =
+    are_of refl c.in_ok-rejudged.ensures c.requires.gone refl c.in_ok-forget_all.ensures in
     rejudged_by edits cell fit c.unaffected_subjects_keep_findings.ensures c.unaffected_singles_keep_reads.ensures c.affected_subjects_are_considered.ensures
     (subjects_kept edits cell fit c.untouched_keys_keep_answers.ensures) rows c.enter_all.new.rejudged c.requires.verdicts c.changes_set_their_subjects.ensures
     (ended edits cell rows (apply_edits edits cell) c.in_ok-rejudged.rejudged c.forget_all.new.self c.args.gone.now judged are c.enter_all.new.rejudged

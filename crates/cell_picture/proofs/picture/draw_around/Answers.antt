@@ -22,5 +22,5 @@ returns g c =
     on_ok_weaker c.push_text.result
     (λ last. after out head (frame ++ (drawn ++ closing)) (c.in_ok-push_head.ensures ∙ (λ i. out ++ head_text around cell (total i)))
     (after c.push_head.new.out.items frame (drawn ++ closing) c.in_ok-push_frame.ensures
-    (after c.push_frame.new.out.items drawn closing c.in_ok-draw_shapes.ensures last)))
+    (after c.push_frame.new.out.items drawn closing c.in_ok-shapes.ensures last)))
     c.push_text.ensures.ok

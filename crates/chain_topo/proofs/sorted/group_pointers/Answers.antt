@@ -32,5 +32,4 @@ grouped by_key by_value names refs rs list groups listed made n =
 pub returns : goal.returns
 returns c =
     IfOk-weaker _ _ _ (λ groups made. grouped _ _ c.orders_are_by_parts.ensures.names c.orders_are_by_parts.ensures.refs
-    (map (λ r. r.now) c.args.records.now) c.in_ok-list.list.items groups c.in_ok-list.ensures made)
-    c.make.ensures
+    (map (λ r. r.now) c.args.records.now) c.in_ok-list.list.items groups c.in_ok-list.ensures made) c.make.ensures

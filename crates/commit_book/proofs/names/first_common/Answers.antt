@@ -7,9 +7,7 @@ use Rattle.commit_book.proofs.names.first_common.Goals as goal
 
 pub loop-name-preserved-in-Less : goal.loop-name-preserved-in-Less
 loop-name-preserved-in-Less c =
-    let here = c.in-Some-Some in
-    let left = here.ensures.cases.0 in
-    let right = here.ensures'.cases.0 in
+    let here = c.in-Some-Some in let left = here.ensures.cases.0 in let right = here.ensures'.cases.0 in
     let less : name_order here.name.now here.other.now ≡ Less = sym (c.orders_are_by_parts.ensures.names here.name.now here.other.now)
     ∙ sym c.cmp.ensures ∙ c.in-Less.is in
     record {
@@ -24,9 +22,7 @@ loop-name-preserved-in-Less c =
 
 pub loop-name-preserved : goal.loop-name-preserved
 loop-name-preserved c =
-    let here = c.in-Some-Some in
-    let left = here.ensures.cases.0 in
-    let right = here.ensures'.cases.0 in
+    let here = c.in-Some-Some in let left = here.ensures.cases.0 in let right = here.ensures'.cases.0 in
     let greater : name_order here.name.now here.other.now ≡ Greater = sym (c.orders_are_by_parts.ensures.names here.name.now here.other.now)
     ∙ sym c.cmp.ensures ∙ c.in-Greater.is in
     record {
@@ -41,9 +37,7 @@ loop-name-preserved c =
 
 pub returns-in-Equal : goal.returns-in-Equal
 returns-in-Equal c =
-    let here = c.in-Some-Some in
-    let left = here.ensures.cases.0 in
-    let right = here.ensures'.cases.0 in
+    let here = c.in-Some-Some in let left = here.ensures.cases.0 in let right = here.ensures'.cases.0 in
     let equal : name_order here.name.now here.other.now ≡ Equal = sym (c.orders_are_by_parts.ensures.names here.name.now here.other.now)
     ∙ sym c.cmp.ensures ∙ c.in-Equal.is in
     found_equal here.name.now here.other.now here.names_behind.now here.others_behind.now equal

@@ -4,9 +4,12 @@ use Rattle.std.specs.Ordering.{ordering_then}
 use Rattle.std.specs.declared.cmp.Ordering.{Ordering}
 use Rattle.cell_spec.specs.declared.key.Key.{Key}
 use Rattle.cell_spec.specs.declared.key.Subject.{Subject}
+use Rattle.cell_spec.specs.Names.{key_order, subject_order}
+use Rattle.cell_spec.proofs.Orders.{total_keys}
+use Rattle.cell_spec.proofs.SubjectOrder.{total_subjects}
 use Rattle.row_spec.specs.Rows.{with_row}
+use Rattle.row_spec.proofs.Pairs.{has-put}
 use Rattle.depend_map.specs.Readers.{has_pair}
-use Rattle.depend_map.proofs.Pairs.{has-put}
 use Rattle.depend_map.proofs.set.put.Goals as goal
 
 pub returns : goal.returns
@@ -14,4 +17,5 @@ returns c =
     let ok = subst (λ (order : Key × Subject → Key × Subject → Ordering). OnOk c.put.result
     (c.put.new.self ≡ with_row order c.args.readers.now (c.args.key, c.args.subject) tt))
     (λ i a b. ordering_then (c.orders_are_by_parts.ensures.keys a.0 b.0 i) (c.orders_are_by_parts.ensures.subjects a.1 b.1 i)) c.put.ensures.ok in
-    on_ok_weaker c.put.result (λ is k s. ap (λ pairs. has_pair pairs k s) is ∙ has-put c.args.readers.now c.args.key c.args.subject k s tt) ok
+    on_ok_weaker c.put.result (λ is k s. ap (λ pairs. has_pair pairs k s) is ∙
+    has-put key_order subject_order total_keys total_subjects c.args.readers.now c.args.key c.args.subject k s tt) ok

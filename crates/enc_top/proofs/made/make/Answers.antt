@@ -1,5 +1,5 @@
 use Rattle.std.proofs.lemmas.Bool.Decides.{nat_tests}
-use Rattle.std.proofs.Common.{◌≡◌, length, map, refl, rules, sym, ap, ◌∙◌, string_bytes, arith}
+use Rattle.std.proofs.Common.{◌≡◌, ℕ, List, Some, String, Global, get_or, length, map, refl, rules, sym, ap, ◌∙◌, string_bytes, arith}
 use Rattle.std.proofs.lemmas.Result.{err_from_is_err_and}
 use Rattle.enc_top.specs.Words.{make_among, make_form, make_of, number_up_to}
 use Rattle.enc_top.proofs.FormWords.{fewer_made, more_made, two_made}
@@ -21,23 +21,24 @@ returns-in_default-number_up_to c = λ files count.
     ∙ ap (make_of (string_bytes c.out-item.result)) (sym (c.in_default-number_up_to.ensures.number ∙ ap (number_up_to 100) c.as_str.ensures.value)) in
     (is, refl)
 
+form_is : (others : List (String Global)) (size out : String Global) (text : List ℕ) (n : ℕ) → length others ≡ 2 → size ≡ get_or others 0 size
+    → out ≡ get_or others 1 out → text ≡ string_bytes out → Some n ≡ number_up_to 100 (string_bytes size)
+    → make_among (map string_bytes others) ≡ make_form n text
+form_is others size out text n two is_size is_out is_text is_number =
+    two_made others size out two is_size is_out ∙ (λ i. make_of (sym is_text i) (sym is_number i))
+
 pub returns-in_err-made_work : goal.returns-in_err-made_work
 returns-in_err-made_work c = λ files count.
     let two : length c.args.others.now ≡ 2 = omega (arith, c.in-len2.len_at_least, c.in-len2.len_below) in
-    let size = c.in-Some.size in
-    let out = c.as_str-2.result.now in
-    let is : make_among (map string_bytes c.args.others.now) ≡ make_form size out =
-    two_made c.args.others.now c.size-item.result c.out-item.result two c.size-item.is c.out-item.is
-    ∙ (λ i. make_of (sym c.as_str-2.ensures.value i) (sym (c.in-Some.ensures.number ∙ ap (number_up_to 100) c.as_str.ensures.value) i)) in
+    let is = form_is c.args.others.now c.size-item.result c.out-item.result c.as_str-2.result.now c.in-Some.size two c.size-item.is c.out-item.is
+    c.as_str-2.ensures.value (c.in-Some.ensures.number ∙ ap (number_up_to 100) c.as_str.ensures.value) in
     let refused = err_from_is_err_and c.from_residual.result c.from_residual.ensures.1 in
-    rw (refused.1, refused.2) (no_room_to_make (make_among (map string_bytes c.args.others.now)) size out files count is)
+    rw (refused.1, refused.2) (no_room_to_make (make_among (map string_bytes c.args.others.now)) c.in-Some.size c.as_str-2.result.now files count is)
 
 pub returns : goal.returns
 returns c = λ files count.
     let two : length c.args.others.now ≡ 2 = omega (arith, c.in-len2.len_at_least, c.in-len2.len_below) in
-    let size = c.in-Some.size in
-    let out = c.as_str-2.result.now in
-    let is : make_among (map string_bytes c.args.others.now) ≡ make_form size out =
-    two_made c.args.others.now c.size-item.result c.out-item.result two c.size-item.is c.out-item.is
-    ∙ (λ i. make_of (sym c.as_str-2.ensures.value i) (sym (c.in-Some.ensures.number ∙ ap (number_up_to 100) c.as_str.ensures.value) i)) in
-    asked_make (make_among (map string_bytes c.args.others.now)) size out files count c.in_ok-made_work.field-0 is c.in_ok-made_work.ensures
+    let is = form_is c.args.others.now c.size-item.result c.out-item.result c.as_str-2.result.now c.in-Some.size two c.size-item.is c.out-item.is
+    c.as_str-2.ensures.value (c.in-Some.ensures.number ∙ ap (number_up_to 100) c.as_str.ensures.value) in
+    asked_make (make_among (map string_bytes c.args.others.now)) c.in-Some.size c.as_str-2.result.now files count c.in_ok-made_work.field-0 is
+    c.in_ok-made_work.ensures

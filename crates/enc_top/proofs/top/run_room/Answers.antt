@@ -1,4 +1,6 @@
 use Rattle.std.proofs.Common.{map, string_bytes}
+use Rattle.enc_top.proofs.Causes.{exact_from_cause}
+use Rattle.enc_top.proofs.Completed.{complete_from_exact, read_back_from_cause}
 use Rattle.enc_top.proofs.Ended.{refused_end, work_end}
 use Rattle.enc_top.proofs.top.run_room.Goals as goal
 
@@ -8,36 +10,24 @@ returns-in-Err-clause-cause g c =
     c.in-Err.ensures.files c.in-Err.ensures.write_faults c.in-Err.ensures.asked).cause
 
 pub returns-in-Err-clause-exact : goal.returns-in-Err-clause-exact
-returns-in-Err-clause-exact g c =
-    (refused_end (g.M.Meet.sticks c.args.meet.now) (map string_bytes c.args.words.now) _ _ _ _ _ _ _ _ c.in-Err.status
-    c.in-Err.ensures.files c.in-Err.ensures.write_faults c.in-Err.ensures.asked).exact
+returns-in-Err-clause-exact g c = exact_from_cause (g.M.Meet.sticks c.args.meet.now) _ _ _ c.in-Err.status (returns-in-Err-clause-cause g c)
 
 pub returns-in-Err-clause-complete : goal.returns-in-Err-clause-complete
-returns-in-Err-clause-complete g c =
-    (refused_end (g.M.Meet.sticks c.args.meet.now) (map string_bytes c.args.words.now) _ _ _ _ _ _ _ _ c.in-Err.status
-    c.in-Err.ensures.files c.in-Err.ensures.write_faults c.in-Err.ensures.asked).complete
+returns-in-Err-clause-complete g c = complete_from_exact (g.M.Meet.sticks c.args.meet.now) _ _ _ c.in-Err.status (returns-in-Err-clause-exact g c)
 
 pub returns-in-Err-clause-read_back : goal.returns-in-Err-clause-read_back
-returns-in-Err-clause-read_back g c =
-    (refused_end (g.M.Meet.sticks c.args.meet.now) (map string_bytes c.args.words.now) _ _ _ _ _ _ _ _ c.in-Err.status
-    c.in-Err.ensures.files c.in-Err.ensures.write_faults c.in-Err.ensures.asked).read_back
+returns-in-Err-clause-read_back g c = read_back_from_cause (g.M.Meet.sticks c.args.meet.now) _ _ _ c.in-Err.status (returns-in-Err-clause-cause g c)
 
 pub returns-in-Ok-clause-cause : goal.returns-in-Ok-clause-cause
 returns-in-Ok-clause-cause g c =
-    (work_end (g.M.Meet.sticks c.args.meet.now) (map string_bytes c.args.words.now) _ _ _ _ _ _ _ _ _ _ _ _ _ c.in-Ok.work c.finish.result c.in-Ok.ensures.files
-    c.in-Ok.ensures.write_faults c.finish.ensures.read_faults c.in-Ok.ensures.asked c.finish.ensures.done).cause
+    (work_end (g.M.Meet.sticks c.args.meet.now) (map string_bytes c.args.words.now) _ _ _ _ _ _ _ _ _ _ _ _ _ c.in-Ok.work c.finish.result
+    c.in-Ok.ensures.files c.in-Ok.ensures.write_faults c.finish.ensures.read_faults c.in-Ok.ensures.asked c.finish.ensures.done).cause
 
 pub returns-in-Ok-clause-exact : goal.returns-in-Ok-clause-exact
-returns-in-Ok-clause-exact g c =
-    (work_end (g.M.Meet.sticks c.args.meet.now) (map string_bytes c.args.words.now) _ _ _ _ _ _ _ _ _ _ _ _ _ c.in-Ok.work c.finish.result c.in-Ok.ensures.files
-    c.in-Ok.ensures.write_faults c.finish.ensures.read_faults c.in-Ok.ensures.asked c.finish.ensures.done).exact
+returns-in-Ok-clause-exact g c = exact_from_cause (g.M.Meet.sticks c.args.meet.now) _ _ _ c.finish.result (returns-in-Ok-clause-cause g c)
 
 pub returns-in-Ok-clause-complete : goal.returns-in-Ok-clause-complete
-returns-in-Ok-clause-complete g c =
-    (work_end (g.M.Meet.sticks c.args.meet.now) (map string_bytes c.args.words.now) _ _ _ _ _ _ _ _ _ _ _ _ _ c.in-Ok.work c.finish.result c.in-Ok.ensures.files
-    c.in-Ok.ensures.write_faults c.finish.ensures.read_faults c.in-Ok.ensures.asked c.finish.ensures.done).complete
+returns-in-Ok-clause-complete g c = complete_from_exact (g.M.Meet.sticks c.args.meet.now) _ _ _ c.finish.result (returns-in-Ok-clause-exact g c)
 
 pub returns-in-Ok-clause-read_back : goal.returns-in-Ok-clause-read_back
-returns-in-Ok-clause-read_back g c =
-    (work_end (g.M.Meet.sticks c.args.meet.now) (map string_bytes c.args.words.now) _ _ _ _ _ _ _ _ _ _ _ _ _ c.in-Ok.work c.finish.result c.in-Ok.ensures.files
-    c.in-Ok.ensures.write_faults c.finish.ensures.read_faults c.in-Ok.ensures.asked c.finish.ensures.done).read_back
+returns-in-Ok-clause-read_back g c = read_back_from_cause (g.M.Meet.sticks c.args.meet.now) _ _ _ c.finish.result (returns-in-Ok-clause-cause g c)

@@ -1,23 +1,7 @@
-use Rattle.field_spec.proofs.DecidedFields.{number_decided, dsid_decided, dssi_decided, dspm_decided, frid_decided, foid_decided, vrid_decided}
+use Rattle.field_spec.proofs.DecidedFields.{number_decided as number, dsid_decided as dsid, dssi_decided as dssi, dspm_decided as dspm}
+use Rattle.field_spec.proofs.DecidedFields.{frid_decided as frid, foid_decided as foid, vrid_decided as vrid}
 use Rattle.field_spec.proofs.law.values_are_decided.Goals as goal
 
-pub returns-clause-number : goal.returns-clause-number
-returns-clause-number c = number_decided
-
-pub returns-clause-dsid : goal.returns-clause-dsid
-returns-clause-dsid c = dsid_decided
-
-pub returns-clause-dssi : goal.returns-clause-dssi
-returns-clause-dssi c = dssi_decided
-
-pub returns-clause-dspm : goal.returns-clause-dspm
-returns-clause-dspm c = dspm_decided
-
-pub returns-clause-frid : goal.returns-clause-frid
-returns-clause-frid c = frid_decided
-
-pub returns-clause-foid : goal.returns-clause-foid
-returns-clause-foid c = foid_decided
-
-pub returns-clause-vrid : goal.returns-clause-vrid
-returns-clause-vrid c = vrid_decided
+pub returns : goal.returns
+returns c =
+    record { number = number; dsid = dsid; dssi = dssi; dspm = dspm; frid = frid; foid = foid; vrid = vrid }

@@ -12,32 +12,7 @@ use Rattle.text_spec.specs.CellText.{text_with}
 use Rattle.history_spec.specs.ReportText.{report}
 use Rattle.history_samples.proofs.law.runs_are_reported.Goals as goal
 
-pub returns-clause-minimal : goal.returns-clause-minimal
+pub returns : goal.returns
 unfolding digits form_fault unfitness report text_with all_findings findings_of_subject subjects meeting_of lies_on boundary_of
     has_usable_boundary edge_line_of uses_of apply_edits
-returns-clause-minimal c = refl
-
-pub returns-clause-clash : goal.returns-clause-clash
-unfolding digits form_fault unfitness report text_with all_findings findings_of_subject subjects meeting_of lies_on boundary_of
-    has_usable_boundary edge_line_of uses_of apply_edits
-returns-clause-clash c = refl
-
-pub returns-clause-until_a_view : goal.returns-clause-until_a_view
-unfolding digits form_fault unfitness report text_with all_findings findings_of_subject subjects meeting_of lies_on boundary_of
-    has_usable_boundary edge_line_of uses_of apply_edits
-returns-clause-until_a_view c = refl
-
-pub returns-clause-two_sessions : goal.returns-clause-two_sessions
-unfolding digits form_fault unfitness report text_with all_findings findings_of_subject subjects meeting_of lies_on boundary_of
-    has_usable_boundary edge_line_of uses_of apply_edits
-returns-clause-two_sessions c = refl
-
-pub returns-clause-guards : goal.returns-clause-guards
-unfolding digits form_fault unfitness report text_with all_findings findings_of_subject subjects meeting_of lies_on boundary_of
-    has_usable_boundary edge_line_of uses_of apply_edits
-returns-clause-guards c = refl
-
-pub returns-clause-head : goal.returns-clause-head
-unfolding digits form_fault unfitness report text_with all_findings findings_of_subject subjects meeting_of lies_on boundary_of
-    has_usable_boundary edge_line_of uses_of apply_edits
-returns-clause-head c = refl
+returns c = record { minimal = refl; clash = refl; until_a_view = refl; two_sessions = refl; guards = refl; head = refl }

@@ -1,5 +1,5 @@
 use Rattle.std.proofs.Common.{◌∙◌}
-use Rattle.pair_set.proofs.Found.{found}
+use Rattle.row_spec.proofs.Sought.{found}
 use Rattle.pair_set.proofs.set.holds.Goals as goal
 
 pub returns : goal.returns

@@ -7,10 +7,9 @@ use Rattle.recheck.proofs.parts.find_all.Goals as goal
 
 pub returns : goal.returns
 returns g c =
-    let names = c.args.names.now in
-    let is = IsPart (g.B.Look.cell c.args.look.now) in
     let told = c.in_ok-parts.ensures in
     let chain = rw (c.map.ensures.base, c.map.ensures.f) at told.1 in
     let slice = ap (λ it. it.slice.now) c.with_min_len.ensures.base ∙ c.par_iter.ensures in
-    let each = slice-AllZip chain.0 names (chain.1 ∙ slice) (λ name answer. IfOk answer is) told.0 chain.2 in
-    gathered _ is names told.0 each c.in_ok-parts.parts told.2
+    let each = slice-AllZip chain.0 c.args.names.now (chain.1 ∙ slice)
+    (λ name answer. IfOk answer (IsPart (g.B.Look.cell c.args.look.now))) told.0 chain.2 in
+    gathered _ (IsPart (g.B.Look.cell c.args.look.now)) c.args.names.now told.0 each c.in_ok-parts.parts told.2

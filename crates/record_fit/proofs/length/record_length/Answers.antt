@@ -11,20 +11,14 @@ with-sizes-requires c = omega (arith, count_within c.args.lengths.now c.loop-fie
 pub overflow_mul-sizes : goal.overflow_mul-sizes
 overflow_mul-sizes c =
     let few : 4 + c.digit_count.result + c.digit_count-2.result ≤ 44 = omega (arith, c.digit_count.ensures.few, c.digit_count-2.ensures.few) in
-    omega (
-      arith,
-      count_within c.args.lengths.now c.loop-field.field-index c.loop-field.sizes c.loop-field.invariant,
-      mul-le-mul_left c.loop-field.sizes.count few,
-    )
+    let entries = mul-le-mul_left c.loop-field.sizes.count few in
+    omega (arith, count_within c.args.lengths.now c.loop-field.field-index c.loop-field.sizes c.loop-field.invariant)
 
 pub overflow_add-sizes : goal.overflow_add-sizes
 overflow_add-sizes c =
     let few : 4 + c.digit_count.result + c.digit_count-2.result ≤ 44 = omega (arith, c.digit_count.ensures.few, c.digit_count-2.ensures.few) in
-    omega (
-      arith,
-      count_within c.args.lengths.now c.loop-field.field-index c.loop-field.sizes c.loop-field.invariant,
-      mul-le-mul_left c.loop-field.sizes.count few,
-    )
+    let entries = mul-le-mul_left c.loop-field.sizes.count few in
+    omega (arith, count_within c.args.lengths.now c.loop-field.field-index c.loop-field.sizes c.loop-field.invariant)
 
 pub returns : goal.returns
 returns c =

@@ -1,4 +1,4 @@
-use Rattle.std.proofs.Common.{◌≡◌, ◌≤◌, length, refl, ap, ◌∙◌, arith}
+use Rattle.std.proofs.Common.{◌≡◌, ℕ, ◌≤◌, refl, ap, ◌∙◌, arith}
 use Rattle.workroom.specs.Rooms.{RoomState}
 use Rattle.room_run.proofs.Ends.{all_held, first_of, none_full, run_end}
 use Rattle.room_run.proofs.Opened.{opened_length}
@@ -11,25 +11,25 @@ transcripts_of-requires g c =
     c.in_ok-compilers.ensures.opened c.run_all.ensures.len c.run_all.ensures.run c.in_ok-book.ensures
     (ap (λ (r : RoomState). r.desks) c.in_ok-compilers.ensures.room) c.requires.short c.requires.few
 
+-- there is a session at the end, since none is gone
+some_left : (a b d : ℕ) → 1 ≤ a → d ≡ b → b ≡ a → 1 ≤ d
+some_left a b d some kept is = omega arith
+
 pub returns-in-Err-clause-end : goal.returns-in-Err-clause-end
 returns-in-Err-clause-end g c =
-    let ks = c.in_ok-compilers.compilers.items in
-    let new = c.run_all.new.compilers.items in
-    let some : 1 ≤ length new = (let a = c.requires.some in let b = c.run_all.ensures.len in let d =
-    opened_length c.args.room.room c.args.scripts.items ks c.in_ok-compilers.ensures.opened in omega (arith, a, b, d)) in
+    let ks = c.in_ok-compilers.compilers.items in let new = c.run_all.new.compilers.items in
     run_end (g.M.Meet.sticks c.args.meet.now) c.open_all.new.room c.args.room.room c.args.scripts.items ks new c.in_ok-book.book c.in_ok-book.outcomes.items
     c.in_ok-compilers.ensures.opened c.run_all.ensures.len c.run_all.ensures.run c.in_ok-book.ensures
     (ap (λ (r : RoomState). r.desks) c.in_ok-compilers.ensures.room) c.requires.short c.requires.few
-    (first_of new some) c.in-Err.end c.in-Err.ensures.end
+    (first_of new (some_left _ _ _ c.requires.some c.run_all.ensures.len (opened_length c.args.room.room c.args.scripts.items ks
+    c.in_ok-compilers.ensures.opened))) c.in-Err.end c.in-Err.ensures.end
 
 pub returns-clause-held : goal.returns-clause-held
 returns-clause-held g c =
-    let ks = c.in_ok-compilers.compilers.items in
-    let new = c.run_all.new.compilers.items in
-    let some : 1 ≤ length new = (let a = c.requires.some in let b = c.run_all.ensures.len in let d =
-    opened_length c.args.room.room c.args.scripts.items ks c.in_ok-compilers.ensures.opened in omega (arith, a, b, d)) in
+    let ks = c.in_ok-compilers.compilers.items in let new = c.run_all.new.compilers.items in
     all_held (g.M.Meet.sticks c.args.meet.now) c.open_all.new.room c.args.room.room c.args.scripts.items ks new c.in_ok-book.book c.in_ok-book.outcomes.items
     c.in_ok-compilers.ensures.opened c.run_all.ensures.len c.run_all.ensures.run c.in_ok-book.ensures
     (ap (λ (r : RoomState). r.desks) c.in_ok-compilers.ensures.room) c.requires.short c.requires.few
-    c.in-Ok.transcripts.items c.in-Ok.ensures.done (first_of new some) _ refl refl
+    c.in-Ok.transcripts.items c.in-Ok.ensures.done (first_of new (some_left _ _ _ c.requires.some c.run_all.ensures.len (opened_length c.args.room.room
+    c.args.scripts.items ks c.in_ok-compilers.ensures.opened))) _ refl refl
     (c.in_ok-book.ensures.opening ∙ ap (λ (r : RoomState). r.room.opening) c.in_ok-compilers.ensures.room)

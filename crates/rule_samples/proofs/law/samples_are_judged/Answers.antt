@@ -7,22 +7,6 @@ use Rattle.rule_spec.specs.Findings.{subjects, findings_of_subject, all_findings
 use Rattle.rule_spec.specs.Sides.{uses_of}
 use Rattle.rule_samples.proofs.law.samples_are_judged.Goals as goal
 
-pub returns-clause-vectors : goal.returns-clause-vectors
+pub returns : goal.returns
 unfolding all_findings findings_of_subject subjects meeting_of lies_on boundary_of has_usable_boundary edge_line_of uses_of apply_edits
-returns-clause-vectors c = refl
-
-pub returns-clause-pairs : goal.returns-clause-pairs
-unfolding all_findings findings_of_subject subjects meeting_of lies_on boundary_of has_usable_boundary edge_line_of uses_of apply_edits
-returns-clause-pairs c = refl
-
-pub returns-clause-features : goal.returns-clause-features
-unfolding all_findings findings_of_subject subjects meeting_of lies_on boundary_of has_usable_boundary edge_line_of uses_of apply_edits
-returns-clause-features c = refl
-
-pub returns-clause-sides : goal.returns-clause-sides
-unfolding all_findings findings_of_subject subjects meeting_of lies_on boundary_of has_usable_boundary edge_line_of uses_of apply_edits
-returns-clause-sides c = refl
-
-pub returns-clause-one_place : goal.returns-clause-one_place
-unfolding all_findings findings_of_subject subjects meeting_of lies_on boundary_of has_usable_boundary edge_line_of uses_of apply_edits
-returns-clause-one_place c = refl
+returns c = record { vectors = refl; pairs = refl; features = refl; sides = refl; one_place = refl }

@@ -5,16 +5,9 @@ use Rattle.script_text.specs.Cuts.{before}
 use Rattle.script_text.proofs.Cuts.{place_is, front_at, rest_at}
 use Rattle.script_text.proofs.cut.cut_at.Goals as goal
 
-pub returns-clause-before : goal.returns-clause-before
-returns-clause-before c =
+pub returns : goal.returns
+returns c =
     let place = position_from_yields_List (λ b. eqb b c.args.mark) _ _ _ c.position-place.ensures.ran
     (YieldsList-from_slice c.args.text.now c.iter.ensures.rest) (λ x b q k. search (rules, tests)) in
     let at : c.unwrap_or.result ≡ length (before c.args.mark c.args.text.now) = c.unwrap_or.ensures ∙ place_is c.args.mark c.args.text.now _ place in
-    c.split_at.ensures.front ∙ front_at _ _ _ at
-
-pub returns-clause-from : goal.returns-clause-from
-returns-clause-from c =
-    let place = position_from_yields_List (λ b. eqb b c.args.mark) _ _ _ c.position-place.ensures.ran
-    (YieldsList-from_slice c.args.text.now c.iter.ensures.rest) (λ x b q k. search (rules, tests)) in
-    let at : c.unwrap_or.result ≡ length (before c.args.mark c.args.text.now) = c.unwrap_or.ensures ∙ place_is c.args.mark c.args.text.now _ place in
-    c.split_at.ensures.back ∙ rest_at _ _ _ at
+    record { before = c.split_at.ensures.front ∙ front_at _ _ _ at; from = c.split_at.ensures.back ∙ rest_at _ _ _ at }

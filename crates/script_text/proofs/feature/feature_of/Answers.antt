@@ -14,8 +14,7 @@ returns-clause-found c = λ feature width spelled.
     let objl = 32 ∷ (decimal feature.objl ++ foid) in
     let grup = 32 ∷ (decimal feature.grup ++ objl) in
     let prim = 32 ∷ (decimal feature.prim ++ grup) in
-    let rver = 32 ∷ (decimal feature.rver ++ prim) in
-    let id = 32 ∷ (decimal feature.name.id ++ rver) in
+    let rver = 32 ∷ (decimal feature.rver ++ prim) in let id = 32 ∷ (decimal feature.name.id ++ rver) in
     let text : c.args.words.now ≡ 32 ∷ (kind_word feature.name.kind ++ id) = spelled in
     let one = c.next_part.ensures.part 32 (kind_word feature.name.kind) id (free_kind 32 feature.name.kind (omega arith)).free refl text in
     let two = c.next_part-2.ensures.part 32 (decimal feature.name.id) rver (free_number 32 feature.name.id (omega arith) width.name).free refl one.1 in
@@ -29,7 +28,7 @@ returns-clause-found c = λ feature width spelled.
     (free_number 32 feature.objl (omega arith) (omega (arith, width.objl))).free refl five.1 in
     let identity = c.identity_of_words.ensures.found feature.foid items width.foid (from_parts 32 (feature_items feature)) six.1 in
     let lists = feature_items_are feature _ _ width c.in_ok-items.ensures identity.1 in
-    same_feature _ _ _ _ _ _ _ _ _ _ feature (c.name_of.ensures feature.name width.name one.0 two.0) (c.byte_of.ensures feature.prim width.prim four.0)
+    same_feature _ _ _ _ _ _ _ _ _ _ feature (c.name_of-name.ensures feature.name width.name one.0 two.0) (c.byte_of.ensures feature.prim width.prim four.0)
     (c.byte_of-2.ensures feature.grup width.grup five.0) (c.short_of.ensures feature.objl width.objl six.0)
     (c.short_of-2.ensures feature.rver width.rver three.0)
     identity.0 lists.attf lists.natf lists.partners lists.places

@@ -21,9 +21,6 @@ returns-then-is_word-5 c = (λ _. guard_known c.args.word.now (c.is_word-5.ensur
 pub returns-then-is_word-6 : goal.returns-then-is_word-6
 returns-then-is_word-6 c = (λ _. del_known c.args.word.now (c.is_word-6.ensures.0 c.if-is_word-6.true), λ _. refl)
 
-pub returns-then-is_word-7 : goal.returns-then-is_word-7
-returns-then-is_word-7 c = (λ _. add_known c.args.word.now (c.is_word-7.ensures.0 c.if-is_word-7.true), λ _. refl)
-
 pub returns : goal.returns
 returns c = (
   λ is. set_known c.args.word.now (c.is_word-8.ensures.0 is),
@@ -37,3 +34,6 @@ returns c = (
     no_add = λ is. both_ways c.is_word-7.result c.if-is_word-7.false (c.is_word-7.ensures.1 is);
   }) known),
 )
+
+pub returns-then-is_word-7 : goal.returns-then-is_word-7
+returns-then-is_word-7 c = (λ _. add_known c.args.word.now (c.is_word-7.ensures.0 c.if-is_word-7.true), λ _. refl)

@@ -10,8 +10,7 @@ use Rattle.script_text.proofs.vector.vector_of.Goals as goal
 pub returns-clause-found : goal.returns-clause-found
 returns-clause-found c = λ vector width spelled.
     let items = spaced_words (vector_items vector) in
-    let rver = 32 ∷ (decimal vector.rver ++ items) in
-    let id = 32 ∷ (decimal vector.name.id ++ rver) in
+    let rver = 32 ∷ (decimal vector.rver ++ items) in let id = 32 ∷ (decimal vector.name.id ++ rver) in
     let text : c.args.words.now ≡ 32 ∷ (kind_word vector.name.kind ++ id) = spelled in
     let one = c.next_part.ensures.part 32 (kind_word vector.name.kind) id (free_kind 32 vector.name.kind (omega arith)).free refl text in
     let two = c.next_part-2.ensures.part 32 (decimal vector.name.id) rver (free_number 32 vector.name.id (omega arith) width.name).free refl one.1 in

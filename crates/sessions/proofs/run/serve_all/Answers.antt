@@ -18,8 +18,7 @@ serve-requires-clause-room g c κs within-lives =
 
 pub serve-requires-clause-editor : goal.serve-requires-clause-editor
 serve-requires-clause-editor g c κs within-lives =
-    let scripts = scripts_of c.args.editors.now.items in
-    let number = slice_index_or c.args.order.now c.loop-number.number-index 0 in
+    let scripts = scripts_of c.args.editors.now.items in let number = slice_index_or c.args.order.now c.loop-number.number-index 0 in
     let within = c.requires.order.sessions c.loop-number.number-index 0 c.loop-number-test.true in
     let high = subst (λ n. number ≤ n) (length-map scripts (count_by is_shared)) within.1 in
     subst (IsEditor c.loop-number.book.opening c.loop-number.book.entries number) (sym c.index_mut.ensures.value)
@@ -28,8 +27,7 @@ serve-requires-clause-editor g c κs within-lives =
 
 pub serve-requires-clause-left : goal.serve-requires-clause-left
 serve-requires-clause-left g c κs within-lives =
-    let scripts = scripts_of c.args.editors.now.items in
-    let number = slice_index_or c.args.order.now c.loop-number.number-index 0 in
+    let scripts = scripts_of c.args.editors.now.items in let number = slice_index_or c.args.order.now c.loop-number.number-index 0 in
     let within = c.requires.order.sessions c.loop-number.number-index 0 c.loop-number-test.true in
     let high = subst (λ n. number ≤ n) (length-map scripts (count_by is_shared)) within.1 in
     subst (λ (e : Editor). length (entries_of number c.loop-number.book.entries) < count_by is_shared e.session.script) (sym c.index_mut.ensures.value)
@@ -38,8 +36,7 @@ serve-requires-clause-left g c κs within-lives =
 
 pub loop-number-preserved : goal.loop-number-preserved
 loop-number-preserved g c =
-    let scripts = scripts_of c.args.editors.now.items in
-    let number = slice_index_or c.args.order.now c.loop-number.number-index 0 in
+    let scripts = scripts_of c.args.editors.now.items in let number = slice_index_or c.args.order.now c.loop-number.number-index 0 in
     let within = c.requires.order.sessions c.loop-number.number-index 0 c.loop-number-test.true in
     let high = subst (λ n. number ≤ n) (length-map scripts (count_by is_shared)) within.1 in
     next_served c.args.book.now.opening scripts c.args.order.now c.loop-number.number-index number c.loop-number.book c.loop-number.editors.items

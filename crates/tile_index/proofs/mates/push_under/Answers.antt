@@ -4,7 +4,7 @@ use Rattle.s57_types.specs.declared.name.RecName.{RecName}
 use Rattle.cell_spec.specs.Names.{name_order}
 use Rattle.pair_set.specs.Pairs.{has_pair, is_among}
 use Rattle.tile_index.specs.Tilings.{tile_order}
-use Rattle.tile_index.proofs.Names.{none_below}
+use Rattle.finding_laws.proofs.LeastName.{none_below}
 use Rattle.tile_index.proofs.mates.push_under.Goals as goal
 
 pub seconds-name-items-requires : goal.seconds-name-items-requires

@@ -1,20 +1,17 @@
 use Rattle.std.proofs.Common.{map, ap, ◌∙◌}
 use Rattle.std.specs.Borrow.{Bor}
-use Rattle.std.proofs.lemmas.Result.{err_from_is_err_and}
 use Rattle.s57_types.specs.declared.record.Feature.{Feature}
+use Rattle.topo_ops.proofs.Rows.{handed_on}
 use Rattle.topo_ops.proofs.SplitKept.{can_cut}
 use Rattle.topo_ops.proofs.SplitRows.{at_cut, finished, no_edge}
 use Rattle.topo_ops.proofs.splitting.checked_split.Goals as goal
 
 pub returns-in_err-chain : goal.returns-in_err-chain
-returns-in_err-chain g c =
-    let refused = err_from_is_err_and c.from_residual.result c.from_residual.ensures.1 in
-    rw (refused.1, refused.2) (no_edge (g.B.Look.cell c.args.look.now) c.args.cut _ c.in_err-chain.ensures)
+returns-in_err-chain g c = handed_on _ _ _ c.from_residual.result (no_edge (g.B.Look.cell c.args.look.now) c.args.cut _ c.in_err-chain.ensures) c.from_residual.ensures.1
 
 pub returns-in_err-check_cut : goal.returns-in_err-check_cut
-returns-in_err-check_cut g c =
-    let refused = err_from_is_err_and c.from_residual-in_err-check_cut.result c.from_residual-in_err-check_cut.ensures.1 in
-    rw (refused.1, refused.2) (at_cut (g.B.Look.cell c.args.look.now) c.args.cut _ c.in_ok-chain.ensures _ c.in_err-check_cut.ensures)
+returns-in_err-check_cut g c = handed_on _ _ _ c.from_residual-in_err-check_cut.result
+    (at_cut (g.B.Look.cell c.args.look.now) c.args.cut _ c.in_ok-chain.ensures _ c.in_err-check_cut.ensures) c.from_residual-in_err-check_cut.ensures.1
 
 pub checked_edits-requires : goal.checked_edits-requires
 checked_edits-requires g c = can_cut (g.B.Look.cell c.args.look.now) c.args.cut _ c.in_ok-chain.ensures c.in_ok-check_cut.ensures

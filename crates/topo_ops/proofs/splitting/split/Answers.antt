@@ -1,27 +1,18 @@
 use Rattle.std.proofs.Common.{◌∙◌}
-use Rattle.topo_ops.specs.Kept.{IsSplit}
-use Rattle.topo_ops.specs.Refusals.{IsRefusal}
 use Rattle.topo_ops.specs.Split.{split_by, split_refusal}
-use Rattle.topo_ops.proofs.Rows.{handed_on}
-use Rattle.topo_ops.proofs.Sets.{split_answer, split_refused, split_unformed}
+use Rattle.topo_ops.proofs.Sets.{split_answer, refused_call, unformed_call}
 use Rattle.topo_ops.proofs.splitting.split.Goals as goal
 
 pub returns-in_err-edits : goal.returns-in_err-edits
 returns-in_err-edits g c =
-    let cell = g.B.Look.cell c.args.look.now in
-    let cut = split_by c.args.edge c.args.at c.args.node c.args.fresh in
-    handed_on (IsSplit c.args.nall cell cut) (IsRefusal (split_refusal c.args.nall cell cut)) c.in_err-edits.field-0.0 c.from_residual.result
-    (split_refused c.args.nall cell c.of_numbers-cut.result cut c.of_numbers-cut.ensures c.in_err-edits.field-0.0 c.in_err-edits.ensures)
-    c.from_residual.ensures.1
+    refused_call (λ nall x. split_refusal nall (g.B.Look.cell c.args.look.now) x) c.args.nall _ (split_by c.args.edge c.args.at c.args.node c.args.fresh) c.of_numbers-cut.ensures
+    _ _ _ c.from_residual.ensures.1 c.in_err-edits.ensures
 
 pub returns-in_err-set : goal.returns-in_err-set
 returns-in_err-set g c =
-    let cell = g.B.Look.cell c.args.look.now in
-    let cut = split_by c.args.edge c.args.at c.args.node c.args.fresh in
-    handed_on (IsSplit c.args.nall cell cut) (IsRefusal (split_refusal c.args.nall cell cut)) c.in_err-set.field-0.0 c.from_residual-in_err-set.result
-    (split_unformed c.args.nall cell c.of_numbers-cut.result cut c.of_numbers-cut.ensures c.as_slice.result.now (c.as_slice.ensures ∙ c.in_ok-edits.ensures.0)
-    c.in_ok-edits.ensures.1 c.in_err-set.field-0.0 c.in_err-set.ensures)
-    c.from_residual-in_err-set.ensures.1
+    unformed_call (λ nall x. split_refusal nall (g.B.Look.cell c.args.look.now) x) c.args.nall _ (split_by c.args.edge c.args.at c.args.node c.args.fresh) c.of_numbers-cut.ensures
+    _ _ _ c.from_residual-in_err-set.ensures.1 c.as_slice.result.now _ (c.as_slice.ensures ∙ c.in_ok-edits.ensures.0) c.in_ok-edits.ensures.1
+    c.in_err-set.ensures
 
 pub returns : goal.returns
 returns g c =

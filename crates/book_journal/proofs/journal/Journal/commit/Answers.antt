@@ -1,10 +1,9 @@
-use Rattle.std.proofs.Common.{◌≡◌, ◌∙◌, arith, ap, length, length-append, [], ◌∷◌, None, sym, subst}
-use Rattle.edit_sets.specs.FormFault.{GuardedEdits, form_fault}
+use Rattle.std.proofs.Common.{◌≡◌, ◌∙◌, arith, ap, length, length-append, [], ◌∷◌, sym, subst}
 use Rattle.commit_book.specs.Books.{BookState, IsEntered}
 use Rattle.history_spec.specs.declared.entry.Asked.TheVariants.{Commit}
 use Rattle.book_journal.specs.Entries.{entry_part}
 use Rattle.book_journal.specs.Parts.{commit_asked, text_asked}
-use Rattle.book_journal.proofs.Commits.{asked_accepted, entry_written, same_commits, stands_ready, still_more, still_same}
+use Rattle.book_journal.proofs.Commits.{entry_written, same_commits, set_accepted, stands_ready, still_more, still_same}
 use Rattle.book_journal.proofs.Numbers.{length-part}
 use Rattle.book_journal.proofs.journal.Journal.commit.Goals as goal
 
@@ -40,11 +39,9 @@ pub returns-in-Ok-clause-still : goal.returns-in-Ok-clause-still
 returns-in-Ok-clause-still g c =
     let told = c.in_ok-told.ensures.ok in
     let part = c.in_ok-part.ensures.ok in
-    let form = c.known-2.ensures.form in
-    let accepted = asked_accepted c.args.self.now.book c.commit.new.self c.args.desk c.args.prepared.now c.in_ok-told.told.reply told
-    c.if-not-is_accepted.ensures
-    (omega (arith, c.ranges.desk.fits)) c.requires.level c.requires.lines
-    (subst (λ (set : GuardedEdits). form_fault set.nall set.edits set.guards ≡ None) c.edits.ensures form) part.short in
+    let accepted = set_accepted c.args.self.now.book c.commit.new.self c.args.desk c.args.prepared.now c.in_ok-told.told.reply told
+    c.if-not-is_accepted.ensures (omega (arith, c.ranges.desk.fits)) c.requires.level c.requires.lines _ c.edits.ensures
+    c.known-2.ensures.form part.short in
     let kept = c.in-Ok.ensures in
     let sized = ap length c.deref.ensures.value in
     let entered = subst (λ (book : BookState). IsEntered c.args.self.now.book c.args.desk (Commit c.args.prepared.now.base c.args.prepared.now.edits) book
@@ -56,26 +53,16 @@ returns-in-Ok-clause-still g c =
 -- what a crash leaves while the entry is added
 pub returns-in-Ok-clause-moments : goal.returns-in-Ok-clause-moments
 returns-in-Ok-clause-moments g c whole =
-    let told = c.in_ok-told.ensures.ok in
-    let part = c.in_ok-part.ensures.ok in
-    let form = c.known-2.ensures.form in
-    let accepted = asked_accepted c.args.self.now.book c.commit.new.self c.args.desk c.args.prepared.now c.in_ok-told.told.reply told
-    c.if-not-is_accepted.ensures
-    (omega (arith, c.ranges.desk.fits)) c.requires.level c.requires.lines
-    (subst (λ (set : GuardedEdits). form_fault set.nall set.edits set.guards ≡ None) c.edits.ensures form) part.short in
     entry_written g.D.Disk.content g.D.Disk.images c.args.self.now c.requires.still g.D.Disk.moment g.D.Disk.left_since
-    (commit_asked c.args.desk c.args.prepared.now) c.if-self.false c.deref.result.now
-    (c.deref.ensures.value ∙ part.part_is) accepted c.keep.new.self.disk.now c.keep.ensures.moments
+    (commit_asked c.args.desk c.args.prepared.now) c.if-self.false c.deref.result.now (c.deref.ensures.value ∙ c.in_ok-part.ensures.ok.part_is)
+    (set_accepted c.args.self.now.book c.commit.new.self c.args.desk c.args.prepared.now c.in_ok-told.told.reply c.in_ok-told.ensures.ok
+    c.if-not-is_accepted.ensures (omega (arith, c.ranges.desk.fits)) c.requires.level c.requires.lines _ c.edits.ensures
+    c.known-2.ensures.form c.in_ok-part.ensures.ok.short) c.keep.new.self.disk.now c.keep.ensures.moments
 
 pub returns-clause-moments : goal.returns-clause-moments
 returns-clause-moments g c whole =
-    let told = c.in_ok-told.ensures.ok in
-    let part = c.in_ok-part.ensures.ok in
-    let form = c.known-2.ensures.form in
-    let accepted = asked_accepted c.args.self.now.book c.commit.new.self c.args.desk c.args.prepared.now c.in_ok-told.told.reply told
-    c.if-not-is_accepted.ensures
-    (omega (arith, c.ranges.desk.fits)) c.requires.level c.requires.lines
-    (subst (λ (set : GuardedEdits). form_fault set.nall set.edits set.guards ≡ None) c.edits.ensures form) part.short in
     entry_written g.D.Disk.content g.D.Disk.images c.args.self.now c.requires.still g.D.Disk.moment g.D.Disk.left_since
-    (commit_asked c.args.desk c.args.prepared.now) c.if-self.false c.deref.result.now
-    (c.deref.ensures.value ∙ part.part_is) accepted c.keep.new.self.disk.now c.keep.ensures.moments
+    (commit_asked c.args.desk c.args.prepared.now) c.if-self.false c.deref.result.now (c.deref.ensures.value ∙ c.in_ok-part.ensures.ok.part_is)
+    (set_accepted c.args.self.now.book c.commit.new.self c.args.desk c.args.prepared.now c.in_ok-told.told.reply c.in_ok-told.ensures.ok
+    c.if-not-is_accepted.ensures (omega (arith, c.ranges.desk.fits)) c.requires.level c.requires.lines _ c.edits.ensures
+    c.known-2.ensures.form c.in_ok-part.ensures.ok.short) c.keep.new.self.disk.now c.keep.ensures.moments

@@ -6,8 +6,8 @@ use Rattle.rule_spec.specs.Findings.{finding_total}
 use Rattle.cell_bench.specs.Benches.{AreReady, IsNext}
 use Rattle.cell_bench.specs.Limits.{IsFull}
 use Rattle.cell_bench.specs.Refusals.{IsRecordsRefusal, records_refusal}
-use Rattle.cell_bench.proofs.Counted.{least_budget, same_reads, same_touched, whole_budget}
-use Rattle.cell_bench.proofs.Refused.{planned_of, refusal_of_findings, refusal_of_records, taken_so}
+use Rattle.cell_bench.proofs.Counted.{least_budget, plan_within}
+use Rattle.cell_bench.proofs.Refused.{planned_of, refusal_of_findings, refusal_of_records}
 use Rattle.cell_bench.proofs.bench.Bench.plan.Goals as goal
 
 pub next-requires-clause-ready : goal.next-requires-clause-ready
@@ -23,13 +23,9 @@ returns-clause-planned g c =
 
 pub returns-clause-steps : goal.returns-clause-steps
 returns-clause-steps g c =
-    let edits = c.args.edits.now.edits in
-    let none = subst (λ (d : Cell). records_refusal d edits ≡ None) c.store.ensures c.in_ok-need_room.ensures.taken in
-    let budget = whole_budget edits c.args.self.now c.args.stale.now c.args.ready.now
-    (taken_so c.refusals_tell_what_a_cell_takes.ensures c.args.self.now edits none) in
-    let touched = same_touched edits (c.deref.ensures ∙ c.self.view_is) in
-    let reads = same_reads edits c.args.stale.now c.args.ready.now (c.deref.ensures ∙ c.self.view_is) in
-    omega (arith, budget, touched, reads, c.in_ok-need_room.ensures.steps, c.in_ok-indexed.ensures.steps)
+    let within = plan_within c.refusals_tell_what_a_cell_takes.ensures c.args.edits.now.edits c.args.stale.now c.args.ready.now c.store.ensures
+    c.in_ok-need_room.ensures.taken (c.deref.ensures ∙ c.self.view_is) in
+    omega (arith, within, c.in_ok-need_room.ensures.steps, c.in_ok-indexed.ensures.steps)
 
 pub returns-in_err-need_room-clause-planned : goal.returns-in_err-need_room-clause-planned
 returns-in_err-need_room-clause-planned g c =
@@ -55,20 +51,16 @@ returns-in_err-indexed-clause-planned g c =
 
 pub returns-in_err-indexed-clause-steps : goal.returns-in_err-indexed-clause-steps
 returns-in_err-indexed-clause-steps g c =
-    let edits = c.args.edits.now.edits in
-    let none = subst (λ (d : Cell). records_refusal d edits ≡ None) c.store.ensures c.in_ok-need_room.ensures.taken in
-    let budget = whole_budget edits c.args.self.now c.args.stale.now c.args.ready.now
-    (taken_so c.refusals_tell_what_a_cell_takes.ensures c.args.self.now edits none) in
-    let touched = same_touched edits (c.deref.ensures ∙ c.self.view_is) in
-    let reads = same_reads edits c.args.stale.now c.args.ready.now (c.deref.ensures ∙ c.self.view_is) in
-    omega (arith, budget, touched, reads, c.in_ok-need_room.ensures.steps, c.in_err-indexed.ensures.steps)
+    omega (
+      arith,
+      plan_within c.refusals_tell_what_a_cell_takes.ensures c.args.edits.now.edits c.args.stale.now c.args.ready.now c.store.ensures
+          c.in_ok-need_room.ensures.taken (c.deref.ensures ∙ c.self.view_is),
+      c.in_ok-need_room.ensures.steps,
+      c.in_err-indexed.ensures.steps,
+    )
 
 pub returns-in_err-next-clause-steps : goal.returns-in_err-next-clause-steps
 returns-in_err-next-clause-steps g c =
-    let edits = c.args.edits.now.edits in
-    let none = subst (λ (d : Cell). records_refusal d edits ≡ None) c.store.ensures c.in_ok-need_room.ensures.taken in
-    let budget = whole_budget edits c.args.self.now c.args.stale.now c.args.ready.now
-    (taken_so c.refusals_tell_what_a_cell_takes.ensures c.args.self.now edits none) in
-    let touched = same_touched edits (c.deref.ensures ∙ c.self.view_is) in
-    let reads = same_reads edits c.args.stale.now c.args.ready.now (c.deref.ensures ∙ c.self.view_is) in
-    omega (arith, budget, touched, reads, c.in_ok-need_room.ensures.steps, c.in_ok-indexed.ensures.steps)
+    let within = plan_within c.refusals_tell_what_a_cell_takes.ensures c.args.edits.now.edits c.args.stale.now c.args.ready.now c.store.ensures
+    c.in_ok-need_room.ensures.taken (c.deref.ensures ∙ c.self.view_is) in
+    omega (arith, within, c.in_ok-need_room.ensures.steps, c.in_ok-indexed.ensures.steps)

@@ -1,5 +1,4 @@
-use Rattle.std.proofs.Common.{◌≡◌, ◌+◌, ◌≤◌, arith, count_by, length, subst, sym, ap, ◌∙◌}
-use Rattle.cell_spec.specs.Edits.{touched_keys}
+use Rattle.std.proofs.Common.{arith, refl, subst, ap, ◌∙◌}
 use Rattle.edit_sets.specs.FormFault.{IsFormed}
 use Rattle.cell_overlay.specs.Laid.{AreMerged, has_a_list}
 use Rattle.cell_overlay.proofs.Laid.{fewer_lists}
@@ -7,43 +6,16 @@ use Rattle.cell_overlay.proofs.overlay.Overlay.make.Goals as goal
 
 pub returns-in_err-head-clause-steps : goal.returns-in_err-head-clause-steps
 returns-in_err-head-clause-steps g c =
-    omega (
-      arith,
-      c.touched.ensures.steps,
-      c.head_of.ensures.steps,
-      fewer_lists c.args.edits.now.edits (g.B.Look.cell c.args.base.now) c.known.ensures.parts.some,
-    )
+    omega (arith, c.touched.ensures.steps, c.head_of.ensures.steps, fewer_lists _ _ _ (g.B.Look.cell c.args.base.now) c.known.ensures.parts refl)
 
 pub returns-in_err-answers-clause-steps : goal.returns-in_err-answers-clause-steps
 returns-in_err-answers-clause-steps g c =
-    omega (
-      arith,
-      c.touched.ensures.steps,
-      c.head_of.ensures.steps,
-      fewer_lists c.args.edits.now.edits (g.B.Look.cell c.args.base.now) c.known.ensures.parts.some,
-    )
+    omega (arith, c.touched.ensures.steps, c.head_of.ensures.steps, fewer_lists _ _ _ (g.B.Look.cell c.args.base.now) c.known.ensures.parts refl)
 
 pub returns-in_err-merged-clause-steps : goal.returns-in_err-merged-clause-steps
 returns-in_err-merged-clause-steps g c =
-    omega (
-      arith,
-      c.touched.ensures.steps,
-      c.head_of.ensures.steps,
-      c.make-2.ensures.steps,
-      ap (count_by has_a_list) (c.as_slice.ensures ∙ c.in_ok-keys.ensures.keys),
-      fewer_lists c.args.edits.now.edits (g.B.Look.cell c.args.base.now) c.known.ensures.parts.some,
-    )
-
-pub returns-clause-steps : goal.returns-clause-steps
-returns-clause-steps g c =
-    omega (
-      arith,
-      c.touched.ensures.steps,
-      c.head_of.ensures.steps,
-      c.make-2.ensures.steps,
-      ap (count_by has_a_list) (c.as_slice.ensures ∙ c.in_ok-keys.ensures.keys),
-      fewer_lists c.args.edits.now.edits (g.B.Look.cell c.args.base.now) c.known.ensures.parts.some,
-    )
+    let few = fewer_lists _ _ _ (g.B.Look.cell c.args.base.now) c.known.ensures.parts (c.as_slice.ensures ∙ c.in_ok-keys.ensures.keys) in
+    omega (arith, few, c.touched.ensures.steps, c.head_of.ensures.steps, c.make-2.ensures.steps)
 
 pub invariant_of-result : goal.invariant_of-result
 invariant_of-result g c =
@@ -61,3 +33,8 @@ invariant_of-result g c =
           (subst (λ set. AreMerged c.as_slice.result.now set.edits base c.in_ok-merged.merged.pointers c.in_ok-merged.merged.bearers)
           c.in_ok-answers.ensures c.in_ok-merged.ensures.merged);
     }
+
+pub returns-clause-steps : goal.returns-clause-steps
+returns-clause-steps g c =
+    let few = fewer_lists _ _ _ (g.B.Look.cell c.args.base.now) c.known.ensures.parts (c.as_slice.ensures ∙ c.in_ok-keys.ensures.keys) in
+    omega (arith, few, c.touched.ensures.steps, c.head_of.ensures.steps, c.make-2.ensures.steps)

@@ -1,4 +1,4 @@
-use Rattle.std.proofs.Common.{◌≡◌, List, Option, None, Some, subst, sym, ap, ◌∙◌}
+use Rattle.std.proofs.Common.{◌≡◌, List, Option, None, Some, subst, ap, ◌∙◌}
 use Rattle.std.specs.declared.cmp.Ordering.{Ordering}
 use Rattle.s57_types.specs.declared.name.RecName.{RecName}
 use Rattle.s57_types.specs.declared.name.Lnam.{Lnam}
@@ -7,24 +7,14 @@ use Rattle.row_spec.specs.Rows.{value_of}
 use Rattle.cell_overlay.proofs.Laid.{base_bearers, merged_bearers}
 use Rattle.cell_overlay.proofs.overlay.OverlayLook.bearers.Goals as goal
 
-pub returns-in-Some-clause-found : goal.returns-in-Some-clause-found
-returns-in-Some-clause-found g c =
-    let names : List RecName = c.in-Some.names.now in
-    let has = subst (λ (order : Lnam → Lnam → Ordering). Some names ≡ value_of order c.self.inside.merged.bearers c.args.foid)
-    (λ i a b. c.orders_are_by_parts.ensures.identities a b i) c.in-Some.ensures in
-    c.as_slice.ensures ∙ c.deref.ensures
-    ∙ merged_bearers (g.B.Look.cell c.self.inside.base.now) c.self.inside.edits.now.edits c.self.inside.head c.self.inside.merged.pointers
-    c.self.inside.merged.bearers
-    c.self.invariant c.edited_answers.ensures c.args.foid names has
-    ∙ ap (λ cell. lookup_identity cell c.args.foid) c.self.view_is
-
 pub returns-in-None-clause-found : goal.returns-in-None-clause-found
 returns-in-None-clause-found g c =
-    let none : Option (List RecName) = None in
-    let has = subst (λ (order : Lnam → Lnam → Ordering). none ≡ value_of order c.self.inside.merged.bearers c.args.foid)
-    (λ i a b. c.orders_are_by_parts.ensures.identities a b i) c.in-None.ensures in
-    c.bearers.ensures.found
-    ∙ base_bearers (g.B.Look.cell c.self.inside.base.now) c.self.inside.edits.now.edits c.self.inside.head c.self.inside.merged.pointers
-    c.self.inside.merged.bearers
-    c.self.invariant c.untouched_keys_keep_answers.ensures c.args.foid has
-    ∙ ap (λ cell. lookup_identity cell c.args.foid) c.self.view_is
+    let none : Option (List RecName) = None in c.bearers.ensures.found ∙ base_bearers _ _ _ _ _ c.self.invariant c.untouched_keys_keep_answers.ensures
+    c.args.foid (subst (λ (order : Lnam → Lnam → Ordering). none ≡ value_of order c.self.inside.merged.bearers c.args.foid)
+    (λ i a b. c.orders_are_by_parts.ensures.identities a b i) c.in-None.ensures) ∙ ap (λ cell. lookup_identity cell c.args.foid) c.self.view_is
+
+pub returns-in-Some-clause-found : goal.returns-in-Some-clause-found
+returns-in-Some-clause-found g c =
+    c.as_slice.ensures ∙ c.deref.ensures ∙ merged_bearers _ _ _ _ _ c.self.invariant c.edited_answers.ensures c.args.foid c.in-Some.names.now
+    (subst (λ (order : Lnam → Lnam → Ordering). Some c.in-Some.names.now ≡ value_of order c.self.inside.merged.bearers c.args.foid)
+    (λ i a b. c.orders_are_by_parts.ensures.identities a b i) c.in-Some.ensures) ∙ ap (λ cell. lookup_identity cell c.args.foid) c.self.view_is

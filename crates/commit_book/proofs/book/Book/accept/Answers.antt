@@ -56,24 +56,15 @@ returns-in_err-reserve-3-clause-ok c = no_ok _ _ c.from_residual-in_err-reserve-
 
 pub returns-in_err-reserve-clause-err : goal.returns-in_err-reserve-clause-err
 returns-in_err-reserve-clause-err c =
-    err_as _ _ c.from_residual-in_err-reserve.result (λ why is. (
-      is,
-      (λ i. book_state c.self.inside.opening.value (c.reserve.ensures.items i))
-          ∙ c.self.view_is,
-    )) c.from_residual-in_err-reserve.ensures.1
+    err_as _ _ c.from_residual-in_err-reserve.result
+    (λ why is. (is, (λ i. book_state c.self.inside.opening.value (c.reserve.ensures.items i)) ∙ c.self.view_is)) c.from_residual-in_err-reserve.ensures.1
 
 pub returns-in_err-reserve-2-clause-err : goal.returns-in_err-reserve-2-clause-err
 returns-in_err-reserve-2-clause-err c =
-    err_as _ _ c.from_residual-in_err-reserve-2.result (λ why is. (
-      is,
-      (λ i. book_state c.self.inside.opening.value (c.reserve.ensures.items i))
-          ∙ c.self.view_is,
-    )) c.from_residual-in_err-reserve-2.ensures.1
+    err_as _ _ c.from_residual-in_err-reserve-2.result
+    (λ why is. (is, (λ i. book_state c.self.inside.opening.value (c.reserve.ensures.items i)) ∙ c.self.view_is)) c.from_residual-in_err-reserve-2.ensures.1
 
 pub returns-in_err-reserve-3-clause-err : goal.returns-in_err-reserve-3-clause-err
 returns-in_err-reserve-3-clause-err c =
-    err_as _ _ c.from_residual-in_err-reserve-3.result (λ why is. (
-      is,
-      (λ i. book_state c.self.inside.opening.value (c.reserve.ensures.items i))
-          ∙ c.self.view_is,
-    )) c.from_residual-in_err-reserve-3.ensures.1
+    err_as _ _ c.from_residual-in_err-reserve-3.result
+    (λ why is. (is, (λ i. book_state c.self.inside.opening.value (c.reserve.ensures.items i)) ∙ c.self.view_is)) c.from_residual-in_err-reserve-3.ensures.1

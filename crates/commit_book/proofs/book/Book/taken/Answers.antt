@@ -14,26 +14,21 @@ returns-clause-writable c = subst IsWritable (c.self.invariant.cell_is ∙ ap (�
 
 pub returns-clause-found : goal.returns-clause-found
 returns-clause-found c = λ none.
-    let book = c.self.inside in
-    let set = c.args.set.now in
     let cell = c.self.invariant.cell_is ∙ ap (λ (b : BookState). (history_of b).cell) c.self.view_is in
-    let level = c.requires
-    ∙ sym (ap (λ (b : BookState). b.opening.head.nall) c.self.view_is)
-    ∙ level_now book.opening.value book.entries.items book.bench book.accepted.items c.self.invariant in
-    subst (FindTheirRecords set.edits) cell
-    (finds c.writable_cells_are_readable.ensures c.formed_edits_find_their_records.ensures book.bench set c.known-2.ensures.writable
+    let level = c.requires ∙ sym (ap (λ (b : BookState). b.opening.head.nall) c.self.view_is) ∙ level_now c.self.inside.opening.value
+    c.self.inside.entries.items c.self.inside.bench c.self.inside.accepted.items c.self.invariant in
+    subst (FindTheirRecords c.args.set.now.edits) cell
+    (finds c.writable_cells_are_readable.ensures c.formed_edits_find_their_records.ensures c.self.inside.bench c.args.set.now c.known-2.ensures.writable
     c.known.ensures.parts level
-    (found_where_taken book.bench set (taken_where_unrefused c.refusals_tell_what_a_cell_takes.ensures book.bench set
-    (ap (λ (d : Cell). state_refusal d set.edits) cell ∙ none))))
+    (found_where_taken c.self.inside.bench c.args.set.now (taken_where_unrefused c.refusals_tell_what_a_cell_takes.ensures c.self.inside.bench
+    c.args.set.now (ap (λ (d : Cell). state_refusal d c.args.set.now.edits) cell ∙ none))))
 
 pub returns-clause-lines : goal.returns-clause-lines
 returns-clause-lines c = λ none.
-    let book = c.self.inside in
-    let set = c.args.set.now in
     let cell = c.self.invariant.cell_is ∙ ap (λ (b : BookState). (history_of b).cell) c.self.view_is in
-    let level = c.requires
-    ∙ sym (ap (λ (b : BookState). b.opening.head.nall) c.self.view_is)
-    ∙ level_now book.opening.value book.entries.items book.bench book.accepted.items c.self.invariant in
-    c.taken_edits_have_lines.ensures book.bench set.edits set.guards c.known-2.ensures.writable
-    (subst (λ nall. form_fault nall set.edits set.guards ≡ None) level c.known.ensures.form)
-    (taken_where_unrefused c.refusals_tell_what_a_cell_takes.ensures book.bench set (ap (λ (d : Cell). state_refusal d set.edits) cell ∙ none))
+    let level = c.requires ∙ sym (ap (λ (b : BookState). b.opening.head.nall) c.self.view_is) ∙ level_now c.self.inside.opening.value
+    c.self.inside.entries.items c.self.inside.bench c.self.inside.accepted.items c.self.invariant in
+    c.taken_edits_have_lines.ensures c.self.inside.bench c.args.set.now.edits c.args.set.now.guards c.known-2.ensures.writable
+    (subst (λ nall. form_fault nall c.args.set.now.edits c.args.set.now.guards ≡ None) level c.known.ensures.form)
+    (taken_where_unrefused c.refusals_tell_what_a_cell_takes.ensures c.self.inside.bench c.args.set.now
+    (ap (λ (d : Cell). state_refusal d c.args.set.now.edits) cell ∙ none))

@@ -16,21 +16,17 @@ loop-call-init c = record {
 
 pub replay-requires-clause-bytes : goal.replay-requires-clause-bytes
 replay-requires-clause-bytes c =
-    let items = take c.min-count.result c.deref.result.now in
-    let i = c.loop-call.call-index in
-    let lt : i < length items = search rules in
+    let items = take c.min-count.result c.deref.result.now in let lt : c.loop-call.call-index < length items = search rules in
     subst (λ (call : Call). is_within call c.loop-call.bytes.items ≡ true) (sym c.call-item.is)
-    (subst (λ (l : List ℕ). is_within (get_or items i c.call-item.result) l ≡ true) (sym c.loop-call.invariant.bytes)
-    (next_within items i c.call-item.result 0 lt c.loop-call.invariant.within))
+    (subst (λ (l : List ℕ). is_within (get_or items c.loop-call.call-index c.call-item.result) l ≡ true) (sym c.loop-call.invariant.bytes)
+    (next_within items c.loop-call.call-index c.call-item.result 0 lt c.loop-call.invariant.within))
 
 pub replay-requires-clause-image : goal.replay-requires-clause-image
 replay-requires-clause-image c =
-    let items = take c.min-count.result c.deref.result.now in
-    let i = c.loop-call.call-index in
-    let lt : i < length items = search rules in
+    let items = take c.min-count.result c.deref.result.now in let lt : c.loop-call.call-index < length items = search rules in
     subst (λ (call : Call). is_within call c.loop-call.image.items ≡ true) (sym c.call-item.is)
-    (subst (λ (l : List ℕ). is_within (get_or items i c.call-item.result) l ≡ true) (sym c.loop-call.invariant.image)
-    (next_within_filled items i c.call-item.result (c.args.pick % 256) lt c.loop-call.invariant.within))
+    (subst (λ (l : List ℕ). is_within (get_or items c.loop-call.call-index c.call-item.result) l ≡ true) (sym c.loop-call.invariant.image)
+    (next_within_filled items c.loop-call.call-index c.call-item.result (c.args.pick % 256) lt c.loop-call.invariant.within))
 
 pub returns-clause-left : goal.returns-clause-left
 returns-clause-left c =

@@ -1,6 +1,6 @@
 use Rattle.std.proofs.Common.{[], ◌∷◌, cond, sym, ap, ◌∙◌, is_eq}
 use Rattle.pair_set.specs.Pairs.{seconds_under}
-use Rattle.pair_set.proofs.Range.{under-cons}
+use Rattle.row_spec.proofs.Pairs.{under-cons}
 use Rattle.pair_set.proofs.seconds.SecondsIterator.next.Goals as goal
 
 pub returns-in-Some-clause-steps : goal.returns-in-Some-clause-steps

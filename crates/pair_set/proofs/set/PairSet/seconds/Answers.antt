@@ -1,7 +1,7 @@
 use Rattle.std.proofs.Common.{sym, subst, ap, ◌∙◌}
 use Rattle.std.specs.List.Sorted.{IsStrictlySortedBy}
 use Rattle.pair_set.specs.Pairs.{has_pair, is_among, seconds_under}
-use Rattle.pair_set.proofs.Range.{among-from, sorted-from}
+use Rattle.row_spec.proofs.Pairs.{among-from, sorted-from}
 use Rattle.pair_set.proofs.set.PairSet.seconds.Goals as goal
 
 pub returns-clause-among : goal.returns-clause-among

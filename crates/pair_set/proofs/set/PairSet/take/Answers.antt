@@ -1,7 +1,7 @@
 use Rattle.std.proofs.Common.{◌&&◌, ap, not, ◌∙◌}
 use Rattle.std.proofs.lemmas.Result.{on_ok_weaker}
 use Rattle.pair_set.specs.Pairs.{has_pair, same_pair}
-use Rattle.pair_set.proofs.Pairs.{has-take}
+use Rattle.row_spec.proofs.Pairs.{has-take}
 use Rattle.pair_set.proofs.set.PairSet.take.Goals as goal
 
 pub returns : goal.returns

@@ -21,10 +21,10 @@ returns-then-is_empty-clause-bearers c =
 
 pub returns-clause-bearers : goal.returns-clause-bearers
 returns-clause-bearers c =
-    let rows = c.args.self.now.bearers in
-    let put = subst (λ (order : Lnam → Lnam → Ordering). OnOk c.put.result (c.put.new.self ≡ with_row order rows c.args.foid c.in_ok-make.field-0))
+    let put = subst (λ (order : Lnam → Lnam → Ordering). OnOk c.put.result
+    (c.put.new.self ≡ with_row order c.args.self.now.bearers c.args.foid c.in_ok-make.field-0))
     (λ i a b. c.orders_are_by_parts.ensures.identities a b i) c.put.ensures.ok in
     on_ok_weaker c.put.result
-    (λ is. subst (ListIsPut identity_order c.args.foid c.args.names rows)
-    (sym (is ∙ ap (with_row identity_order rows c.args.foid) c.in_ok-make.ensures))
-    (list_put identity_order total_identities rows c.args.foid c.args.names)) put
+    (λ is. subst (ListIsPut identity_order c.args.foid c.args.names c.args.self.now.bearers)
+    (sym (is ∙ ap (with_row identity_order c.args.self.now.bearers c.args.foid) c.in_ok-make.ensures))
+    (list_put identity_order total_identities c.args.self.now.bearers c.args.foid c.args.names)) put

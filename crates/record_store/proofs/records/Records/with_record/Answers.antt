@@ -15,16 +15,14 @@ use Rattle.record_store.proofs.records.Records.with_record.Goals as goal
 
 pub returns : goal.returns
 returns c =
-    let inside = c.self.inside in
-    let rec : Rec = c.args.rec in
-    let place = c.in_ok-place.place in
-    let name : c.name_of-name.result ≡ name_of rec = c.name_of-name.ensures ∙ ap name_of c.deref.ensures in
-    let at = subst (λ n. IsPlaceFor (value_of name_order inside.names n) (rows_of n.kind inside.lists) place) name c.in_ok-place.ensures in
-    let lists = c.in_ok-put.ensures ∙ (λ i. with_rows (name i).kind
-    (with_row nat_cmp (rows_of (name i).kind inside.lists) place (c.in_ok-copy.ensures i)) inside.lists) in
-    ap (cell_of inside.head) lists
-    ∙ cell_put c.args.edit.now inside.head inside.names inside.lists (subst (FindTheirRecords (c.args.edit.now ∷ [])) (sym c.self.view_is) c.requires.found)
-    c.self.invariant.0 c.known.ensures c.edits_leave_their_records.ensures rec c.requires.left place at
+    let old = c.self.inside.lists in
+    let name : c.name_of-name.result ≡ name_of c.args.rec = c.name_of-name.ensures ∙ ap name_of c.deref.ensures in
+    let at = subst (λ n. IsPlaceFor (value_of name_order c.self.inside.names n) (rows_of n.kind old) c.in_ok-place.place) name c.in_ok-place.ensures in
+    ap (cell_of c.self.inside.head) (c.in_ok-put.ensures ∙ (λ i. with_rows (name i).kind
+    (with_row nat_cmp (rows_of (name i).kind old) c.in_ok-place.place (c.in_ok-copy.ensures i)) old))
+    ∙ cell_put c.args.edit.now c.self.inside.head c.self.inside.names old
+    (subst (FindTheirRecords (c.args.edit.now ∷ [])) (sym c.self.view_is) c.requires.found)
+    c.self.invariant.0 c.known.ensures c.edits_leave_their_records.ensures c.args.rec c.requires.left c.in_ok-place.place at
     ∙ ap (apply_edits (c.args.edit.now ∷ [])) c.self.view_is
 
 pub invariant_of-result : goal.invariant_of-result

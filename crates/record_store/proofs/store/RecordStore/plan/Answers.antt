@@ -1,4 +1,4 @@
-use Rattle.std.proofs.Common.{◌≡◌, true, None, length, subst, sym, ap, ◌∙◌}
+use Rattle.std.proofs.Common.{◌≡◌, true, length, subst, sym, ap, ◌∙◌}
 use Rattle.std.specs.Prelude.{◌&&◌, nat_le, not}
 use Rattle.std.proofs.lemmas.Bool.{and_parts}
 use Rattle.cell_spec.specs.Edits.{apply_edits, find_their_records, is_applicable, leave_a_long_head, touched_keys}
@@ -15,10 +15,9 @@ after-requires c =
     let cell = c.self.inside.records in
     let edits = c.args.edits.now.edits in
     let guards = c.args.edits.now.guards in
-    let taken = ap (is_applicable edits) c.self.view_is ∙ c.requires.taken in
     let found : find_their_records edits cell ≡ true =
     (and_parts (find_their_records edits cell) (nat_le (length (all_records (apply_edits edits cell))) record_limit && not
-    (leave_a_long_head edits cell)) taken).0 in
+    (leave_a_long_head edits cell)) (ap (is_applicable edits) c.self.view_is ∙ c.requires.taken)).0 in
     let formed = subst (λ nall. IsFormed nall edits guards) (c.requires.level ∙ ap (λ cell. cell.head.nall) (sym c.self.view_is)) c.known.ensures.parts in
     let fit = c.formed_edits_find_their_records.ensures cell edits guards (c.writable_cells_are_readable.ensures cell c.self.invariant.writable) formed found in
     subst (λ those. FindTheirRecords those c.in_ok-share.field-0) (sym c.edits-2.ensures) (subst (FindTheirRecords edits) (sym c.in_ok-share.ensures) fit)
@@ -28,8 +27,8 @@ invariant_of-next c =
     let cell = c.self.inside.records in
     let old = c.self.inside.answers in
     let now = c.in_ok-answers.answers in
-    let edits = c.args.edits.now.edits in
     let guards = c.args.edits.now.guards in
+    let edits = c.args.edits.now.edits in
     let taken = ap (is_applicable edits) c.self.view_is ∙ c.requires.taken in
     let found : find_their_records edits cell ≡ true =
     (and_parts (find_their_records edits cell) (nat_le (length (all_records (apply_edits edits cell))) record_limit && not

@@ -31,25 +31,14 @@ invariant_of-self g c =
     let in_blocks : c.args.place < length (rows_of c.self.inside.runs.items) = rw (← c.self.view_is) at c.requires.place in
     let full : length (block_at (rows_of c.self.inside.runs.items) c.args.place) ≡ 256 = rw (← c.self.view_is) at c.requires.full in
     let at = block_at-rows_of c.self.inside.runs.items c.args.place in_blocks c.index_mut.result.now c.index_mut.ensures.value in
+    let was = filled_at c.self.inside.runs.items c.args.place in_blocks c.index_mut.result.now c.index_mut.ensures.value c.self.invariant.0 in
+    let free = All-pop IsEmptyRun _ _ (Some c.take_last-upper.result) c.take_last-upper.ensures.items c.self.invariant.1 in
     let start : c.index.result.now ≡ get_or c.self.inside.starts.items c.args.place 0 =
     c.index.ensures ∙ get_or_default_zero c.self.inside.starts.items c.args.place c.index.result.now
     (omega (arith, c.self.invariant.2.count, in_blocks)) in
-    let was = filled_at c.self.inside.runs.items c.args.place in_blocks c.index_mut.result.now c.index_mut.ensures.value c.self.invariant.0 in
-    let free = All-pop IsEmptyRun _ _ (Some c.take_last-upper.result) c.take_last-upper.ensures.items c.self.invariant.1 in
-    let lower_len : length c.split.new.self.rows ≡ 128 = omega (
-      arith,
-      ap length c.split.ensures.rows,
-      length-take 128 c.index_mut.result.now.rows,
-      full,
-      ap length at,
-    ) in
-    let upper_len : length c.split.new.upper.rows ≡ 128 = omega (
-      arith,
-      ap length c.split.ensures.upper,
-      length-drop 128 c.index_mut.result.now.rows,
-      full,
-      ap length at,
-    ) in (
+    let len : length c.index_mut.result.now.rows ≡ 256 = omega (arith, full, ap length at) in
+    let lower_len : length c.split.new.self.rows ≡ 128 = omega (arith, ap length c.split.ensures.rows, length-take 128 c.index_mut.result.now.rows, len) in
+    let upper_len : length c.split.new.upper.rows ≡ 128 = omega (arith, ap length c.split.ensures.upper, length-drop 128 c.index_mut.result.now.rows, len) in (
       rw (c.insert_within.ensures.items) (filled_insert (set c.self.inside.runs.items c.args.place c.split.new.self)
           (c.args.place + 1) c.split.new.upper (filled_set _ _ _ c.self.invariant.0 (omega (arith, lower_len)) (omega (arith, lower_len))
           (omega (arith, was.room, c.split.ensures.room))) (omega (arith, upper_len)) (omega (arith, upper_len))
@@ -79,16 +68,15 @@ invariant_of-self g c =
 pub returns-clause-blocks : goal.returns-clause-blocks
 returns-clause-blocks g c =
     let in_blocks : c.args.place < length (rows_of c.self.inside.runs.items) = rw (← c.self.view_is) at c.requires.place in
-    let full : length (block_at (rows_of c.self.inside.runs.items) c.args.place) ≡ 256 = rw (← c.self.view_is) at c.requires.full in
     let at = block_at-rows_of c.self.inside.runs.items c.args.place in_blocks c.index_mut.result.now c.index_mut.ensures.value in
     rw (
       c.insert_within.ensures.items,
       rows_of-insert (set c.self.inside.runs.items c.args.place c.split.new.self)
           (c.args.place + 1) c.split.new.upper,
       rows_of-set c.self.inside.runs.items c.args.place c.split.new.self,
+      ← c.self.view_is,
       c.split.ensures.rows,
       c.split.ensures.upper,
       ← at,
-      ← c.self.view_is,
       add-one,
     ) (insert-set (rows_of c.self.inside.runs.items) c.args.place _ _ in_blocks)

@@ -1,6 +1,7 @@
 use Rattle.std.proofs.Common.{arith, ap, sym, ◌∙◌, ◌≡◌, ◌<◌, ◌+◌, length, refl, is_some}
 use Rattle.row_spec.specs.Blocks.{rows_of, block_at}
-use Rattle.row_spec.proofs.Joined.{rows_before-all, claim_of-set}
+use Rattle.row_spec.proofs.Joined.{rows_before-all}
+use Rattle.row_table.proofs.Claims.{claim_set}
 use Rattle.row_table.proofs.Starts.{starts_raised, starts_same}
 use Rattle.row_spec.proofs.Runs.{block_at-rows_of, filled_at, filled_set, rows_of-set, none_holds}
 use Rattle.row_table.proofs.blocks.Blocks.put.Goals as goal
@@ -53,6 +54,12 @@ invariant_of-self-else-is_none g c =
       c.self.invariant.3,
     )
 
+pub returns-then-is_none-clause-claim : goal.returns-then-is_none-clause-claim
+returns-then-is_none-clause-claim g c =
+    let claim = claim_set c.self.inside.runs.items c.args.place c.index_mut.result.now c.put-old.new.self (rw (← c.self.view_is) at c.requires.place)
+    c.index_mut.ensures.value in
+    rw (c.if-is_none.ensures, rows_of-set, ← c.self.view_is) (omega (arith, claim, (rw (c.if-is_none.ensures) at c.put-old.ensures.len)))
+
 pub returns-then-is_none-clause-blocks : goal.returns-then-is_none-clause-blocks
 returns-then-is_none-clause-blocks g c =
     let in_blocks : c.args.place < length (rows_of c.self.inside.runs.items) = rw (← c.self.view_is) at c.requires.place in
@@ -65,18 +72,8 @@ returns-else-is_none-clause-blocks g c =
     let at = block_at-rows_of c.self.inside.runs.items c.args.place in_blocks c.index_mut.result.now c.index_mut.ensures.value in
     rw (rows_of-set c.self.inside.runs.items c.args.place c.put-old.new.self, c.put-old.ensures.rows, ← at, ← c.self.view_is) refl
 
-pub returns-then-is_none-clause-claim : goal.returns-then-is_none-clause-claim
-returns-then-is_none-clause-claim g c =
-    let in_blocks : c.args.place < length (rows_of c.self.inside.runs.items) = rw (← c.self.view_is) at c.requires.place in
-    let at = block_at-rows_of c.self.inside.runs.items c.args.place in_blocks c.index_mut.result.now c.index_mut.ensures.value in
-    let len = rw (c.if-is_none.ensures) at c.put-old.ensures.len in
-    rw (c.if-is_none.ensures, rows_of-set c.self.inside.runs.items c.args.place c.put-old.new.self, ← c.self.view_is)
-    (omega (arith, len, ap length at, claim_of-set (rows_of c.self.inside.runs.items) c.args.place c.put-old.new.self.rows in_blocks))
-
 pub returns-else-is_none-clause-claim : goal.returns-else-is_none-clause-claim
 returns-else-is_none-clause-claim g c =
-    let in_blocks : c.args.place < length (rows_of c.self.inside.runs.items) = rw (← c.self.view_is) at c.requires.place in
-    let at = block_at-rows_of c.self.inside.runs.items c.args.place in_blocks c.index_mut.result.now c.index_mut.ensures.value in
-    let len = rw (c.if-is_none.ensures) at c.put-old.ensures.len in
-    rw (c.if-is_none.ensures, rows_of-set c.self.inside.runs.items c.args.place c.put-old.new.self, ← c.self.view_is)
-    (omega (arith, len, ap length at, claim_of-set (rows_of c.self.inside.runs.items) c.args.place c.put-old.new.self.rows in_blocks))
+    let claim = claim_set c.self.inside.runs.items c.args.place c.index_mut.result.now c.put-old.new.self (rw (← c.self.view_is) at c.requires.place)
+    c.index_mut.ensures.value in
+    rw (c.if-is_none.ensures, rows_of-set, ← c.self.view_is) (omega (arith, claim, (rw (c.if-is_none.ensures) at c.put-old.ensures.len)))

@@ -1,6 +1,7 @@
 use Rattle.std.proofs.Common.{arith, ap, sym, ◌∙◌, ◌≡◌, ◌<◌, ◌+◌, length, refl, set, [], length-set}
 use Rattle.row_spec.specs.Blocks.{rows_of, block_at, AreStarts}
-use Rattle.row_spec.proofs.Joined.{rows_before-behind, remove-set, claim_of-set, claim_of-remove}
+use Rattle.row_spec.proofs.Joined.{rows_before-behind, remove-set, claim_of-remove}
+use Rattle.row_table.proofs.Claims.{claim_set}
 use Rattle.row_table.proofs.Starts.{starts_lowered, starts_removed, starts_same}
 use Rattle.row_spec.proofs.Runs.{block_at-rows_of, filled_at, filled_set, filled_remove, rows_of-set, rows_of-remove, replaced_some, replaced_none, emptied}
 use Rattle.row_spec.proofs.Runs.{empty_push, in_runs}
@@ -61,9 +62,9 @@ pub invariant_of-self-else-left-eq0 : goal.invariant_of-self-else-left-eq0
 invariant_of-self-else-left-eq0 g c =
     let in_blocks : c.args.place < length (rows_of c.self.inside.runs.items) = rw (← c.self.view_is) at c.requires in
     let at = block_at-rows_of c.self.inside.runs.items c.args.place in_blocks c.index_mut-run.result.now c.index_mut-run.ensures.value in
-    let was = filled_at c.self.inside.runs.items c.args.place in_blocks c.index_mut-run.result.now c.index_mut-run.ensures.value c.self.invariant.0 in
     let len = rw (← c.if-is_some.ensures) at c.take-old.ensures.len in
     let shrunk : length c.take-old.new.self.rows + 1 ≡ length (block_at (rows_of c.self.inside.runs.items) c.args.place) = omega (arith, len, ap length at) in
+    let was = filled_at c.self.inside.runs.items c.args.place in_blocks c.index_mut-run.result.now c.index_mut-run.ensures.value c.self.invariant.0 in
     let lowered : AreStarts (set (rows_of c.self.inside.runs.items) c.args.place c.take-old.new.self.rows) c.lower.new.starts.items =
     starts_lowered _ c.self.inside.starts.items _ _ c.self.invariant.2 in_blocks _ shrunk
     (omega (arith, c.lower.ensures.len, c.lower.new.starts.ok.0, c.self.inside.starts.ok.0)) c.lower.ensures.before
@@ -89,6 +90,12 @@ invariant_of-self-else-is_some g c =
           (starts_same _ _ c.self.inside.starts.items _ c.self.invariant.2 in_blocks _ same),
       c.self.invariant.3,
     )
+
+pub returns-else-left-eq0-clause-claim : goal.returns-else-left-eq0-clause-claim
+returns-else-left-eq0-clause-claim g c =
+    let claim = claim_set c.self.inside.runs.items c.args.place c.index_mut-run.result.now c.take-old.new.self (rw (← c.self.view_is) at c.requires)
+    c.index_mut-run.ensures.value in
+    rw (rows_of-set, ← c.self.view_is) (omega (arith, claim, (rw (← c.if-is_some.ensures) at c.take-old.ensures.len)))
 
 pub returns-then-left-eq0-clause-blocks : goal.returns-then-left-eq0-clause-blocks
 returns-then-left-eq0-clause-blocks g c =
@@ -132,18 +139,8 @@ returns-then-left-eq0-clause-claim g c =
     )
     (omega (arith, c.push_reserved.ensures.len, claim_of-remove (rows_of c.self.inside.runs.items) c.args.place in_blocks))
 
-pub returns-else-left-eq0-clause-claim : goal.returns-else-left-eq0-clause-claim
-returns-else-left-eq0-clause-claim g c =
-    let in_blocks : c.args.place < length (rows_of c.self.inside.runs.items) = rw (← c.self.view_is) at c.requires in
-    let at = block_at-rows_of c.self.inside.runs.items c.args.place in_blocks c.index_mut-run.result.now c.index_mut-run.ensures.value in
-    let len = rw (← c.if-is_some.ensures) at c.take-old.ensures.len in
-    rw (rows_of-set c.self.inside.runs.items c.args.place c.take-old.new.self, ← c.self.view_is)
-    (omega (arith, len, ap length at, claim_of-set (rows_of c.self.inside.runs.items) c.args.place c.take-old.new.self.rows in_blocks))
-
 pub returns-else-is_some-clause-claim : goal.returns-else-is_some-clause-claim
 returns-else-is_some-clause-claim g c =
-    let in_blocks : c.args.place < length (rows_of c.self.inside.runs.items) = rw (← c.self.view_is) at c.requires in
-    let at = block_at-rows_of c.self.inside.runs.items c.args.place in_blocks c.index_mut-run.result.now c.index_mut-run.ensures.value in
-    let len = rw (← c.if-is_some.ensures) at c.take-old.ensures.len in
-    rw (rows_of-set c.self.inside.runs.items c.args.place c.take-old.new.self, ← c.self.view_is)
-    (omega (arith, len, ap length at, claim_of-set (rows_of c.self.inside.runs.items) c.args.place c.take-old.new.self.rows in_blocks))
+    let claim = claim_set c.self.inside.runs.items c.args.place c.index_mut-run.result.now c.take-old.new.self (rw (← c.self.view_is) at c.requires)
+    c.index_mut-run.ensures.value in
+    rw (rows_of-set, ← c.self.view_is) (omega (arith, claim, (rw (← c.if-is_some.ensures) at c.take-old.ensures.len)))

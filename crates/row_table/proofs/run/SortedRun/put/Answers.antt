@@ -28,12 +28,6 @@ unreachable-requires g c =
     let inside = rw (← c.self.view_is) at reserved in
     omega (arith, c.in_default.ensures.full)
 
-pub invariant_of-self-in-Err : goal.invariant_of-self-in-Err
-invariant_of-self-in-Err g c =
-    let gap = rw (← c.self.view_is) at c.in-Err.ensures in
-    rw (c.in-Ok-insert.ensures.items, ← with_row_gap g.K.Ord.cmp _ _ _ gap c.args.value)
-    (IsAscending-with_row g.K.Ord.cmp g.met.K.Ord.total _ _ _ c.self.invariant)
-
 pub returns-in-Ok-insert-clause-rows : goal.returns-in-Ok-insert-clause-rows
 returns-in-Ok-insert-clause-rows g c =
     let gap = rw (← c.self.view_is) at c.in-Err.ensures in
@@ -41,3 +35,9 @@ returns-in-Ok-insert-clause-rows g c =
 
 pub returns-in-Ok-insert-clause-old : goal.returns-in-Ok-insert-clause-old
 returns-in-Ok-insert-clause-old g c = sym (value_of_gap g.K.Ord.cmp _ _ _ c.in-Err.ensures)
+
+pub invariant_of-self-in-Err : goal.invariant_of-self-in-Err
+invariant_of-self-in-Err g c =
+    let gap = rw (← c.self.view_is) at c.in-Err.ensures in
+    rw (c.in-Ok-insert.ensures.items, ← with_row_gap g.K.Ord.cmp _ _ _ gap c.args.value)
+    (IsAscending-with_row g.K.Ord.cmp g.met.K.Ord.total _ _ _ c.self.invariant)

@@ -9,8 +9,7 @@ use Rattle.tile_index.proofs.index.TileIndex.with_cover.Goals as goal
 
 pub replace-requires-clause-old : goal.replace-requires-clause-old
 replace-requires-clause-old c = λ t.
-    let old = c.deref.result.now in
-    subst (λ (order : RecName → RecName → Ordering). has_pair tile_order order c.self.inside.in_tiles t c.args.name ≡ is_among tile_order old t)
+    subst (λ (order : RecName → RecName → Ordering). has_pair tile_order order c.self.inside.in_tiles t c.args.name ≡ is_among tile_order c.deref.result.now t)
     (λ i a b. sym (c.orders_are_by_parts.ensures.names a b) i)
     (c.self.invariant.under t c.args.name ∙ sym (ap (λ tiles. is_among tile_order tiles t) c.deref.ensures.value ∙ c.in_ok-old.ensures t))
 

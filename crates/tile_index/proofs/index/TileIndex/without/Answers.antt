@@ -8,13 +8,6 @@ use Rattle.tile_index.proofs.Meeting.{total_tiles}
 use Rattle.tile_index.proofs.Tilings.{took_covering}
 use Rattle.tile_index.proofs.index.TileIndex.without.Goals as goal
 
-pub replace-requires-clause-old : goal.replace-requires-clause-old
-replace-requires-clause-old c = λ t.
-    let old = c.deref.result.now in
-    subst (λ (order : RecName → RecName → Ordering). has_pair tile_order order c.self.inside.in_tiles t c.args.name ≡ is_among tile_order old t)
-    (λ i a b. sym (c.orders_are_by_parts.ensures.names a b) i)
-    (c.self.invariant.under t c.args.name ∙ sym (ap (λ tiles. is_among tile_order tiles t) c.deref.ensures.value ∙ c.in_ok-old.ensures t))
-
 pub replace-requires-clause-new : goal.replace-requires-clause-new
 replace-requires-clause-new c = sorted-ascending tile_order total_tiles []
 
@@ -31,3 +24,9 @@ invariant_of-result c =
     subst (λ those. IsTiling those c.replace.new.self c.mark.new.oversized) (sym both.1)
     (took_covering rows pairs c.replace.new.self c.self.inside.oversized c.mark.new.oversized name c.self.invariant both.0 replaced
     (λ n. c.in_ok-mark.ensures n))
+
+pub replace-requires-clause-old : goal.replace-requires-clause-old
+replace-requires-clause-old c = λ t.
+    subst (λ (order : RecName → RecName → Ordering). has_pair tile_order order c.self.inside.in_tiles t c.args.name ≡ is_among tile_order c.deref.result.now t)
+    (λ i a b. sym (c.orders_are_by_parts.ensures.names a b) i)
+    (c.self.invariant.under t c.args.name ∙ sym (ap (λ tiles. is_among tile_order tiles t) c.deref.ensures.value ∙ c.in_ok-old.ensures t))

@@ -1,18 +1,76 @@
--- The pairs of one first stand together, from the first pair that isn't below it on.
-use Rattle.std.proofs.Common.{◌≡◌, ◌||◌, suc, ◌+◌, Bool, true, false, true≢false, List, [], ◌∷◌, Option, Some, cond, is_some, map, drop, refl, sym, ap}
-use Rattle.std.proofs.Common.{subst, ◌∙◌, arith, Ordering, Less, Equal, Greater, is_eq, is_lt}
+-- Rows whose keys are pairs: what a put and a removal change, and that the rows of one first stand together.
+use Rattle.std.proofs.Common.{◌≡◌, ◌&&◌, ◌||◌, suc, ◌+◌, Bool, true, false, true≢false, not, List, [], ◌∷◌, Option, None, Some, cond, is_some, map, drop, refl}
+use Rattle.std.proofs.Common.{sym, ap, subst, ◌∙◌, arith, Ordering, Less, Equal, Greater, is_eq, is_lt}
 use Rattle.std.specs.Cmp.{IsTotalOrder, eq_by_cmp_equiv}
-use Rattle.std.specs.List.{AllByRecursion, take_while}
+use Rattle.std.specs.List.{AllByRecursion, list_any, take_while}
 use Rattle.std.specs.List.Sorted.{IsStrictlySortedBy}
 use Rattle.std.specs.Map.{keys_of}
 use Rattle.std.specs.Ordering.{ordering_reverse, ordering_then}
+use Rattle.std.proofs.lemmas.Cmp.{on_total, then_total}
 use Rattle.std.proofs.lemmas.List.Sums.{take_while-cons}
 use Rattle.std.proofs.lemmas.Map.Keys.{sorted_head, sorted_tail}
-use Rattle.row_spec.specs.Rows.{IsAscending, lower_bound, value_of}
+use Rattle.row_spec.specs.Rows.{IsAscending, lower_bound, value_of, with_row, without_key}
+use Rattle.row_spec.proofs.Changes.{value_of-with_row, value_of-without_key}
 use Rattle.row_spec.proofs.Place.{above_greater, value_of-above}
-use Rattle.pair_set.specs.Pairs.{has_pair, is_among, pair_order, seconds_under}
-use Rattle.pair_set.proofs.Pairs.{total_pairs}
 
+-- ---- the words that are used here
+abbrev is_among : {X : Type 0} → (X → X → Ordering) → List X → X → Bool
+is_among order xs x = list_any (λ y. is_eq (order x y)) xs
+
+abbrev seconds_under : {A B V : Type 0} → (A → A → Ordering) → A → List ((A × B) × V) → List B
+seconds_under {A} {B} {V} firsts a rows = map (λ (row : (A × B) × V). row.0.1) (take_while (λ (row : (A × B) × V). is_eq (firsts row.0.0 a)) rows)
+
+module _ {A B : Type 0} (firsts : A → A → Ordering) (seconds : B → B → Ordering) where
+  abbrev same_pair : A → B → A → B → Bool
+  same_pair a b c d = is_eq (firsts a c) && is_eq (seconds b d)
+
+  abbrev pair_order : A × B → A × B → Ordering
+  pair_order p q = ordering_then (firsts p.0 q.0) (seconds p.1 q.1)
+
+  abbrev has_pair : {V : Type 0} → List ((A × B) × V) → A → B → Bool
+  has_pair rows a b = is_some (value_of pair_order rows (a, b))
+
+-- ---- what a put and a removal change
+both_tie : (a b : Ordering) → is_eq (ordering_then a b) ≡ (is_eq a && is_eq b)
+both_tie Less b = refl
+both_tie Equal b = refl
+both_tie Greater b = refl
+
+-- whether there is a value after a put, and after a removal
+pub put_some : {V : Type 0} (b : Bool) (v : V) (o : Option V) → is_some (cond b (Some v) o) ≡ (b || is_some o)
+put_some true v o = refl
+put_some false v o = refl
+
+took_some : {V : Type 0} (b : Bool) (o : Option V) → is_some (cond b None o) ≡ (not b && is_some o)
+took_some true o = refl
+took_some false o = refl
+
+module _ {A B : Type 0} (firsts : A → A → Ordering) (seconds : B → B → Ordering) (total_firsts : IsTotalOrder firsts)
+    (total_seconds : IsTotalOrder seconds) where
+  pub total_pairs : IsTotalOrder (pair_order firsts seconds)
+  total_pairs = then_total (on_total (λ (p : A × B). p.0) total_firsts) (on_total (λ (p : A × B). p.1) total_seconds)
+
+  module _ {V : Type 0} (pairs : List ((A × B) × V)) (c : A) (d : B) (a : A) (b : B) where
+    -- two pairs tie where both parts do
+    tie : is_eq (pair_order firsts seconds (c, d) (a, b)) ≡ same_pair firsts seconds c d a b
+    tie = both_tie (firsts c a) (seconds d b)
+
+    pub has-put : (v : V) → has_pair firsts seconds (with_row (pair_order firsts seconds) pairs (c, d) v) a b
+        ≡ (same_pair firsts seconds c d a b || has_pair firsts seconds pairs a b)
+    has-put v =
+        ap is_some (value_of-with_row (pair_order firsts seconds) total_pairs pairs (c, d) (a, b) v)
+        ∙ put_some (is_eq (pair_order firsts seconds (c, d) (a, b))) v (value_of (pair_order firsts seconds) pairs (a, b))
+        ∙ ap (λ t. t || has_pair firsts seconds pairs a b) tie
+
+    pub has-take : IsAscending (pair_order firsts seconds) pairs
+        → has_pair firsts seconds (without_key (pair_order firsts seconds) pairs (c, d)) a b
+        ≡ (not (same_pair firsts seconds c d a b) && has_pair firsts seconds pairs a b)
+    has-take ascending =
+        ap is_some (value_of-without_key (pair_order firsts seconds) total_pairs pairs (c, d) (a, b) ascending)
+        ∙ took_some (is_eq (pair_order firsts seconds (c, d) (a, b))) (value_of (pair_order firsts seconds) pairs (a, b))
+        ∙ ap (λ t. not t && has_pair firsts seconds pairs a b) tie
+
+-- ---- the rows of one first stand together, from the first that isn't below it on
 -- a pair is below the first with the least second exactly where its first is below the first
 first_below_by : (o s : Ordering) → is_lt s ≡ false → is_lt (ordering_then o s) ≡ true → o ≡ Less
 first_below_by Less s e h = refl
@@ -29,10 +87,6 @@ later_first_by : (o s : Ordering) → ordering_then o s ≡ Less → is_lt (orde
 later_first_by Less s h = refl
 later_first_by Equal s h = refl
 later_first_by Greater s h = cc
-
-some_or : {V : Type 0} (b : Bool) (v : V) (o : Option V) → is_some (cond b (Some v) o) ≡ (b || is_some o)
-some_or true v o = refl
-some_or false v o = refl
 
 map_if : {X Y : Type 0} (f : X → Y) (x : X) (xs : List X) (b : Bool) → map f (cond b (x ∷ xs) []) ≡ cond b (f x ∷ map f xs) []
 map_if f x xs true = refl
@@ -71,7 +125,7 @@ module _ {A B V : Type 0} (firsts : A → A → Ordering) (seconds : B → B →
   under_by q row rows Less is reached later more = absurd (true≢false reached)
   under_by q row rows Equal is reached later more =
       (λ i. (eq_by_cmp_equiv total_seconds).symm q row.0.1 i || more refl i)
-      ∙ sym (some_or (is_eq (seconds row.0.1 q)) row.1 (value_of (pair_order firsts seconds) rows (a, q)))
+      ∙ sym (put_some (is_eq (seconds row.0.1 q)) row.1 (value_of (pair_order firsts seconds) rows (a, q)))
   under_by q row rows Greater is reached later more =
       sym (ap is_some (value_of-above (pair_order firsts seconds) rows (a, q)
       (above_greater (pair_order firsts seconds) (total_pairs firsts seconds total_firsts total_seconds) row.0 (a, q) rows

@@ -1,4 +1,4 @@
--- The least name, and orders of names and of tiles with names as they are compared.
+-- The least name.
 use Rattle.std.proofs.Common.{◌≡◌, ℕ, false, refl, arith, Ordering, Less, Equal, Greater, is_lt}
 use Rattle.std.specs.Ordering.{nat_cmp, ordering_then}
 use Rattle.std.proofs.lemmas.Bool.Decides.{nat_tests}
