@@ -1,9 +1,6 @@
 //! Why a journal isn't opened, and why a commit isn't kept.
 
 ghost use Rattle.std.specs.Prelude.{◌≡◌};
-ghost use Rattle.book_journal.specs.Refusals.{keep_refusal_of, open_refusal_of};
-ghost use Rattle.book_journal.specs.declared.refusal.KeepRefusal.TheVariants.{NoMemory as NoRoom};
-ghost use Rattle.book_journal.specs.declared.refusal.OpenRefusal.TheVariants.{DiskFault, NoMemory};
 
 use commit_book::{BookRefusal, LoadRefusal};
 use crash_disk::DiskFailed;
@@ -23,6 +20,39 @@ pub enum OpenRefusal {
     NoMemory,
 }
 
+impl From<AllocError> for OpenRefusal {
+    ghost use Rattle.book_journal.specs.declared.refusal.OpenRefusal.TheVariants.{NoMemory};
+
+    ghost from_gives = { λ _ refusal. refusal ≡ NoMemory };
+
+    fn from(_error: AllocError) -> OpenRefusal {
+        OpenRefusal::NoMemory
+    }
+}
+
+impl From<DiskFailed> for OpenRefusal {
+    ghost use Rattle.book_journal.specs.declared.refusal.OpenRefusal.TheVariants.{DiskFault};
+
+    ghost from_gives = { λ _ refusal. refusal ≡ DiskFault };
+
+    fn from(_failed: DiskFailed) -> OpenRefusal {
+        OpenRefusal::DiskFault
+    }
+}
+
+impl From<LoadRefusal> for OpenRefusal {
+    ghost use Rattle.book_journal.specs.Refusals.{open_refusal_of};
+
+    ghost from_gives = { λ why refusal. refusal ≡ open_refusal_of why };
+
+    fn from(why: LoadRefusal) -> OpenRefusal {
+        match why {
+            LoadRefusal::FindingsFull => OpenRefusal::FindingsFull,
+            LoadRefusal::NoMemory => OpenRefusal::NoMemory,
+        }
+    }
+}
+
 /// Why a commit isn't kept.
 #[derive(Clone, Copy, Debug, PartialEq, Eq)]
 pub enum KeepRefusal {
@@ -37,48 +67,35 @@ pub enum KeepRefusal {
     NoMemory,
 }
 
-impl From<BookRefusal> for KeepRefusal {
-    ghost from_gives = { λ why refusal. refusal ≡ keep_refusal_of why };
-
-    fn from(why: BookRefusal) -> KeepRefusal {
-        match why {
-            BookRefusal::LogFull => KeepRefusal::LogFull,
-            BookRefusal::NoMemory => KeepRefusal::NoMemory,
-        }
-    }
-}
-
 impl From<AllocError> for KeepRefusal {
-    ghost from_gives = { λ _ refusal. refusal ≡ NoRoom };
+    ghost use Rattle.book_journal.specs.declared.refusal.KeepRefusal.TheVariants.{NoMemory};
+
+    ghost from_gives = { λ _ refusal. refusal ≡ NoMemory };
 
     fn from(_error: AllocError) -> KeepRefusal {
         KeepRefusal::NoMemory
     }
 }
 
-impl From<AllocError> for OpenRefusal {
-    ghost from_gives = { λ _ refusal. refusal ≡ NoMemory };
+impl From<DiskFailed> for KeepRefusal {
+    ghost use Rattle.book_journal.specs.declared.refusal.KeepRefusal.TheVariants.{DiskFault};
 
-    fn from(_error: AllocError) -> OpenRefusal {
-        OpenRefusal::NoMemory
-    }
-}
-
-impl From<DiskFailed> for OpenRefusal {
     ghost from_gives = { λ _ refusal. refusal ≡ DiskFault };
 
-    fn from(_failed: DiskFailed) -> OpenRefusal {
-        OpenRefusal::DiskFault
+    fn from(_failed: DiskFailed) -> KeepRefusal {
+        KeepRefusal::DiskFault
     }
 }
 
-impl From<LoadRefusal> for OpenRefusal {
-    ghost from_gives = { λ why refusal. refusal ≡ open_refusal_of why };
+impl From<BookRefusal> for KeepRefusal {
+    ghost use Rattle.book_journal.specs.Refusals.{keep_refusal_of};
 
-    fn from(why: LoadRefusal) -> OpenRefusal {
+    ghost from_gives = { λ why refusal. refusal ≡ keep_refusal_of why };
+
+    fn from(why: BookRefusal) -> KeepRefusal {
         match why {
-            LoadRefusal::FindingsFull => OpenRefusal::FindingsFull,
-            LoadRefusal::NoMemory => OpenRefusal::NoMemory,
+            BookRefusal::LogFull => KeepRefusal::LogFull,
+            BookRefusal::NoMemory => KeepRefusal::NoMemory,
         }
     }
 }

@@ -44,8 +44,8 @@ pub both_asked : (names between after : List RecName) (around : Box4) (front bac
     → after ≡ between ++ names_meeting around back → after ≡ names ++ names_meeting around (front ++ back)
 both_asked names between after around front back first second =
     let parts : names_meeting around (front ++ back) ≡ names_meeting around front ++ names_meeting around back =
-      ap (map (λ (leaf : Leaf). leaf.name)) (filter-append (meets around) front back)
-      ∙ map-append (λ (leaf : Leaf). leaf.name) (filter (meets around) front) (filter (meets around) back) in
+    ap (map (λ (leaf : Leaf). leaf.name)) (filter-append (meets around) front back)
+    ∙ map-append (λ (leaf : Leaf). leaf.name) (filter (meets around) front) (filter (meets around) back) in
     second ∙ ap (λ more. more ++ names_meeting around back) first ∙ append_assoc names (names_meeting around front) (names_meeting around back)
     ∙ ap (λ more. names ++ more) (sym parts)
 

@@ -1,11 +1,11 @@
 //! A cell with all findings of it.
 
 ghost use Rattle.std.specs.Prelude.{◌≡◌, ◌≤◌, IfOk, true};
+ghost use Rattle.cell_spec.specs.Edits.{find_their_records};
+ghost use Rattle.cell_spec.specs.Writable.{IsWritable};
 ghost use Rattle.history_spec.specs.Steps.{finding_limit};
 ghost use Rattle.rule_spec.specs.Affected.{affected_list, change_by};
 ghost use Rattle.rule_spec.specs.Findings.{all_findings, finding_total};
-ghost use Rattle.cell_spec.specs.Edits.{find_their_records};
-ghost use Rattle.cell_spec.specs.Writable.{IsWritable};
 
 use crate::indexed::IndexedCell;
 use cell_spec::{Findings, Subject, Subjects};

@@ -31,17 +31,6 @@ pub(crate) struct IndexedCell {
     pub(crate) verdicts: Verdicts,
 }
 
-impl Model for IndexedCell {
-    ghost use Rattle.s57_types.specs.declared.cell.Cell.{Cell as SpecCell};
-    ghost use Rattle.cell_bench.specs.Benches.{IsBench};
-
-    ghost Value = { SpecCell };
-
-    ghost view = { λ b. b.store };
-
-    ghost invariant = { λ b. IsBench b.store b.tiles b.map b.verdicts };
-}
-
 impl Drop for IndexedCell {
     fn drop(self) {
         let IndexedCell {
@@ -51,6 +40,17 @@ impl Drop for IndexedCell {
             verdicts: _,
         } = self;
     }
+}
+
+impl Model for IndexedCell {
+    ghost use Rattle.s57_types.specs.declared.cell.Cell.{Cell as SpecCell};
+    ghost use Rattle.cell_bench.specs.Benches.{IsBench};
+
+    ghost Value = { SpecCell };
+
+    ghost view = { λ b. b.store };
+
+    ghost invariant = { λ b. IsBench b.store b.tiles b.map b.verdicts };
 }
 
 impl IndexedCell {
@@ -103,8 +103,8 @@ impl IndexedCell {
     pub(crate) fn reach<L: Ledger>(
         &self,
         alloc: Global,
-        steps: &mut Steps<L>,
         edits: &EditSet,
+        steps: &mut Steps<L>,
     ) -> Result<Reach, AllocError>
         requires level { edits.now.nall ≡ self.now.head.nall }
         requires found { find_their_records edits.now.edits self.now ≡ true }

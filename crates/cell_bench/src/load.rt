@@ -8,10 +8,10 @@ ghost use Rattle.cell_findings.specs.AllFindings.{IsAllOf};
 ghost use Rattle.cell_bench.specs.Benches.{IsLoadRefusal, IsLoaded};
 ghost use Rattle.rule_spec.specs.Affected.{is_single};
 ghost use Rattle.rule_spec.specs.Findings.{is_subject};
-ghost use Rattle.cell_bench.specs.Verdicts.{total_of};
 ghost use Rattle.cell_bench.specs.Singles.{reads_row, singles_in};
 ghost use Rattle.cell_spec.specs.Ascending.{ascending};
 ghost use Rattle.cell_spec.specs.Names.{subject_order};
+ghost use Rattle.cell_bench.specs.Verdicts.{total_of};
 
 use crate::bench::Bench;
 use crate::indexed::IndexedCell;

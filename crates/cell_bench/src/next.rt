@@ -41,13 +41,13 @@ impl IndexedCell {
     pub(crate) fn next_judged(
         &self,
         alloc: Global,
+        edits: &EditSet,
         reach: Reach,
         rows: &Rows,
-        edits: &EditSet,
     ) -> Result<IndexedCell, PlanRefusal>
         requires level { edits.now.nall ≡ self.now.head.nall }
-        requires reach { IsReachOf edits.now.edits self.now reach }
         requires taken { is_applicable edits.now.edits self.now ≡ true }
+        requires reach { IsReachOf edits.now.edits self.now reach }
         requires rows { rows.now ≡ map (exact_row (apply_edits edits.now.edits self.now)) (affected_list (change_by edits.now.edits self.now)) }
         ensures { MatchResult result (IsNext (apply_edits edits.now.edits self.now)) (IsFull (finding_total (apply_edits edits.now.edits self.now))) }
     {
@@ -69,9 +69,9 @@ impl IndexedCell {
     pub(crate) fn next<L: Ledger>(
         &self,
         alloc: Global,
+        edits: &EditSet,
         ready: &Rows,
         stale: &[Key],
-        edits: &EditSet,
         steps: &mut Steps<L>,
     ) -> Result<IndexedCell, PlanRefusal>
         requires level { edits.now.nall ≡ self.now.head.nall }

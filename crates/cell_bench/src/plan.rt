@@ -26,6 +26,14 @@ pub struct BenchPlan {
     next: Bench,
 }
 
+impl Model for BenchPlan {
+    ghost use Rattle.s57_types.specs.declared.cell.Cell.{Cell as SpecCell};
+
+    ghost Value = { SpecCell };
+
+    ghost view = { λ plan. plan.next };
+}
+
 impl Duplicate for BenchPlan {
     /// The same plan, which shares what it holds. An `Err` says that it can't be counted any more.
     fn copy(&self, alloc: Global) -> Result<BenchPlan, AllocError> {
@@ -33,14 +41,6 @@ impl Duplicate for BenchPlan {
             next: self.next.copy(alloc)?,
         })
     }
-}
-
-impl Model for BenchPlan {
-    ghost use Rattle.s57_types.specs.declared.cell.Cell.{Cell as SpecCell};
-
-    ghost Value = { SpecCell };
-
-    ghost view = { λ plan. plan.next };
 }
 
 impl Bench {
@@ -64,7 +64,7 @@ impl Bench {
     {
         refusals_tell_what_a_cell_takes();
         need_room(alloc, self.store(), edits, steps)?;
-        let indexed = self.indexed.next(alloc, ready, stale, edits, steps)?;
+        let indexed = self.indexed.next(alloc, edits, ready, stale, steps)?;
         let next = Bench::make(alloc, indexed)?;
         Ok(BenchPlan { next })
     }
@@ -104,7 +104,7 @@ impl Bench {
         requires found { find_their_records edits.now.edits self.now ≡ true }
         ensures { IfOk result (IsReachOf edits.now.edits self.now) }
     {
-        self.indexed.reach(alloc, steps, edits)
+        self.indexed.reach(alloc, edits, steps)
     }
 
     /// The bench after edits that the cell takes, from what they reach and from the rows of all affected subjects of the edited cell, in
@@ -125,7 +125,7 @@ impl Bench {
         ensures { MatchResult result (IsPlanned self.now edits.now.edits) (IsPlanRefusal self.now edits.now.edits) }
     {
         refusals_tell_what_a_cell_takes();
-        let indexed = self.indexed.next_judged(alloc, reach, rows, edits)?;
+        let indexed = self.indexed.next_judged(alloc, edits, reach, rows)?;
         let next = Bench::make(alloc, indexed)?;
         Ok(BenchPlan { next })
     }

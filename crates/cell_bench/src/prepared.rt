@@ -17,14 +17,6 @@ pub struct Prepared {
     ahead: Option<BenchPlan>,
 }
 
-impl Model for Prepared {
-    ghost use Rattle.cell_bench.specs.Benches.{PreparedCommit};
-
-    ghost Value = { PreparedCommit };
-
-    ghost view = { λ p. record { base = p.base; edits = p.edits; rows = p.rows; ahead = p.ahead } };
-}
-
 impl Drop for Prepared {
     fn drop(self) {
         let Prepared {
@@ -34,6 +26,14 @@ impl Drop for Prepared {
             ahead: _,
         } = self;
     }
+}
+
+impl Model for Prepared {
+    ghost use Rattle.cell_bench.specs.Benches.{PreparedCommit};
+
+    ghost Value = { PreparedCommit };
+
+    ghost view = { λ p. record { base = p.base; edits = p.edits; rows = p.rows; ahead = p.ahead } };
 }
 
 impl Prepared {

@@ -8,9 +8,9 @@ ghost use Rattle.history_spec.specs.Steps.{finding_limit};
 ghost use Rattle.affected_subjects.specs.Reached.{gone_list};
 ghost use Rattle.answer_laws.specs.EditedAnswers.{FindTheirRecords};
 ghost use Rattle.finding_laws.specs.Tables.{IsVerdictTable};
-ghost use Rattle.cell_bench.specs.Rejudging.{IsRejudgedBy, fresh_among, fresh_in, judged_in, reads_anew, with_row_of, with_rows};
 ghost use Rattle.cell_bench.specs.Limits.{IsFull};
 ghost use Rattle.cell_bench.specs.Ready.{AreExact};
+ghost use Rattle.cell_bench.specs.Rejudging.{IsRejudgedBy, fresh_among, fresh_in, judged_in, reads_anew, with_row_of, with_rows};
 ghost use Rattle.cell_bench.specs.Verdicts.{total_of};
 
 use crate::ready::ReadyRows;

@@ -38,8 +38,11 @@ pub(crate) fn names_in(alloc: Global, cell: &Cell) -> Result<Names, AllocError>
 pub(crate) fn edge_names(alloc: Global, names: &[RecName]) -> Result<Vec<RecName>, AllocError>
     ensures { IfOk result (λ edges. edges.items ≡ filter spec_edge_name names.now) }
 {
-    let all = names.iter().copied();
-    all.filter(|name| is_edge_name(*name)).collect(alloc)
+    names
+        .iter()
+        .copied()
+        .filter(|name| is_edge_name(*name))
+        .collect(alloc)
 }
 
 fn is_part_name(name: RecName) -> bool
@@ -52,8 +55,11 @@ fn is_part_name(name: RecName) -> bool
 pub(crate) fn part_names(alloc: Global, names: &[RecName]) -> Result<Vec<RecName>, AllocError>
     ensures { IfOk result (λ parts. parts.items ≡ filter spec_part_name names.now) }
 {
-    let all = names.iter().copied();
-    all.filter(|name| is_part_name(*name)).collect(alloc)
+    names
+        .iter()
+        .copied()
+        .filter(|name| is_part_name(*name))
+        .collect(alloc)
 }
 
 fn push_identities(identities: &mut Vec<Lnam>, recs: &[Rec]) -> Result<(), AllocError>

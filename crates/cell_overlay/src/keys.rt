@@ -14,8 +14,8 @@ use std::sync::ledger::Ledger;
 fn push_all<B: Look, L: Ledger>(
     keys: &mut Vec<Key>,
     look: &B,
-    steps: &mut Steps<L>,
     edits: &[Edit],
+    steps: &mut Steps<L>,
 ) -> Result<(), AllocError>
     ensures keys { OnOk result (keys.new.items ≡ keys.old.items ++ flat_map (keys_of_edit (B.cell look.now)) edits.now) }
     ensures steps { steps.new ≤ steps.old + length edits.now }
@@ -40,6 +40,6 @@ pub fn touched<B: Look, L: Ledger>(
     ensures steps { steps.new ≤ steps.old + length edits.now.edits }
 {
     let mut keys = Vec::new(alloc);
-    push_all(&mut keys, look, steps, edits.edits())?;
+    push_all(&mut keys, look, edits.edits(), steps)?;
     Ok(ascending_keys(keys))
 }

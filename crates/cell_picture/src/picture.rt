@@ -16,7 +16,7 @@ ghost use Rattle.cell_picture.specs.Shapes.{vector_figure};
 use crate::frame::{push_frame, push_head};
 use crate::shape::{Class, Figure, LIST_TOP, MARK_LIMIT, Mark, ROW_HEIGHT, Row};
 use crate::text::{push_figure, push_mark, push_row, push_spot};
-use cell_findings::{SubjectFinding as Found, push_findings};
+use cell_findings::{SubjectFinding, push_findings};
 use cell_spec::writable_cells_are_readable;
 use chain_topo::{ListLook, Steps};
 use check_words::{is_group1_area, number};
@@ -55,7 +55,7 @@ fn class_of(vector: &Vector) -> Class
 }
 
 /// The line of a finding in a report.
-fn line_of(alloc: Global, found: Found) -> Result<Text, AllocError>
+fn line_of(alloc: Global, found: SubjectFinding) -> Result<Text, AllocError>
     ensures { IfOk result (λ line. line ≡ spec_line_of found) }
 {
     let mut line = Vec::new(alloc);
@@ -68,7 +68,7 @@ fn push_mark_in(
     alloc: Global,
     out: &mut Vec<u8>,
     number: u32,
-    found: Found,
+    found: SubjectFinding,
     strokes: Strokes,
     anchor: PagePoint,
     field: u32,
@@ -93,7 +93,7 @@ fn draw_mark_at(
     out: &mut Vec<u8>,
     taken: &mut Vec<u32>,
     number: u32,
-    found: Found,
+    found: SubjectFinding,
     strokes: Strokes,
     anchor: Option<PagePoint>,
 ) -> Drawn
@@ -109,7 +109,7 @@ fn draw_mark_at(
 }
 
 /// Appends a finding as a dot at a point.
-fn push_dot_at(alloc: Global, out: &mut Vec<u8>, found: Found, point: PagePoint) -> Drawn
+fn push_dot_at(alloc: Global, out: &mut Vec<u8>, found: SubjectFinding, point: PagePoint) -> Drawn
     ensures { OnOk result (out.new.items ≡ out.old.items ++ spot_text (spec_line_of found) point) }
 {
     let line = line_of(alloc, found)?;
@@ -117,7 +117,12 @@ fn push_dot_at(alloc: Global, out: &mut Vec<u8>, found: Found, point: PagePoint)
 }
 
 /// Appends a finding as a dot at a point, if it is anywhere.
-fn draw_spot_at(alloc: Global, out: &mut Vec<u8>, found: Found, anchor: Option<PagePoint>) -> Drawn
+fn draw_spot_at(
+    alloc: Global,
+    out: &mut Vec<u8>,
+    found: SubjectFinding,
+    anchor: Option<PagePoint>,
+) -> Drawn
     ensures { OnOk result (out.new.items ≡ out.old.items ++ flat_map shape_text (spot_at (spec_line_of found) anchor)) }
 {
     let Some(anchor) = anchor else {
@@ -127,7 +132,7 @@ fn draw_spot_at(alloc: Global, out: &mut Vec<u8>, found: Found, anchor: Option<P
 }
 
 /// Appends a row of the list.
-fn draw_row(alloc: Global, out: &mut Vec<u8>, number: u32, found: Found) -> Drawn
+fn draw_row(alloc: Global, out: &mut Vec<u8>, number: u32, found: SubjectFinding) -> Drawn
     ensures { OnOk result (out.new.items ≡ out.old.items ++ row_text (row_of number found)) }
 {
     let line = line_of(alloc, found)?;
@@ -143,7 +148,7 @@ fn draw_row(alloc: Global, out: &mut Vec<u8>, number: u32, found: Found) -> Draw
 }
 
 /// Appends the list.
-fn draw_rows(alloc: Global, out: &mut Vec<u8>, findings: &[Found]) -> Drawn
+fn draw_rows(alloc: Global, out: &mut Vec<u8>, findings: &[SubjectFinding]) -> Drawn
     ensures { OnOk result (out.new.items ≡ out.old.items ++ flat_map shape_text (rows_from 1 findings.now)) }
 {
     for (k, found) in findings.iter().enumerate() {
@@ -257,7 +262,7 @@ impl<'a, 'b> Scene<'a, 'b> {
         out: &mut Vec<u8>,
         taken: &mut Vec<u32>,
         number: u32,
-        found: Found,
+        found: SubjectFinding,
         steps: &mut Steps<L>,
     ) -> Drawn
         ensures text { OnOk result (out.new.items ≡ out.old.items
@@ -279,7 +284,12 @@ impl<'a, 'b> Scene<'a, 'b> {
     }
 
     /// Appends the marks of findings.
-    fn marks<L: Ledger>(&self, out: &mut Vec<u8>, findings: &[Found], steps: &mut Steps<L>) -> Drawn
+    fn marks<L: Ledger>(
+        &self,
+        out: &mut Vec<u8>,
+        findings: &[SubjectFinding],
+        steps: &mut Steps<L>,
+    ) -> Drawn
         ensures { OnOk result (out.new.items ≡ out.old.items
             ++ flat_map shape_text (marks_from self.now.look.now self.now.around [] 1 findings.now)) }
     {
@@ -295,7 +305,7 @@ impl<'a, 'b> Scene<'a, 'b> {
     fn spot<L: Ledger>(
         &self,
         out: &mut Vec<u8>,
-        found: Found,
+        found: SubjectFinding,
         held: &mut Option<Held>,
         steps: &mut Steps<L>,
     ) -> Drawn
@@ -317,7 +327,12 @@ impl<'a, 'b> Scene<'a, 'b> {
 
     /// Appends very many findings as dots.
     #[tactic(auto, using(crate::proofs::Marks::nested_more))]
-    fn spots<L: Ledger>(&self, out: &mut Vec<u8>, findings: &[Found], steps: &mut Steps<L>) -> Drawn
+    fn spots<L: Ledger>(
+        &self,
+        out: &mut Vec<u8>,
+        findings: &[SubjectFinding],
+        steps: &mut Steps<L>,
+    ) -> Drawn
         ensures { OnOk result (out.new.items ≡ out.old.items ++ flat_map shape_text (flat_map (spot_of self.now.look.now self.now.around) findings.now)) }
     {
         let mut held = None;
@@ -328,7 +343,12 @@ impl<'a, 'b> Scene<'a, 'b> {
     }
 
     /// Appends the findings where they are.
-    fn findings<L: Ledger>(&self, out: &mut Vec<u8>, found: &[Found], steps: &mut Steps<L>) -> Drawn
+    fn findings<L: Ledger>(
+        &self,
+        out: &mut Vec<u8>,
+        found: &[SubjectFinding],
+        steps: &mut Steps<L>,
+    ) -> Drawn
         ensures { OnOk result (out.new.items ≡ out.old.items ++ flat_map shape_text (finding_shapes self.now.look.now self.now.around found.now)) }
     {
         if found.len() <= MARK_LIMIT as usize {
@@ -342,7 +362,7 @@ impl<'a, 'b> Scene<'a, 'b> {
         &self,
         out: &mut Vec<u8>,
         cell: &Cell,
-        findings: &[Found],
+        findings: &[SubjectFinding],
         steps: &mut Steps<L>,
     ) -> Drawn
         requires { self.now.look.now ≡ cell.now }
@@ -360,7 +380,7 @@ fn draw_around<L: Ledger>(
     out: &mut Vec<u8>,
     around: Box4,
     cell: &Cell,
-    findings: &[Found],
+    findings: &[SubjectFinding],
     steps: &mut Steps<L>,
 ) -> Drawn
     requires { IsReadable cell.now }
@@ -385,7 +405,7 @@ fn draw<L: Ledger>(
     alloc: Global,
     out: &mut Vec<u8>,
     cell: &Cell,
-    findings: &[Found],
+    findings: &[SubjectFinding],
     steps: &mut Steps<L>,
 ) -> Drawn
     requires { IsReadable cell.now }
@@ -402,7 +422,7 @@ fn draw<L: Ledger>(
 pub fn push_picture<L: Ledger>(
     out: &mut Vec<u8>,
     cell: &Cell,
-    findings: &[Found],
+    findings: &[SubjectFinding],
     steps: &mut Steps<L>,
 ) -> Result<(), AllocError>
     requires { IsWritable cell.now }

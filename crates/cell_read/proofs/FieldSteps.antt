@@ -59,7 +59,7 @@ pub tagged_more : (tag : FieldTag) (fields : List Field) (k : ℕ) (name : List 
     → list_any (is_tagged tag) (take (k + 1) fields) ≡ (list_any (is_tagged tag) (take k fields) || pointwise nat_eq name (tag_text tag))
 tagged_more tag fields k name is = at_tag fields k name is
     (λ f here tagged. any_more (is_tagged tag) fields k f here
-      ∙ ap (λ t. list_any (is_tagged tag) (take k fields) || pointwise nat_eq t (tag_text tag)) tagged)
+    ∙ ap (λ t. list_any (is_tagged tag) (take k fields) || pointwise nat_eq t (tag_text tag)) tagged)
 
 -- the name of the first field but the record identifier, from a place on
 pub named_here : (fields : List Field) (k : ℕ) (name : List ℕ) → option_map (λ (f : Field). f.tag) (slice_get fields k) ≡ Some name
@@ -67,16 +67,16 @@ pub named_here : (fields : List Field) (k : ℕ) (name : List ℕ) → option_ma
     → option_map (λ (f : Field). f.tag) (find (λ field. not (is_tagged tags.RecordNumber field)) (drop k fields)) ≡ Some name
 named_here fields k name is other = at_tag fields k name is
     (λ f here tagged. let fails : not (is_tagged tags.RecordNumber f) ≡ true = ap (λ t. not (pointwise nat_eq t (tag_text tags.RecordNumber))) tagged
-        ∙ ap not other in
-      ap (option_map (λ (f : Field). f.tag)) (find_here (λ field. not (is_tagged tags.RecordNumber field)) fields k f here fails) ∙ ap Some tagged)
+    ∙ ap not other in
+    ap (option_map (λ (f : Field). f.tag)) (find_here (λ field. not (is_tagged tags.RecordNumber field)) fields k f here fails) ∙ ap Some tagged)
 
 pub named_later : (fields : List Field) (k : ℕ) (name : List ℕ) → option_map (λ (f : Field). f.tag) (slice_get fields k) ≡ Some name
     → pointwise nat_eq name (tag_text tags.RecordNumber) ≡ true
     → find (λ field. not (is_tagged tags.RecordNumber field)) (drop k fields) ≡ find (λ field. not (is_tagged tags.RecordNumber field)) (drop (k + 1) fields)
 named_later fields k name is same = at_tag fields k name is
     (λ f here tagged. let holds : not (is_tagged tags.RecordNumber f) ≡ false = ap (λ t. not (pointwise nat_eq t (tag_text tags.RecordNumber))) tagged
-        ∙ ap not same in
-      find_later (λ field. not (is_tagged tags.RecordNumber field)) fields k f here holds)
+    ∙ ap not same in
+    find_later (λ field. not (is_tagged tags.RecordNumber field)) fields k f here holds)
 
 -- what was found passes the test
 find_holds : {X : Type 0} (p : X → Bool) (xs : List X) (x : X) → find p xs ≡ Some x → p x ≡ true

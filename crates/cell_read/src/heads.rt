@@ -138,24 +138,25 @@ pub fn read_geographic_reference(alloc: Global, frame: &Frame<'_>) -> Result<Dsp
 pub fn head_with(dsid: Dsid, dssi: Dssi, dspm: Dspm) -> Head
     ensures { result ≡ head_with dsid dssi dspm }
 {
-    let uadt = dsid.uadt;
-    let isdt = dsid.isdt;
-    let sted = dsid.sted;
+    let (dsid_rcid, intu) = (dsid.rcid, dsid.intu);
+    let (uadt, isdt, sted) = (dsid.uadt, dsid.isdt, dsid.sted);
+    let (prsp, prof, agen) = (dsid.prsp, dsid.prof, dsid.agen);
+    let (dsnm, edtn, updn, psdn, pred, dsid_comt) = dsid.into_texts();
     Head {
-        dsid_rcid: dsid.rcid,
-        intu: dsid.intu,
-        dsnm: dsid.dsnm,
-        edtn: dsid.edtn,
-        updn: dsid.updn,
+        dsid_rcid,
+        intu,
+        dsnm,
+        edtn,
+        updn,
         uadt,
         isdt,
         sted,
-        prsp: dsid.prsp,
-        psdn: dsid.psdn,
-        pred: dsid.pred,
-        prof: dsid.prof,
-        agen: dsid.agen,
-        dsid_comt: dsid.comt,
+        prsp,
+        psdn,
+        pred,
+        prof,
+        agen,
+        dsid_comt,
         aall: dssi.aall,
         nall: dssi.nall,
         dspm_rcid: dspm.rcid,
@@ -169,6 +170,6 @@ pub fn head_with(dsid: Dsid, dssi: Dssi, dspm: Dspm) -> Head
         coun: dspm.coun,
         comf: dspm.comf,
         somf: dspm.somf,
-        dspm_comt: dspm.comt,
+        dspm_comt: dspm.into_comment(),
     }
 }

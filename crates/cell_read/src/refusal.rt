@@ -56,20 +56,6 @@ impl RecordRefusal {
     }
 }
 
-impl From<FieldRefusal> for RecordRefusal {
-    ghost use Rattle.cell_read.specs.Gives.{refusal_of_field};
-
-    ghost from_gives = { λ refusal e. e ≡ refusal_of_field refusal };
-
-    fn from(refusal: FieldRefusal) -> RecordRefusal {
-        match refusal {
-            FieldRefusal::BadField => RecordRefusal::Fault(RecordFault::BadField),
-            FieldRefusal::BadText => RecordRefusal::Fault(RecordFault::BadText),
-            FieldRefusal::NoMemory => RecordRefusal::NoMemory,
-        }
-    }
-}
-
 impl From<RecordFault> for RecordRefusal {
     ghost from_gives = { λ fault e. e ≡ Fault fault };
 
@@ -83,5 +69,19 @@ impl From<AllocError> for RecordRefusal {
 
     fn from(_error: AllocError) -> RecordRefusal {
         RecordRefusal::NoMemory
+    }
+}
+
+impl From<FieldRefusal> for RecordRefusal {
+    ghost use Rattle.cell_read.specs.Gives.{refusal_of_field};
+
+    ghost from_gives = { λ refusal e. e ≡ refusal_of_field refusal };
+
+    fn from(refusal: FieldRefusal) -> RecordRefusal {
+        match refusal {
+            FieldRefusal::BadField => RecordRefusal::Fault(RecordFault::BadField),
+            FieldRefusal::BadText => RecordRefusal::Fault(RecordFault::BadText),
+            FieldRefusal::NoMemory => RecordRefusal::NoMemory,
+        }
     }
 }

@@ -5,8 +5,8 @@ ghost use Rattle.std.specs.Option.{option_map};
 ghost use Rattle.file_spec.specs.RecordFaults.{of_field};
 ghost use Rattle.file_spec.specs.RecordReading.{content_fault};
 ghost use Rattle.cell_read.specs.Gives.{IsFault};
-ghost use Rattle.cell_read.specs.ValuesOf.{values_of, with_content};
 ghost use Rattle.cell_read.specs.Kept.{kept_with};
+ghost use Rattle.cell_read.specs.ValuesOf.{values_of, with_content};
 
 use crate::refusal::RecordRefusal;
 use file_spec::FieldTag;

@@ -27,31 +27,19 @@ kind_rank Head = 4
 abbrev pub name_parts : RecName → List ℕ
 name_parts n = kind_rank n.kind ∷ n.id ∷ []
 
-abbrev pub name_order : RecName → RecName → Ordering
-name_order = order_by name_parts
-
 -- feature object identifiers by agency, number and subdivision
 abbrev pub identity_parts : Lnam → List ℕ
 identity_parts l = l.agen ∷ l.fidn ∷ l.fids ∷ []
 
-abbrev pub identity_order : Lnam → Lnam → Ordering
-identity_order = order_by identity_parts
-
 -- pointers by the record that has them, then by place
 abbrev pub ref_parts : Ref → List ℕ
 ref_parts r = name_parts r.from ++ r.place ∷ []
-
-abbrev pub ref_order : Ref → Ref → Ordering
-ref_order = order_by ref_parts
 
 -- records first, then pointers to records, then identifiers
 abbrev pub key_parts : Key → List ℕ
 key_parts (Name n) = 0 ∷ name_parts n
 key_parts (Refs n) = 1 ∷ name_parts n
 key_parts (Foid l) = 2 ∷ identity_parts l
-
-abbrev pub key_order : Key → Key → Ordering
-key_order = order_by key_parts
 
 -- records first, then sides, pairs and identifiers
 abbrev pub subject_parts : Subject → List ℕ
@@ -60,12 +48,24 @@ subject_parts (Side n) = 1 ∷ name_parts n
 subject_parts (Pair a b) = 2 ∷ (name_parts a ++ name_parts b)
 subject_parts (Ident l) = 3 ∷ identity_parts l
 
-abbrev pub subject_order : Subject → Subject → Ordering
-subject_order = order_by subject_parts
-
 -- findings by the number of their kind, then by their numbers
 abbrev pub finding_parts : Finding → List ℕ
 finding_parts f = f.kind ∷ f.nums
+
+abbrev pub name_order : RecName → RecName → Ordering
+name_order = order_by name_parts
+
+abbrev pub identity_order : Lnam → Lnam → Ordering
+identity_order = order_by identity_parts
+
+abbrev pub ref_order : Ref → Ref → Ordering
+ref_order = order_by ref_parts
+
+abbrev pub key_order : Key → Key → Ordering
+key_order = order_by key_parts
+
+abbrev pub subject_order : Subject → Subject → Ordering
+subject_order = order_by subject_parts
 
 abbrev pub finding_order : Finding → Finding → Ordering
 finding_order = order_by finding_parts

@@ -144,8 +144,8 @@ pub fn area_findings(
     near: &NearRecords,
     feature: &Feature,
 ) -> Result<Vec<Finding>, AllocError>
-    ensures { (c : SpecCell) (n : SpecName) (keys : List SpecKey) → IsNear c keys near.now
-        → keys ≡ read_set c (SubjectRec n) → lookup_record c n ≡ Some (F feature.now)
+    ensures { (c : SpecCell) (n : SpecName) (keys : List SpecKey) → IsNear c keys near.now → keys ≡ read_set c (SubjectRec n)
+        → lookup_record c n ≡ Some (F feature.now)
         → (feature.now.prim == 3) ≡ true → prim_refs c feature.now ≡ [] → dangling_ref c feature.now ≡ [] → bad_codes c feature.now ≡ []
         → IfOk result (λ findings. findings.items ≡ map (finding OPEN_RING) (open_ring c feature.now)
         ++ (map (finding MIXED_RING) (mixed_ring c feature.now)

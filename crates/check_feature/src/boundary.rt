@@ -4,11 +4,11 @@ ghost use Rattle.std.specs.Prelude.{◌≡◌, ◌==◌, ◌&&◌, ◌++◌, Lis
 ghost use Rattle.s57_types.specs.declared.cell.Cell.{Cell as SpecCell};
 ghost use Rattle.s57_types.specs.declared.name.RecName.{RecName as SpecName};
 ghost use Rattle.s57_types.specs.declared.record.Rec.TheVariants.{F};
-ghost use Rattle.near_records.specs.Near.{IsNear};
-ghost use Rattle.rule_spec.specs.Reads.{read_set};
 ghost use Rattle.cell_spec.specs.declared.key.Key.{Key as SpecKey};
 ghost use Rattle.cell_spec.specs.declared.key.Subject.TheVariants.{Rec as SubjectRec};
 ghost use Rattle.cell_spec.specs.Lookup.{lookup_record};
+ghost use Rattle.rule_spec.specs.Reads.{read_set};
+ghost use Rattle.near_records.specs.Near.{IsNear};
 ghost use Rattle.check_feature.specs.FeatureFindings.{boundary_findings, pointer_findings};
 
 use cell_spec::Finding;

@@ -3,9 +3,9 @@
 ghost use Rattle.std.specs.Prelude.{◌≡◌, IfOk, List, Some};
 ghost use Rattle.s57_types.specs.declared.cell.Cell.{Cell as SpecCell};
 ghost use Rattle.s57_types.specs.declared.name.RecName.{RecName as SpecName};
+ghost use Rattle.s57_types.specs.declared.record.Rec.TheVariants.{F};
 ghost use Rattle.cell_spec.specs.declared.key.Key.{Key as SpecKey};
 ghost use Rattle.cell_spec.specs.declared.key.Subject.TheVariants.{Rec as SubjectRec};
-ghost use Rattle.s57_types.specs.declared.record.Rec.TheVariants.{F};
 ghost use Rattle.cell_spec.specs.Lookup.{lookup_record};
 ghost use Rattle.rule_spec.specs.Findings.{findings_of_rules};
 ghost use Rattle.rule_spec.specs.Reads.{read_set};

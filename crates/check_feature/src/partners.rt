@@ -32,7 +32,8 @@ pub(crate) fn push_dangling_features(
     near: &NearRecords,
     feature: &Feature,
 ) -> Result<(), AllocError>
-    ensures { (c : SpecCell) (keys : List SpecKey) → IsNear c keys near.now → All (λ (p : SpecPartner). has_key keys (KeyFoid p.to) ≡ true) feature.now.partners
+    ensures { (c : SpecCell) (keys : List SpecKey) → IsNear c keys near.now
+        → All (λ (p : SpecPartner). has_key keys (KeyFoid p.to) ≡ true) feature.now.partners
         → OnOk result (findings.new.items ≡ findings.old.items ++ map (finding DANGLING_FEATURE) (dangling_feature c feature.now)) }
 {
     for (k, partner) in feature.partners.as_slice().iter().enumerate() {

@@ -5,9 +5,9 @@ ghost use Rattle.s57_types.specs.declared.cell.Cell.{Cell as SpecCell};
 ghost use Rattle.cell_spec.specs.declared.key.Subject.TheVariants.{Pair as SpecPair};
 ghost use Rattle.finding_laws.specs.Pairs.{are_apart as spec_are_apart};
 ghost use Rattle.rule_spec.specs.Affected.{exact_row};
+ghost use Rattle.rule_spec.specs.Findings.{is_subject, findings_of_subject};
 ghost use Rattle.rule_spec.specs.Reads.{read_set};
 ghost use Rattle.check_pairs.specs.Parts.{IsPart};
-ghost use Rattle.rule_spec.specs.Findings.{is_subject, findings_of_subject};
 
 use crate::finding::{edge_pair, node_and_edge, node_pair};
 use crate::part::{ChainPart, is_edge, pair_keys};

@@ -6,8 +6,8 @@ ghost use Rattle.s57_types.specs.declared.record.Partner.{Partner as SpecPartner
 ghost use Rattle.s57_types.specs.declared.record.Rec.TheVariants.{F, V};
 ghost use Rattle.s57_types.specs.declared.record.Spot.{Spot as SpecSpot};
 ghost use Rattle.s57_types.specs.Heads.{head_name};
-ghost use Rattle.cell_spec.specs.declared.key.Subject.TheVariants.{Rec as SubjectRec};
 ghost use Rattle.cell_spec.specs.declared.key.Key.TheVariants.{Foid as KeyFoid, Name as KeyName};
+ghost use Rattle.cell_spec.specs.declared.key.Subject.TheVariants.{Rec as SubjectRec};
 ghost use Rattle.cell_spec.specs.Ascending.{ascending};
 ghost use Rattle.cell_spec.specs.Lookup.{lookup_record};
 ghost use Rattle.cell_spec.specs.Names.{key_order};

@@ -165,11 +165,11 @@ impl DependMap {
     ) -> Result<DependMap, AllocError>
         ensures { IfOk result (λ map. map ≡ with_row subject_order self subject keys.now) }
     {
+        orders_are_by_parts();
         let DependMap {
             mut reads,
             mut readers,
         } = self;
-        orders_are_by_parts();
         // The rows ascend, so that one that is put again changes nothing.
         let _count = reads.len();
         if has_row(&reads, &subject, keys) {

@@ -66,9 +66,9 @@ fn holds(keys: &[Key], key: Key) -> bool
 fn take_lost(
     alloc: Global,
     readers: &mut ReaderSet,
+    subject: Subject,
     old: &[Key],
     new: &[Key],
-    subject: Subject,
 ) -> Result<(), AllocError>
     requires { IsStrictlySortedBy key_order new.now }
     ensures { OnOk result ((k : SpecKey) (s : SpecSubject) →
@@ -113,7 +113,7 @@ pub(crate) fn replace_keys(
         has_pair readers.new k s ≡ (if same_subject subject s then holds_key new.now k else has_pair readers.old k s)) }
 {
     let sorted = ascending_keys(Items::copy_of(alloc, new)?.into_vec());
-    take_lost(alloc, readers, old, sorted.as_slice(), subject)?;
+    take_lost(alloc, readers, subject, old, sorted.as_slice())?;
     put_gained(alloc, readers, subject, new)
 }
 

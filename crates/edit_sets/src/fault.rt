@@ -5,13 +5,6 @@ ghost use Rattle.std.specs.Prelude.{◌≡◌};
 use s57_types::Unfit;
 use std::alloc::AllocError;
 
-/// Why no edit set was made.
-#[derive(Clone, Copy, Debug, PartialEq, Eq)]
-pub enum FormRefusal {
-    Fault(FormFault),
-    NoMemory,
-}
-
 /// What is wrong with the form of edits and guards. Places count from 1.
 #[derive(Clone, Copy, Debug, PartialEq, Eq)]
 pub enum FormFault {
@@ -25,6 +18,13 @@ pub enum FormFault {
     Unfit(u32, Unfit),
     /// There are so many guards, over 4,096.
     TooManyGuards(u32),
+}
+
+/// Why no edit set was made.
+#[derive(Clone, Copy, Debug, PartialEq, Eq)]
+pub enum FormRefusal {
+    Fault(FormFault),
+    NoMemory,
 }
 
 impl From<AllocError> for FormRefusal {

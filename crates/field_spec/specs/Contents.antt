@@ -66,6 +66,22 @@ row_as value forms good b = result_map_both value (λ e. e) (judged_row good (fi
 abbrev pub rows_as : {X : Type 0} → (List Subfield → X) → ℕ → List Form → (List Subfield → Bool) → List ℕ → Result (List X) FieldFault
 rows_as value level forms good b = result_map_both (map value) (λ e. e) (judged good (field_rows level forms b))
 
+-- the kind of a record name RCNM (S-57 Part 3, 2.2)
+abbrev pub is_vector_rcnm : ℕ → Bool
+is_vector_rcnm n = (n == 110) || (n == 120) || (n == 130)
+
+abbrev pub kind_of_rcnm : ℕ → Kind
+kind_of_rcnm n = if n == 110 then Vi else (if n == 120 then Vc else (if n == 130 then Ve else Fe))
+
+abbrev pub name_in : List Subfield → RecName
+name_in row = record { kind = kind_of_rcnm (number_in row 0); id = number_in row 1 }
+
+abbrev pub names_a_vector : List Subfield → Bool
+names_a_vector row = is_vector_rcnm (number_in row 0)
+
+abbrev pub lnam_in : List Subfield → Lnam
+lnam_in row = record { agen = number_in row 0; fidn = number_in row 1; fids = number_in row 2 }
+
 -- the record identifier 0001: the record number (S-57 Part 3, 7.2.1)
 unfoldable pub number_content : List ℕ → Result ℕ FieldFault
 number_content = row_as (λ row. number_in row 0) number_forms any_row
@@ -89,6 +105,9 @@ dsid_value row = record {
   comt = text_in row 15;
 }
 
+unfoldable pub dsid_content : List ℕ → Result Dsid FieldFault
+dsid_content = row_as dsid_value dsid_forms (λ row. number_in row 0 == 10)
+
 abbrev pub dssi_value : List Subfield → Dssi
 dssi_value row = record {
   dstr = number_in row 0;
@@ -101,14 +120,11 @@ dssi_value row = record {
 abbrev pub has_good_levels : List Subfield → Bool
 has_good_levels row = nat_le (number_in row 1) 1 && nat_le (number_in row 2) 2
 
-unfoldable pub dsid_content : List ℕ → Result Dsid FieldFault
-dsid_content = row_as dsid_value dsid_forms (λ row. number_in row 0 == 10)
-
 unfoldable pub dssi_content : List ℕ → Result Dssi FieldFault
 dssi_content = row_as dssi_value dssi_forms has_good_levels
 
 abbrev pub dspm_value : List Subfield → Dspm
-dspm_value = λ row. record {
+dspm_value row = record {
   rcid = number_in row 1;
   hdat = number_in row 2;
   vdat = number_in row 3;
@@ -126,25 +142,15 @@ dspm_value = λ row. record {
 unfoldable pub dspm_content : List ℕ → Result Dspm FieldFault
 dspm_content = row_as dspm_value dspm_forms (λ row. number_in row 0 == 20)
 
--- the kind of a record name RCNM (S-57 Part 3, 2.2)
-abbrev pub is_vector_rcnm : ℕ → Bool
-is_vector_rcnm n = (n == 110) || (n == 120) || (n == 130)
-
-abbrev pub kind_of_rcnm : ℕ → Kind
-kind_of_rcnm n = if n == 110 then Vi else (if n == 120 then Vc else (if n == 130 then Ve else Fe))
-
-abbrev pub name_in : List Subfield → RecName
-name_in row = record { kind = kind_of_rcnm (number_in row 0); id = number_in row 1 }
-
-abbrev pub names_a_vector : List Subfield → Bool
-names_a_vector row = is_vector_rcnm (number_in row 0)
-
-abbrev pub lnam_in : List Subfield → Lnam
-lnam_in row = record { agen = number_in row 0; fidn = number_in row 1; fids = number_in row 2 }
-
 abbrev pub frid_value : List Subfield → Frid
-frid_value row =
-    record { rcid = number_in row 1; prim = number_in row 2; grup = number_in row 3; objl = number_in row 4; rver = number_in row 5; ruin = number_in row 6 }
+frid_value row = record {
+  rcid = number_in row 1;
+  prim = number_in row 2;
+  grup = number_in row 3;
+  objl = number_in row 4;
+  rver = number_in row 5;
+  ruin = number_in row 6;
+}
 
 unfoldable pub frid_content : List ℕ → Result Frid FieldFault
 frid_content = row_as frid_value frid_forms (λ row. number_in row 0 == 100)

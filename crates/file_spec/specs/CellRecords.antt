@@ -11,9 +11,6 @@ use Rattle.s57_types.specs.declared.cell.Cell.{Cell}
 use Rattle.cell_spec.specs.Lookup.{name_of}
 pub use Rattle.cell_spec.specs.Writable.{record_limit}
 
-abbrev pub empty_cell : Head → Cell
-empty_cell head = record { head = head; vi = []; vc = []; ve = []; fe = [] }
-
 -- what the fields of the two head records say together
 abbrev pub head_with : Dsid → Dssi → Dspm → Head
 head_with d s p = record {
@@ -46,6 +43,9 @@ head_with d s p = record {
   somf = p.somf;
   dspm_comt = p.comt;
 }
+
+abbrev pub empty_cell : Head → Cell
+empty_cell head = record { head = head; vi = []; vc = []; ve = []; fe = [] }
 
 -- a cell with one record more in the list of a kind; the head stands in no list
 abbrev pub with_record_of_kind : Kind → Rec → Cell → Cell

@@ -37,11 +37,15 @@ use Rattle.file_spec.specs.declared.tag.RecordType.TheVariants as types
 
 abbrev pub is_general_information : RecordType → Bool
 is_general_information types.GeneralInformation = true
-is_general_information type = false
+is_general_information types.GeographicReference = false
+is_general_information types.Vector = false
+is_general_information types.Feature = false
 
 abbrev pub is_geographic_reference : RecordType → Bool
+is_geographic_reference types.GeneralInformation = false
 is_geographic_reference types.GeographicReference = true
-is_geographic_reference type = false
+is_geographic_reference types.Vector = false
+is_geographic_reference types.Feature = false
 
 -- the two head records take no more bytes than they may, when they are written again
 abbrev pub fits_general_information : Dsid → Dssi → Bool

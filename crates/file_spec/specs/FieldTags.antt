@@ -7,7 +7,7 @@ use Rattle.file_spec.specs.declared.tag.FieldTag.TheVariants.{RecordNumber, Dsid
 use Rattle.file_spec.specs.declared.tag.RecordType.{RecordType}
 use Rattle.file_spec.specs.declared.tag.RecordType.TheVariants.{GeneralInformation, GeographicReference, Vector, Feature}
 
-abbrev pub tag_text : FieldTag → List ℕ  -- four bytes
+abbrev pub tag_text : FieldTag → List ℕ
 tag_text RecordNumber = codes "0001"
 tag_text Dsid = codes "DSID"
 tag_text Dssi = codes "DSSI"
@@ -39,11 +39,19 @@ abbrev pub tag_in : RecordType → Field → Option FieldTag
 tag_in type field = find (λ tag. is_tagged tag field) (tags_of type)
 
 -- whether a record may have several fields of a tag, whose rows then join
-abbrev pub may_repeat : (tag : FieldTag) → Bool
+abbrev pub may_repeat : FieldTag → Bool
 may_repeat RecordNumber = true
+may_repeat Dsid = false
+may_repeat Dssi = false
+may_repeat Dspm = false
+may_repeat Frid = false
+may_repeat Foid = false
+may_repeat Attf = false
+may_repeat Natf = false
 may_repeat Ffpt = true
 may_repeat Fspt = true
+may_repeat Vrid = false
+may_repeat Attv = false
 may_repeat Vrpt = true
 may_repeat Sg2d = true
 may_repeat Sg3d = true
-may_repeat tag = false

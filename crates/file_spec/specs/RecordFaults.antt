@@ -9,17 +9,8 @@ use Rattle.file_spec.specs.declared.fault.RecordFault.{RecordFault}
 use Rattle.file_spec.specs.declared.fault.RecordFault.TheVariants.{Short, BadLeader, BadDirectory, BadField, MissingField, RepeatedField, ForeignTag}
 use Rattle.file_spec.specs.declared.fault.RecordFault.TheVariants.{NotBase, NotChainNode, TwiceName, HeadOrder, BadText, TooLong, TooMany}
 
-abbrev pub of_frame : FrameFault → RecordFault
-of_frame frame.Short = Short
-of_frame frame.BadLeader = BadLeader
-of_frame frame.BadDirectory = BadDirectory
-
-abbrev pub of_field : FieldFault → RecordFault
-of_field field.BadField = BadField
-of_field field.BadText = BadText
-
 -- the codes are this project's own
-abbrev pub code_of : (fault : RecordFault) → ℕ
+abbrev pub code_of : RecordFault → ℕ
 code_of Short = 1
 code_of BadLeader = 2
 code_of BadDirectory = 3
@@ -34,6 +25,15 @@ code_of HeadOrder = 11
 code_of BadText = 12
 code_of TooLong = 13
 code_of TooMany = 14
+
+abbrev pub of_frame : FrameFault → RecordFault
+of_frame frame.Short = Short
+of_frame frame.BadLeader = BadLeader
+of_frame frame.BadDirectory = BadDirectory
+
+abbrev pub of_field : FieldFault → RecordFault
+of_field field.BadField = BadField
+of_field field.BadText = BadText
 
 -- a fault of the record of a number, which begins at an offset
 abbrev pub fault_at : ℕ → ℕ → RecordFault → CellFault

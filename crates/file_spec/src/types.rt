@@ -51,10 +51,10 @@ impl Typed for Spot {
     ghost typed = { λ s. HasForms place_forms (place_row s) };
 
     fn has_its_types(&self) {
+        let _number = self.to.id;
         let _orientation = self.ornt;
         let _usage = self.usag;
         let _masking = self.mask;
-        let _number = self.to.id;
     }
 }
 
@@ -71,8 +71,8 @@ impl Typed for (i32, i32) {
 }
 
 impl Typed for (i32, i32, i32) {
-    ghost use Rattle.file_spec.specs.RoundTrip.{HasForms};
     ghost use Rattle.s57_types.specs.FieldRows.{deep_forms, deep_row};
+    ghost use Rattle.file_spec.specs.RoundTrip.{HasForms};
 
     ghost typed = { λ p. HasForms deep_forms (deep_row p) };
 

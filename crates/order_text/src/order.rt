@@ -22,6 +22,16 @@ pub enum OrderRefusal {
     NoMemory,
 }
 
+impl From<AllocError> for OrderRefusal {
+    ghost use Rattle.order_text.specs.declared.order.OrderRefusal.TheVariants.{NoMemory};
+
+    ghost from_gives = { λ error refusal. refusal ≡ NoMemory };
+
+    fn from(_error: AllocError) -> OrderRefusal {
+        OrderRefusal::NoMemory
+    }
+}
+
 /// Whether an order of so many items ends where it should.
 fn is_ended(behind: &[u8], items: usize, quotas: &[u32], used: &[u32]) -> bool
     requires { length used.now ≡ length quotas.now }
@@ -50,15 +60,5 @@ pub fn read_order(alloc: Global, bytes: &[u8], quotas: &[u32]) -> Result<Order, 
         Ok(Order::of_vec(order))
     } else {
         Err(OrderRefusal::BadPlace(items.len() as u32 + 1))
-    }
-}
-
-impl From<AllocError> for OrderRefusal {
-    ghost use Rattle.order_text.specs.declared.order.OrderRefusal.TheVariants.{NoMemory};
-
-    ghost from_gives = { λ error refusal. refusal ≡ NoMemory };
-
-    fn from(_error: AllocError) -> OrderRefusal {
-        OrderRefusal::NoMemory
     }
 }

@@ -94,9 +94,9 @@ impl<A: Ord + Copy + Drop, B: Ord + Copy + Drop> PairSet<A, B> {
     fn take_lost(
         &mut self,
         alloc: Global,
+        second: B,
         old: &[A],
         new: &[A],
-        second: B,
     ) -> Result<(), AllocError>
         requires exact { (a b : A) → A.cmp a b ≡ Equal → a ≡ b }
         requires sorted { IsStrictlySortedBy A.cmp new.now }
@@ -142,7 +142,7 @@ impl<A: Ord + Copy + Drop, B: Ord + Copy + Drop> PairSet<A, B> {
         ensures { OnOk result ((a : A) (b : B) →
             has_pair A.cmp B.cmp self.new a b ≡ (if is_eq (B.cmp second b) then is_among A.cmp new.now a else has_pair A.cmp B.cmp self.old a b)) }
     {
-        self.take_lost(alloc, old, new, second)?;
+        self.take_lost(alloc, second, old, new)?;
         self.put_gained(alloc, second, new)
     }
 }

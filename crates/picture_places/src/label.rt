@@ -1,9 +1,9 @@
 //! Where the number of a mark stands.
 
 ghost use Rattle.std.specs.Prelude.{◌≡◌, ◌<◌, ◌≤◌, ◌+◌, ◌-◌, ◌/◌, min};
+ghost use Rattle.picture_places.specs.Labels.{anchor_of as spec_anchor_of, field_of as spec_field_of, free_field as spec_free_field};
 ghost use Rattle.picture_places.specs.Labels.{half_way as spec_half_way, is_free as spec_is_free, label_point as spec_label_point};
 ghost use Rattle.picture_places.specs.Labels.{middle_of as spec_middle_of, turned as spec_turned};
-ghost use Rattle.picture_places.specs.Labels.{anchor_of as spec_anchor_of, field_of as spec_field_of, free_field as spec_free_field};
 
 use crate::page::{PAGE_LEFT, PAGE_TOP, PagePoint};
 use crate::stroke::Stroke;

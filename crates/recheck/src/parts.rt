@@ -47,8 +47,8 @@ fn find<'a, B: Look>(alloc: Global, look: &'a B, name: RecName) -> Result<ChainP
 fn find_all<'a, R: Threads + Sync, B: Look + Sync>(
     rt: &R,
     alloc: Global,
-    names: &[RecName],
     look: &'a B,
+    names: &[RecName],
 ) -> Result<Vec<ChainPart<'a>>, AllocError>
     requires { All (λ n. IsTrue (is_chain_part (B.cell look.now) n)) names.now }
     ensures { IfOk result (λ parts. All (IsPart (B.cell look.now)) parts.items) }
@@ -79,5 +79,5 @@ pub(crate) fn parts_of<'a, R: Threads + Sync, B: Look + Sync>(
     ensures { IfOk result (λ parts. All (IsPart (B.cell look.now)) parts.items) }
 {
     let names = part_names(alloc, subjects)?;
-    find_all(rt, alloc, names.as_slice(), look)
+    find_all(rt, alloc, look, names.as_slice())
 }

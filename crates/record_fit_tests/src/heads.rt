@@ -11,20 +11,18 @@ use std::test::Fail;
 
 /// The values of the second head record, with this comment.
 fn parameters(comt: Text) -> Dspm {
-    let (hdat, vdat, sdat) = (2, 23, 23);
-    let (duni, huni, puni, coun) = (1, 1, 1, 1);
     Dspm {
         rcid: 1,
+        hdat: 2,
+        vdat: 23,
+        sdat: 23,
         cscl: 10_000,
+        duni: 1,
+        huni: 1,
+        puni: 1,
+        coun: 1,
         comf: 10_000_000,
         somf: 10,
-        hdat,
-        vdat,
-        sdat,
-        duni,
-        huni,
-        puni,
-        coun,
         comt,
     }
 }

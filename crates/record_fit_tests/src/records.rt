@@ -34,15 +34,15 @@ fn vector(alloc: Global, kind: Kind, attrs: Attrs) -> Vector {
 fn feature(alloc: Global, kind: Kind, natf: Attrs) -> Feature {
     Feature {
         name: name(kind),
+        prim: 3,
+        grup: 1,
+        objl: 42,
+        rver: 1,
         foid: Lnam {
             agen: 1,
             fidn: 2,
             fids: 3,
         },
-        prim: 3,
-        grup: 1,
-        objl: 42,
-        rver: 1,
         attf: Attrs::make(alloc),
         natf,
         partners: Partners::make(alloc),

@@ -1,10 +1,10 @@
 //! The store of a whole cell.
 
 ghost use Rattle.std.specs.Prelude.{◌≡◌, ◌++◌, IfOk, OnOk, flat_map, map};
-ghost use Rattle.cell_spec.specs.Ascending.{ascending};
-ghost use Rattle.cell_spec.specs.Edits.{keys_answered_by};
 ghost use Rattle.std.specs.Borrow.{Bor};
 ghost use Rattle.s57_types.specs.declared.record.Rec.{Rec as SpecRec};
+ghost use Rattle.cell_spec.specs.Ascending.{ascending};
+ghost use Rattle.cell_spec.specs.Edits.{keys_answered_by};
 ghost use Rattle.cell_spec.specs.Names.{key_order};
 ghost use Rattle.cell_spec.specs.Readable.{IsReadable};
 ghost use Rattle.cell_spec.specs.Writable.{IsWritable};

@@ -177,10 +177,10 @@ impl Records {
         orders_are_by_parts();
         edits_leave_their_records();
         let Records {
-            mut names,
-            mut lists,
             head,
             named_head,
+            mut names,
+            mut lists,
         } = self;
         lists.known();
         let place = place_for(&names, &lists, name)?;

@@ -3,11 +3,11 @@
 ghost use Rattle.std.specs.Prelude.{◌≡◌, ◌+◌, ◌-◌, ◌/◌, ◌<◌, ◌≤◌, ◌++◌, [], Bool, List, ℕ, Some, drop, length, take, IfOk, IfSome, OnOk, OnErr};
 ghost use Rattle.std.specs.Simd.{first_chunks};
 ghost use Rattle.std.specs.Option.{option_map};
+ghost use Rattle.s57_types.specs.Subfield.{Form, Subfield, row_bytes};
 ghost use Rattle.field_spec.specs.Contents.{rows_as};
 ghost use Rattle.s57_fields.specs.Appending.{KeepsFront};
 ghost use Rattle.s57_fields.specs.Gives.{Gives};
 ghost use Rattle.s57_fields.specs.RowCutting.{take_row, rows_from, with_front, content_of_rows};
-ghost use Rattle.s57_types.specs.Subfield.{Form, Subfield, row_bytes};
 
 use crate::cut::field_body_at;
 use crate::refusal::FieldRefusal;

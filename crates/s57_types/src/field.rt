@@ -4,7 +4,7 @@ use crate::items::Text;
 use crate::name::RecName;
 
 /// The data set identification field DSID (S-57 Part 3, 7.3.1.1). RCNM isn't kept, since it is 10.
-#[derive(Debug, Drop)]
+#[derive(Debug)]
 pub struct Dsid {
     pub rcid: u32,
     pub expp: u8,
@@ -23,6 +23,61 @@ pub struct Dsid {
     pub comt: Text,
 }
 
+impl Drop for Dsid {
+    fn drop(self) {
+        let Dsid {
+            rcid: _,
+            expp: _,
+            intu: _,
+            dsnm: _,
+            edtn: _,
+            updn: _,
+            uadt: _uadt,
+            isdt: _isdt,
+            sted: _sted,
+            prsp: _,
+            psdn: _,
+            pred: _,
+            prof: _,
+            agen: _,
+            comt: _,
+        } = self;
+    }
+}
+
+impl Dsid {
+    ghost use Rattle.std.specs.Prelude.{◌≡◌};
+
+    /// Its texts: DSNM, EDTN, UPDN, PSDN, PRED and COMT. It takes no memory.
+    pub fn into_texts(self) -> (Text, Text, Text, Text, Text, Text)
+        ensures dsnm { result.0 ≡ self.dsnm }
+        ensures edtn { result.1 ≡ self.edtn }
+        ensures updn { result.2 ≡ self.updn }
+        ensures psdn { result.3 ≡ self.psdn }
+        ensures pred { result.4 ≡ self.pred }
+        ensures comt { result.5 ≡ self.comt }
+    {
+        let Dsid {
+            rcid: _,
+            expp: _,
+            intu: _,
+            dsnm,
+            edtn,
+            updn,
+            uadt: _uadt,
+            isdt: _isdt,
+            sted: _sted,
+            prsp: _,
+            psdn,
+            pred,
+            prof: _,
+            agen: _,
+            comt,
+        } = self;
+        (dsnm, edtn, updn, psdn, pred, comt)
+    }
+}
+
 /// The data set structure information field DSSI (S-57 Part 3, 7.3.1.2). The counts are NOMR, NOCR, NOGR, NOLR,
 /// NOIN, NOCN, NOED and NOFA.
 #[derive(Clone, Copy, Debug, PartialEq, Eq)]
@@ -34,7 +89,7 @@ pub struct Dssi {
 }
 
 /// The data set parameter field DSPM (S-57 Part 3, 7.3.2.1). RCNM isn't kept, since it is 20.
-#[derive(Debug, Drop)]
+#[derive(Debug)]
 pub struct Dspm {
     pub rcid: u32,
     pub hdat: u8,
@@ -48,6 +103,50 @@ pub struct Dspm {
     pub comf: u32,
     pub somf: u32,
     pub comt: Text,
+}
+
+impl Drop for Dspm {
+    fn drop(self) {
+        let Dspm {
+            rcid: _,
+            hdat: _,
+            vdat: _,
+            sdat: _,
+            cscl: _,
+            duni: _,
+            huni: _,
+            puni: _,
+            coun: _,
+            comf: _,
+            somf: _,
+            comt: _,
+        } = self;
+    }
+}
+
+impl Dspm {
+    ghost use Rattle.std.specs.Prelude.{◌≡◌};
+
+    /// Its comment COMT. It takes no memory.
+    pub fn into_comment(self) -> Text
+        ensures { result ≡ self.comt }
+    {
+        let Dspm {
+            rcid: _,
+            hdat: _,
+            vdat: _,
+            sdat: _,
+            cscl: _,
+            duni: _,
+            huni: _,
+            puni: _,
+            coun: _,
+            comf: _,
+            somf: _,
+            comt,
+        } = self;
+        comt
+    }
 }
 
 /// The feature record identifier field FRID (S-57 Part 3, 7.6.1). RCNM isn't kept, since it is 100.

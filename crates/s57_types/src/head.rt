@@ -8,7 +8,7 @@ use std::alloc::{AllocError, Global};
 
 /// What the two head records of a cell say (S-57 Part 3, 7.3): the data set identification (DSID), the
 /// attribute levels of the data set structure information (DSSI) and the data set parameters (DSPM).
-#[derive(Debug, Drop)]
+#[derive(Debug)]
 pub struct Head {
     pub dsid_rcid: u32,
     pub intu: u8,
@@ -40,6 +40,41 @@ pub struct Head {
     pub dspm_comt: Text,
 }
 
+impl Drop for Head {
+    fn drop(self) {
+        let Head {
+            dsid_rcid: _,
+            intu: _,
+            dsnm: _,
+            edtn: _,
+            updn: _,
+            uadt: _uadt,
+            isdt: _isdt,
+            sted: _sted,
+            prsp: _,
+            psdn: _,
+            pred: _,
+            prof: _,
+            agen: _,
+            dsid_comt: _,
+            aall: _,
+            nall: _,
+            dspm_rcid: _,
+            hdat: _,
+            vdat: _,
+            sdat: _,
+            cscl: _,
+            duni: _,
+            huni: _,
+            puni: _,
+            coun: _,
+            comf: _,
+            somf: _,
+            dspm_comt: _,
+        } = self;
+    }
+}
+
 impl Head {
     ghost use Rattle.s57_types.specs.Heads.{edited_head};
     ghost use Rattle.std.specs.Prelude.{IfOk};
@@ -50,15 +85,15 @@ impl Head {
     pub fn edited(&self, alloc: Global, edit: &HeadEdit) -> Result<Head, AllocError>
         ensures { IfOk result (λ head. head ≡ edited_head edit.now self.now) }
     {
-        Ok(Head {
-            edtn: edit.edtn.copy(alloc)?,
-            updn: edit.updn.copy(alloc)?,
-            uadt: edit.uadt,
-            isdt: edit.isdt,
-            aall: edit.aall.number(),
-            dsid_comt: edit.comt.copy(alloc)?,
-            ..self.copy(alloc)?
-        })
+        let (uadt, isdt) = (edit.uadt, edit.isdt);
+        let mut head = self.copy(alloc)?;
+        head.edtn = edit.edtn.copy(alloc)?;
+        head.updn = edit.updn.copy(alloc)?;
+        head.uadt = uadt;
+        head.isdt = isdt;
+        head.aall = edit.aall.number();
+        head.dsid_comt = edit.comt.copy(alloc)?;
+        Ok(head)
     }
 }
 
@@ -87,7 +122,7 @@ impl Level {
 
 /// New values of a head (S-57 Part 3, 7.3.1): the edition and update number EDTN and UPDN, the dates UADT and ISDT, the level AALL of general
 /// texts, and the comment COMT of the data set identification.
-#[derive(Debug, Drop)]
+#[derive(Debug)]
 pub struct HeadEdit {
     pub edtn: Text,
     pub updn: Text,
@@ -95,4 +130,17 @@ pub struct HeadEdit {
     pub isdt: [u8; 8],
     pub aall: Level,
     pub comt: Text,
+}
+
+impl Drop for HeadEdit {
+    fn drop(self) {
+        let HeadEdit {
+            edtn: _,
+            updn: _,
+            uadt: _uadt,
+            isdt: _isdt,
+            aall: _,
+            comt: _,
+        } = self;
+    }
 }

@@ -44,16 +44,16 @@ pub record IsSoundingOfWidth (p : ℤ × ℤ × ℤ) : Type 0 where
   pub longitude : FitsSigned w32 p.1
   pub depth : FitsSigned w32 p.2
 
+pub record IsPartnerOfWidth (p : Partner) : Type 0 where
+  pub to : IsIdentityOfWidth p.to
+  pub rind : p.rind < 2 ^ 8
+  pub comt : IsTextOfWidth p.comt
+
 pub record IsPlaceOfWidth (s : Spot) : Type 0 where
   pub to : IsNameOfWidth s.to
   pub ornt : s.ornt < 2 ^ 8
   pub usag : s.usag < 2 ^ 8
   pub mask : s.mask < 2 ^ 8
-
-pub record IsPartnerOfWidth (p : Partner) : Type 0 where
-  pub to : IsIdentityOfWidth p.to
-  pub rind : p.rind < 2 ^ 8
-  pub comt : IsTextOfWidth p.comt
 
 pub record IsVectorOfWidth (v : Vector) : Type 0 where
   pub name : IsNameOfWidth v.name
@@ -65,11 +65,11 @@ pub record IsVectorOfWidth (v : Vector) : Type 0 where
 
 pub record IsFeatureOfWidth (f : Feature) : Type 0 where
   pub name : IsNameOfWidth f.name
-  pub foid : IsIdentityOfWidth f.foid
   pub rver : f.rver < 2 ^ 16
   pub prim : f.prim < 2 ^ 8
   pub grup : f.grup < 2 ^ 8
   pub objl : f.objl < 2 ^ 16
+  pub foid : IsIdentityOfWidth f.foid
   pub attf : All IsAttributeOfWidth f.attf
   pub natf : All IsAttributeOfWidth f.natf
   pub partners : All IsPartnerOfWidth f.partners

@@ -78,7 +78,6 @@ pub fn feature_of(alloc: Global, words: &[u8]) -> Result<Feature, AllocError>
 {
     let (kind, words) = next_part(b' ', words);
     let (id, words) = next_part(b' ', words);
-    let name = name_of(kind, id);
     let (rver, words) = next_part(b' ', words);
     let (prim, words) = next_part(b' ', words);
     let (grup, words) = next_part(b' ', words);
@@ -86,7 +85,7 @@ pub fn feature_of(alloc: Global, words: &[u8]) -> Result<Feature, AllocError>
     let (foid, words) = identity_of_words(words);
     let items = items_of(alloc, words)?;
     Ok(Feature {
-        name,
+        name: name_of(kind, id),
         prim: byte_of(prim),
         grup: byte_of(grup),
         objl: short_of(objl),

@@ -137,6 +137,21 @@ fn place_of(parts: &[u8]) -> Spot
     }
 }
 
+/// Appends the attribute that a word stands for, if it begins with this letter.
+pub fn take_attribute(
+    alloc: Global,
+    letter: u8,
+    word: &[u8],
+    attrs: &mut Attrs,
+) -> Result<(), AllocError>
+    ensures { OnOk result (IsListTaken letter (attribute_item (letter ∷ [])) IsAttributeOfWidth word.now attrs.old attrs.new) }
+{
+    match behind_letter(letter, word) {
+        Some(parts) => attrs.push(attribute_of(alloc, parts)?),
+        None => Ok(()),
+    }
+}
+
 /// Appends the pointer that a word stands for, if it is one of a vector record.
 pub fn take_end(word: &[u8], ends: &mut Ends) -> Result<(), AllocError>
     ensures { OnOk result (IsListTaken 101 end_item IsEndOfWidth word.now ends.old ends.new) }
@@ -163,21 +178,6 @@ pub fn take_sounding(word: &[u8], deep: &mut Deep) -> Result<(), AllocError>
 {
     match behind_letter(b'd', word) {
         Some(parts) => deep.push(sounding_of(parts)),
-        None => Ok(()),
-    }
-}
-
-/// Appends the attribute that a word stands for, if it begins with this letter.
-pub fn take_attribute(
-    alloc: Global,
-    letter: u8,
-    word: &[u8],
-    attrs: &mut Attrs,
-) -> Result<(), AllocError>
-    ensures { OnOk result (IsListTaken letter (attribute_item (letter ∷ [])) IsAttributeOfWidth word.now attrs.old attrs.new) }
-{
-    match behind_letter(letter, word) {
-        Some(parts) => attrs.push(attribute_of(alloc, parts)?),
         None => Ok(()),
     }
 }

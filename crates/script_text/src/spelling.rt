@@ -99,15 +99,6 @@ pub fn can_stand(command: &Command) -> bool
     }
 }
 
-/// Appends the line of a guard.
-fn push_guard(line: &mut Vec<u8>, name: RecName) -> Result<(), AllocError>
-    ensures { OnOk result (line.new.items ≡ line.old.items ++ command_line (Command.Guard name)) }
-{
-    push_text(line, "guard")?;
-    push_name(line, name)?;
-    push_text(line, "\n")
-}
-
 /// Appends the line of a command.
 ///
 /// An `Err` means out of memory.
@@ -131,5 +122,14 @@ fn push_list(line: &mut Vec<u8>, shown: u32) -> Result<(), AllocError>
 {
     push_text(line, "list")?;
     push_number(line, shown)?;
+    push_text(line, "\n")
+}
+
+/// Appends the line of a guard.
+fn push_guard(line: &mut Vec<u8>, name: RecName) -> Result<(), AllocError>
+    ensures { OnOk result (line.new.items ≡ line.old.items ++ command_line (Command.Guard name)) }
+{
+    push_text(line, "guard")?;
+    push_name(line, name)?;
     push_text(line, "\n")
 }

@@ -5,10 +5,10 @@ ghost use Rattle.s57_types.specs.declared.record.Vector.{Vector};
 ghost use Rattle.s57_types.specs.declared.name.Kind.{Kind};
 ghost use Rattle.s57_types.specs.declared.name.RecName.{RecName};
 ghost use Rattle.text_spec.specs.CellText.{kind_word, name_words};
-ghost use Rattle.script_text.specs.Items.{AreVectorItems, AreVectorItemsOf};
 ghost use Rattle.text_spec.specs.EditLine.{vector_words};
 ghost use Rattle.text_spec.specs.Lines.{spaced_words};
 ghost use Rattle.script_text.specs.Cuts.{IsFrom};
+ghost use Rattle.script_text.specs.Items.{AreVectorItems, AreVectorItemsOf};
 ghost use Rattle.script_text.specs.Widths.{IsNameOfWidth, IsVectorOfWidth};
 
 use crate::cut::next_part;
@@ -43,13 +43,13 @@ fn take_item(alloc: Global, word: &[u8], items: &mut VectorItems) -> Result<(), 
 fn items_of(alloc: Global, text: &[u8]) -> Result<VectorItems, AllocError>
     ensures { IfOk result (λ items. AreVectorItemsOf text.now items) }
 {
-    let mut rest = text;
     let mut items = VectorItems {
         attrs: Attrs::make(alloc),
         ends: Ends::make(alloc),
         plane: Plane::make(alloc),
         deep: Deep::make(alloc),
     };
+    let mut rest = text;
     while !rest.is_empty() {
         let (word, behind) = next_part(b' ', rest);
         take_item(alloc, word, &mut items)?;

@@ -14,14 +14,14 @@ use Rattle.rule_spec.specs.Kinds.{kind_name, number_count}
 use Rattle.rule_spec.specs.Findings.{all_findings}
 use Rattle.text_spec.specs.Lines.{line}
 
-abbrev pub kind_word : (kind : Kind) → List ℕ
+abbrev pub kind_word : Kind → List ℕ
 kind_word Vi = codes "vi"
 kind_word Vc = codes "vc"
 kind_word Ve = codes "ve"
 kind_word Fe = codes "fe"
 kind_word Head = codes "head"
 
-abbrev pub name_words : (name : RecName) → List (List ℕ)
+abbrev pub name_words : RecName → List (List ℕ)
 name_words n = kind_word n.kind ∷ decimal n.id ∷ []
 
 -- a subject: its sort, and the others of its words

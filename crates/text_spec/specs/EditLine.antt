@@ -3,7 +3,7 @@ use Rattle.std.specs.Prelude.{ℕ, ℤ, ◌+◌, ◌/◌, ◌%◌, ◌==◌, ◌
 use Rattle.std.specs.Fmt.{decimal, signed_decimal}
 use Rattle.std.specs.List.{flat_map, list_all}
 use Rattle.s57_types.specs.declared.name.Kind.{Kind}
-use Rattle.s57_types.specs.declared.name.Kind.TheVariants.{Fe, Head as HeadKind}
+use Rattle.s57_types.specs.declared.name.Kind.TheVariants.{Vi, Vc, Ve, Fe, Head as HeadKind}
 use Rattle.s57_types.specs.declared.name.RecName.{RecName}
 use Rattle.s57_types.specs.declared.record.Attr.{Attr}
 use Rattle.s57_types.specs.declared.record.End.{End}
@@ -98,12 +98,18 @@ edit_line (Del n) = line (codes "del") (name_words n)
 edit_line (Head e) = line (codes "set") (codes "head" ∷ head_words e)
 
 abbrev pub is_feature : Kind → Bool
+is_feature Vi = false
+is_feature Vc = false
+is_feature Ve = false
 is_feature Fe = true
-is_feature kind = false
+is_feature HeadKind = false
 
 abbrev pub is_head : Kind → Bool
+is_head Vi = false
+is_head Vc = false
+is_head Ve = false
+is_head Fe = false
 is_head HeadKind = true
-is_head kind = false
 
 -- a record has a line where it is of the sort that its kind says, and none of its pointers names the head
 abbrev pub record_has_line : Rec → Bool

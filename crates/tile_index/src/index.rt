@@ -30,6 +30,16 @@ pub struct TileIndex {
     oversized: SharedTable<RecName, ()>,
 }
 
+impl Drop for TileIndex {
+    fn drop(self) {
+        let TileIndex {
+            kept: _,
+            in_tiles: _,
+            oversized: _,
+        } = self;
+    }
+}
+
 impl Model for TileIndex {
     ghost use Rattle.std.specs.Prelude.{List};
     ghost use Rattle.s57_types.specs.declared.name.RecName.{RecName};
@@ -42,16 +52,6 @@ impl Model for TileIndex {
     ghost view = { λ i. i.kept };
 
     ghost invariant = { λ i. IsTiling i.kept i.in_tiles i.oversized };
-}
-
-impl Drop for TileIndex {
-    fn drop(self) {
-        let TileIndex {
-            kept: _,
-            in_tiles: _,
-            oversized: _,
-        } = self;
-    }
 }
 
 /// The whole of an index after some changes, seen as its rows.
@@ -283,12 +283,12 @@ impl TileIndex {
     fn with_cover(self, alloc: Global, name: RecName, cover: Cover) -> Result<TileIndex, AllocError>
         ensures { IfOk result (λ index. index ≡ with_row name_order self name cover) }
     {
+        orders_are_by_parts();
         let TileIndex {
             mut kept,
             mut in_tiles,
             mut oversized,
         } = self;
-        orders_are_by_parts();
         let old = tiles_at(alloc, &kept, name)?;
         in_tiles.replace(alloc, name, &old, &cover.tiles(alloc)?)?;
         mark(alloc, &mut oversized, name, cover.is_oversized())?;

@@ -51,6 +51,16 @@ impl OpRefusal {
     }
 }
 
+impl From<AllocError> for OpRefusal {
+    ghost use Rattle.topo_ops.specs.declared.refusal.OpRefusal.TheVariants.{NoMemory};
+
+    ghost from_gives = { λ _ refusal. refusal ≡ NoMemory };
+
+    fn from(_error: AllocError) -> OpRefusal {
+        OpRefusal::NoMemory
+    }
+}
+
 impl From<FormRefusal> for OpRefusal {
     ghost use Rattle.topo_ops.specs.Refusals.{refusal_of_form};
 
@@ -61,15 +71,5 @@ impl From<FormRefusal> for OpRefusal {
             FormRefusal::Fault(fault) => OpRefusal::Form(fault),
             FormRefusal::NoMemory => OpRefusal::NoMemory,
         }
-    }
-}
-
-impl From<AllocError> for OpRefusal {
-    ghost use Rattle.topo_ops.specs.declared.refusal.OpRefusal.TheVariants.{NoMemory};
-
-    ghost from_gives = { λ _ refusal. refusal ≡ NoMemory };
-
-    fn from(_error: AllocError) -> OpRefusal {
-        OpRefusal::NoMemory
     }
 }

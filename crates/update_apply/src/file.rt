@@ -137,9 +137,9 @@ fn read_behind(
     bytes: &[u8],
     at: usize,
 ) -> Result<Earlier, UpdateRefusal>
-    requires small { length bytes.now ≤ 16777216 }
     requires look { look.now ≡ cell.now }
     requires within { at ≤ length bytes.now }
+    requires small { length bytes.now ≤ 16777216 }
     ensures { GivesFile result (edits_behind cell.now (edit, level) (records_after bytes.now at false)) }
 {
     match read_following(alloc, look, cell.head.nall, level, bytes, at) {

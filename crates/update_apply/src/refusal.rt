@@ -34,26 +34,13 @@ impl StepRefusal {
         ensures { result ≡ refusal_at number offset self }
     {
         match self {
-            StepRefusal::Fault(fault) => {
-                let code = fault.code();
-                UpdateRefusal::Fault(CellFault {
-                    number,
-                    offset,
-                    code,
-                })
-            }
+            StepRefusal::Fault(fault) => UpdateRefusal::Fault(CellFault {
+                number,
+                offset,
+                code: fault.code(),
+            }),
             StepRefusal::NoMemory => UpdateRefusal::NoMemory,
         }
-    }
-}
-
-impl From<AllocError> for UpdateRefusal {
-    ghost use Rattle.update_apply.specs.declared.refusal.UpdateRefusal.TheVariants.{NoMemory as NoRoom};
-
-    ghost from_gives = { λ _ refusal. refusal ≡ NoRoom };
-
-    fn from(_error: AllocError) -> UpdateRefusal {
-        UpdateRefusal::NoMemory
     }
 }
 
@@ -78,5 +65,15 @@ impl From<AllocError> for StepRefusal {
 
     fn from(_error: AllocError) -> StepRefusal {
         StepRefusal::NoMemory
+    }
+}
+
+impl From<AllocError> for UpdateRefusal {
+    ghost use Rattle.update_apply.specs.declared.refusal.UpdateRefusal.TheVariants.{NoMemory as NoRoom};
+
+    ghost from_gives = { λ _ refusal. refusal ≡ NoRoom };
+
+    fn from(_error: AllocError) -> UpdateRefusal {
+        UpdateRefusal::NoMemory
     }
 }

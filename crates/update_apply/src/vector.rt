@@ -158,8 +158,8 @@ fn vector_deletion(look: &ListLook<'_>, vrid: Vrid) -> Result<Edit, UpdateFault>
 #[tactic(auto, unfolding(update_spec::specs::UpdateRecords::vector_edit))]
 fn vector_modification(
     alloc: Global,
-    nall: u8,
     look: &ListLook<'_>,
+    nall: u8,
     vrid: Vrid,
     frame: &Frame<'_>,
 ) -> Result<Edit, StepRefusal>
@@ -197,6 +197,6 @@ pub fn vector_edit(
             Ok(edit) => Ok(edit),
             Err(fault) => Err(StepRefusal::Fault(fault)),
         },
-        Instruction::Modify => vector_modification(alloc, nall, look, vrid, frame),
+        Instruction::Modify => vector_modification(alloc, look, nall, vrid, frame),
     }
 }

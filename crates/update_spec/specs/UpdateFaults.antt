@@ -21,10 +21,10 @@ update_code WrongEdition = 21
 update_code WrongUpdate = 22
 update_code TooManyEdits = 23
 
--- what a cell file's definitions say of a record, or the fault that they find
-abbrev pub of_record : {X : Type 0} → Result X RecordFault → Result X UpdateFault
-of_record said = result_map_both (λ x. x) Record said
-
 -- a fault of the record of a number, which begins at an offset
 abbrev pub update_fault_at : ℕ → ℕ → UpdateFault → CellFault
 update_fault_at number offset fault = record { number = number; offset = offset; code = update_code fault }
+
+-- what a cell file's definitions say of a record, or the fault that they find
+abbrev pub of_record : {X : Type 0} → Result X RecordFault → Result X UpdateFault
+of_record said = result_map_both (λ x. x) Record said
