@@ -28,7 +28,7 @@ returns-clause-found c = λ feature width spelled.
     (free_number 32 feature.objl (omega arith) (omega (arith, width.objl))).free refl five.1 in
     let identity = c.identity_of_words.ensures.found feature.foid items width.foid (from_parts 32 (feature_items feature)) six.1 in
     let lists = feature_items_are feature _ _ width c.in_ok-items.ensures identity.1 in
-    same_feature _ _ _ _ _ _ _ _ _ _ feature (c.name_of-name.ensures feature.name width.name one.0 two.0) (c.byte_of.ensures feature.prim width.prim four.0)
+    same_feature _ _ _ _ _ _ _ _ _ _ feature (c.name_of.ensures feature.name width.name one.0 two.0) (c.byte_of.ensures feature.prim width.prim four.0)
     (c.byte_of-2.ensures feature.grup width.grup five.0) (c.short_of.ensures feature.objl width.objl six.0)
     (c.short_of-2.ensures feature.rver width.rver three.0)
     identity.0 lists.attf lists.natf lists.partners lists.places
