@@ -57,7 +57,7 @@ pub fn head(alloc: Global, comment: Text) -> Result<Head, AllocError> {
         coun: values.coun,
         comf: values.comf,
         somf: values.somf,
-        dspm_comt: values.comt,
+        dspm_comt: values.into_comment(),
     })
 }
 
