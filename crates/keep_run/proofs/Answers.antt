@@ -1,5 +1,5 @@
 -- What the steps of a session over a journal answer, as answers of the whole.
-use Rattle.std.proofs.Common.{◌≡◌, inl, inr, ℕ, ◌≤◌, List, Option, None, Some, Ok, Err, refl, sym, subst, ◌∙◌}
+use Rattle.std.proofs.Common.{◌≡◌, inl, inr, ℕ, ◌≤◌, List, Option, None, Some, Ok, Err, refl, ◌∙◌}
 use Rattle.std.specs.Prelude.{IfSome}
 use Rattle.enc_outside.specs.Files.{Files}
 use Rattle.s57_types.specs.declared.cell.Cell.{Cell}
@@ -20,14 +20,6 @@ use Rattle.keep_run.specs.Causes.{AreGiven, InputIs, IsAskedOf, IsImageIn, IsInp
 use Rattle.keep_run.specs.Keeps.{IsKeepEnd, IsKept, IsKeptImage}
 use Rattle.keep_run.specs.Words.{KeepForm}
 use Rattle.keep_run.specs.declared.report.Kept.{Kept}
-
--- the cell and the script that the input files gave, told of the files as they were before the cell was read
-pub given_of : (form : KeepForm) (old mid : Option Files) (read start : Cell) (script : List Command) → start ≡ read → mid ≡ old
-    → IfSome old (λ fs. CellIs form.cell fs (Ok read)) → IfSome mid (λ fs. ScriptIs 1 form.script fs (Ok script)) → AreGiven form old start script
-given_of form old mid read start script is_start same cell_is script_is = record {
-  cell_is = subst (λ (c : Cell). IfSome old (λ fs. CellIs form.cell fs (Ok c))) (sym is_start) cell_is;
-  script_is = subst (λ (told : Option Files). IfSome told (λ fs. ScriptIs 1 form.script fs (Ok script))) same script_is;
-}
 
 module _ (form : KeepForm) (files : Option Files) (reads : ℕ) (content now : Option (List ℕ)) (faults faults_now : ℕ) (images : List ℕ → Type 0) where
   -- a status at which the input files end the call
@@ -155,12 +147,3 @@ module _ {D : Type 0} (moment : D → ℕ) (left_since : D → ℕ → List ℕ 
   kept_meanwhile form files (Some file) old new c script good read leaves =
       weakened moment left_since old new (IsKeptImage c script file (images old)) (IsImageIn (Some form) files file (images old)) leaves
       (λ image is. inr (record { start = c; script = script; given = record { cell_is = good; script_is = read }; is = is }))
-
-  -- while it is kept, of what the input files gave
-  pub kept_of : (form : KeepForm) (old mid : Option Files) (content : Option (List ℕ)) (before new : D) (read start : Cell) (script : List Command)
-      → start ≡ read → mid ≡ old → IfSome old (λ fs. CellIs form.cell fs (Ok read)) → IfSome mid (λ fs. ScriptIs 1 form.script fs (Ok script))
-      → IfSome content (λ file. LeavesOnly moment left_since before new (IsKeptImage start script file (images before)))
-      → IfSome content (λ file. LeavesOnly moment left_since before new (IsImageIn (Some form) old file (images before)))
-  kept_of form old mid content before new read start script is_start same cell_is script_is leaves =
-      let given = given_of form old mid read start script is_start same cell_is script_is in
-      kept_meanwhile form old content before new start script given.cell_is given.script_is leaves

@@ -169,12 +169,22 @@ module _ (before after : Outside) (content now : Option (List ℕ)) (faults faul
     expected_of form TooManyFindings cause = inl (input_ends form TooManyFindings cause.1)
     expected_of form (BadUpdate fault) cause = absurd cause.1
     expected_of form (Refused refusal) cause = absurd cause.1
-    expected_of form (BadJournal place) cause = let end = cause.1 in
-        inl (inl ((end.start, end.script), given_is form end.start end.script end.given, inr (BadJournal place, at_bytes _ end.ends, refl)))
+    expected_of form (BadJournal place) cause =
+        let end = cause.1 in inl (inl (
+          (end.start, end.script),
+          given_is form end.start end.script end.given,
+          inr
+              (BadJournal place, at_bytes _ end.ends, refl),
+        ))
     expected_of form DiskFault cause = absurd (calm cause.1.rose)
     expected_of form (OpRefused why) cause = absurd cause.1
-    expected_of form (JournalFull count) cause = let end = cause.1 in
-        inl (inl ((end.start, end.script), given_is form end.start end.script end.given, inr (JournalFull count, at_bytes _ end.ends, refl)))
+    expected_of form (JournalFull count) cause =
+        let end = cause.1 in inl (inl (
+          (end.start, end.script),
+          given_is form end.start end.script end.given,
+          inr
+              (JournalFull count, at_bytes _ end.ends, refl),
+        ))
 
     pub expected : (form : Option KeepForm) (status : Status) → IsCauseIn form before after content now faults faults_now images status
         → IsExpectedIn form files file status ⊎ (status ≡ NoMemory)
