@@ -10,32 +10,8 @@ use Rattle.file_spec.specs.DecodedCell.{decoded_records, general_information, ge
 use Rattle.file_spec.specs.EncodedCell.{encoded_cell}
 use Rattle.file_samples.proofs.law.faults_are_found.Goals as goal
 
-pub returns-clause-each : goal.returns-clause-each
+pub returns : goal.returns
 unfolding digits written_record frame_at is_leader is_entry is_directory dsid_content dssi_content dspm_content frid_content
     foid_content attribute_content partner_content place_content vrid_content end_content plane_content deep_content records_from
     records_after fields_fault decoded_records general_information geographic_reference with_following record_behind encoded_cell
-returns-clause-each c = refl
-
-pub returns-clause-steps : goal.returns-clause-steps
-unfolding digits written_record frame_at is_leader is_entry is_directory dsid_content dssi_content dspm_content frid_content
-    foid_content attribute_content partner_content place_content vrid_content end_content plane_content deep_content records_from
-    records_after fields_fault decoded_records general_information geographic_reference with_following record_behind encoded_cell
-returns-clause-steps c = refl
-
-pub returns-clause-fields : goal.returns-clause-fields
-unfolding digits written_record frame_at is_leader is_entry is_directory dsid_content dssi_content dspm_content frid_content
-    foid_content attribute_content partner_content place_content vrid_content end_content plane_content deep_content records_from
-    records_after fields_fault decoded_records general_information geographic_reference with_following record_behind encoded_cell
-returns-clause-fields c = refl
-
-pub returns-clause-records : goal.returns-clause-records
-unfolding digits written_record frame_at is_leader is_entry is_directory dsid_content dssi_content dspm_content frid_content
-    foid_content attribute_content partner_content place_content vrid_content end_content plane_content deep_content records_from
-    records_after fields_fault decoded_records general_information geographic_reference with_following record_behind encoded_cell
-returns-clause-records c = refl
-
-pub returns-clause-overlap : goal.returns-clause-overlap
-unfolding digits written_record frame_at is_leader is_entry is_directory dsid_content dssi_content dspm_content frid_content
-    foid_content attribute_content partner_content place_content vrid_content end_content plane_content deep_content records_from
-    records_after fields_fault decoded_records general_information geographic_reference with_following record_behind encoded_cell
-returns-clause-overlap c = refl
+returns c = record { each = refl; steps = refl; fields = refl; records = refl; overlap = refl }

@@ -10,32 +10,8 @@ use Rattle.file_spec.specs.DecodedCell.{decoded_records, general_information, ge
 use Rattle.file_spec.specs.EncodedCell.{encoded_cell}
 use Rattle.file_samples.proofs.law.files_are_written.Goals as goal
 
-pub returns-clause-levels : goal.returns-clause-levels
+pub returns : goal.returns
 unfolding digits written_record frame_at is_leader is_entry is_directory dsid_content dssi_content dspm_content frid_content
     foid_content attribute_content partner_content place_content vrid_content end_content plane_content deep_content records_from
     records_after fields_fault decoded_records general_information geographic_reference with_following record_behind encoded_cell
-returns-clause-levels c = refl
-
-pub returns-clause-counts : goal.returns-clause-counts
-unfolding digits written_record frame_at is_leader is_entry is_directory dsid_content dssi_content dspm_content frid_content
-    foid_content attribute_content partner_content place_content vrid_content end_content plane_content deep_content records_from
-    records_after fields_fault decoded_records general_information geographic_reference with_following record_behind encoded_cell
-returns-clause-counts c = refl
-
-pub returns-clause-numbers : goal.returns-clause-numbers
-unfolding digits written_record frame_at is_leader is_entry is_directory dsid_content dssi_content dspm_content frid_content
-    foid_content attribute_content partner_content place_content vrid_content end_content plane_content deep_content records_from
-    records_after fields_fault decoded_records general_information geographic_reference with_following record_behind encoded_cell
-returns-clause-numbers c = refl
-
-pub returns-clause-every_field : goal.returns-clause-every_field
-unfolding digits written_record frame_at is_leader is_entry is_directory dsid_content dssi_content dspm_content frid_content
-    foid_content attribute_content partner_content place_content vrid_content end_content plane_content deep_content records_from
-    records_after fields_fault decoded_records general_information geographic_reference with_following record_behind encoded_cell
-returns-clause-every_field c = refl
-
-pub returns-clause-every_field_read : goal.returns-clause-every_field_read
-unfolding digits written_record frame_at is_leader is_entry is_directory dsid_content dssi_content dspm_content frid_content
-    foid_content attribute_content partner_content place_content vrid_content end_content plane_content deep_content records_from
-    records_after fields_fault decoded_records general_information geographic_reference with_following record_behind encoded_cell
-returns-clause-every_field_read c = refl
+returns c = record { levels = refl; counts = refl; numbers = refl; every_field = refl; every_field_read = refl }

@@ -10,32 +10,8 @@ use Rattle.file_spec.specs.DecodedCell.{decoded_records, general_information, ge
 use Rattle.file_spec.specs.EncodedCell.{encoded_cell}
 use Rattle.file_samples.proofs.law.square_is_read.Goals as goal
 
-pub returns-clause-whole : goal.returns-clause-whole
+pub returns : goal.returns
 unfolding digits written_record frame_at is_leader is_entry is_directory dsid_content dssi_content dspm_content frid_content
     foid_content attribute_content partner_content place_content vrid_content end_content plane_content deep_content records_from
     records_after fields_fault decoded_records general_information geographic_reference with_following record_behind encoded_cell
-returns-clause-whole c = refl
-
-pub returns-clause-wide_node : goal.returns-clause-wide_node
-unfolding digits written_record frame_at is_leader is_entry is_directory dsid_content dssi_content dspm_content frid_content
-    foid_content attribute_content partner_content place_content vrid_content end_content plane_content deep_content records_from
-    records_after fields_fault decoded_records general_information geographic_reference with_following record_behind encoded_cell
-returns-clause-wide_node c = (refl, refl)
-
-pub returns-clause-cuts : goal.returns-clause-cuts
-unfolding digits written_record frame_at is_leader is_entry is_directory dsid_content dssi_content dspm_content frid_content
-    foid_content attribute_content partner_content place_content vrid_content end_content plane_content deep_content records_from
-    records_after fields_fault decoded_records general_information geographic_reference with_following record_behind encoded_cell
-returns-clause-cuts c = refl
-
-pub returns-clause-changed : goal.returns-clause-changed
-unfolding digits written_record frame_at is_leader is_entry is_directory dsid_content dssi_content dspm_content frid_content
-    foid_content attribute_content partner_content place_content vrid_content end_content plane_content deep_content records_from
-    records_after fields_fault decoded_records general_information geographic_reference with_following record_behind encoded_cell
-returns-clause-changed c = refl
-
-pub returns-clause-repeated : goal.returns-clause-repeated
-unfolding digits written_record frame_at is_leader is_entry is_directory dsid_content dssi_content dspm_content frid_content
-    foid_content attribute_content partner_content place_content vrid_content end_content plane_content deep_content records_from
-    records_after fields_fault decoded_records general_information geographic_reference with_following record_behind encoded_cell
-returns-clause-repeated c = refl
+returns c = record { whole = refl; wide_node = (refl, refl); cuts = refl; changed = refl; repeated = refl }

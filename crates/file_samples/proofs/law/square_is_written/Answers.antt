@@ -10,44 +10,8 @@ use Rattle.file_spec.specs.DecodedCell.{decoded_records, general_information, ge
 use Rattle.file_spec.specs.EncodedCell.{encoded_cell}
 use Rattle.file_samples.proofs.law.square_is_written.Goals as goal
 
-pub returns-clause-descriptions : goal.returns-clause-descriptions
+pub returns : goal.returns
 unfolding digits written_record frame_at is_leader is_entry is_directory dsid_content dssi_content dspm_content frid_content
     foid_content attribute_content partner_content place_content vrid_content end_content plane_content deep_content records_from
     records_after fields_fault decoded_records general_information geographic_reference with_following record_behind encoded_cell
-returns-clause-descriptions c = refl
-
-pub returns-clause-lengths : goal.returns-clause-lengths
-unfolding digits written_record frame_at is_leader is_entry is_directory dsid_content dssi_content dspm_content frid_content
-    foid_content attribute_content partner_content place_content vrid_content end_content plane_content deep_content records_from
-    records_after fields_fault decoded_records general_information geographic_reference with_following record_behind encoded_cell
-returns-clause-lengths c = refl
-
-pub returns-clause-descriptive : goal.returns-clause-descriptive
-unfolding digits written_record frame_at is_leader is_entry is_directory dsid_content dssi_content dspm_content frid_content
-    foid_content attribute_content partner_content place_content vrid_content end_content plane_content deep_content records_from
-    records_after fields_fault decoded_records general_information geographic_reference with_following record_behind encoded_cell
-returns-clause-descriptive c = refl
-
-pub returns-clause-first_node : goal.returns-clause-first_node
-unfolding digits written_record frame_at is_leader is_entry is_directory dsid_content dssi_content dspm_content frid_content
-    foid_content attribute_content partner_content place_content vrid_content end_content plane_content deep_content records_from
-    records_after fields_fault decoded_records general_information geographic_reference with_following record_behind encoded_cell
-returns-clause-first_node c = refl
-
-pub returns-clause-whole : goal.returns-clause-whole
-unfolding digits written_record frame_at is_leader is_entry is_directory dsid_content dssi_content dspm_content frid_content
-    foid_content attribute_content partner_content place_content vrid_content end_content plane_content deep_content records_from
-    records_after fields_fault decoded_records general_information geographic_reference with_following record_behind encoded_cell
-returns-clause-whole c = refl
-
-pub returns-clause-offsets : goal.returns-clause-offsets
-unfolding digits written_record frame_at is_leader is_entry is_directory dsid_content dssi_content dspm_content frid_content
-    foid_content attribute_content partner_content place_content vrid_content end_content plane_content deep_content records_from
-    records_after fields_fault decoded_records general_information geographic_reference with_following record_behind encoded_cell
-returns-clause-offsets c = refl
-
-pub returns-clause-empty : goal.returns-clause-empty
-unfolding digits written_record frame_at is_leader is_entry is_directory dsid_content dssi_content dspm_content frid_content
-    foid_content attribute_content partner_content place_content vrid_content end_content plane_content deep_content records_from
-    records_after fields_fault decoded_records general_information geographic_reference with_following record_behind encoded_cell
-returns-clause-empty c = (refl, refl)
+returns c = record { descriptions = refl; lengths = refl; descriptive = refl; first_node = refl; whole = refl; offsets = refl; empty = (refl, refl) }

@@ -9,20 +9,8 @@ use Rattle.file_spec.specs.RecordReading.{fields_fault}
 use Rattle.file_spec.specs.DecodedCell.{decoded_records, general_information, geographic_reference, with_following, record_behind}
 use Rattle.file_samples.proofs.law.unusual_files_are_read.Goals as goal
 
-pub returns-clause-records : goal.returns-clause-records
+pub returns : goal.returns
 unfolding digits written_record frame_at is_leader is_entry is_directory dsid_content dssi_content dspm_content frid_content
     foid_content attribute_content partner_content place_content vrid_content end_content plane_content deep_content records_from
     records_after fields_fault decoded_records general_information geographic_reference with_following record_behind
-returns-clause-records c = refl
-
-pub returns-clause-fields : goal.returns-clause-fields
-unfolding digits written_record frame_at is_leader is_entry is_directory dsid_content dssi_content dspm_content frid_content
-    foid_content attribute_content partner_content place_content vrid_content end_content plane_content deep_content records_from
-    records_after fields_fault decoded_records general_information geographic_reference with_following record_behind
-returns-clause-fields c = refl
-
-pub returns-clause-join : goal.returns-clause-join
-unfolding digits written_record frame_at is_leader is_entry is_directory dsid_content dssi_content dspm_content frid_content
-    foid_content attribute_content partner_content place_content vrid_content end_content plane_content deep_content records_from
-    records_after fields_fault decoded_records general_information geographic_reference with_following record_behind
-returns-clause-join c = refl
+returns c = record { records = refl; fields = refl; join = refl }
