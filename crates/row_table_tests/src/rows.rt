@@ -25,10 +25,9 @@ fn has_row<K: Ord + Drop>(table: &RowTable<K, u32>, place: usize, key: &K, value
 fn check_three<K: Ord + Copy + Drop>(
     rt: &impl Abort,
     alloc: Global,
-    low: K,
-    middle: K,
-    high: K,
+    keys: [K; 3],
 ) -> Result<(), Fail> {
+    let [low, middle, high] = keys;
     let mut table = RowTable::make(alloc);
     table.reserve(3)?;
     assert_eq!(rt; table.put(high, 30), None);
@@ -49,15 +48,14 @@ fn check_three<K: Ord + Copy + Drop>(
 #[test]
 fn keys_of_each_kind_stand_in_order(rt: HostRuntime) -> Result<(), Fail> {
     let alloc = rt.alloc();
-    check_three(&rt, alloc, 3u32, 4, 70_000)?;
-    check_three(&rt, alloc, (1u8, 9u32), (2, 1), (2, 5))?;
-    check_three(
-        &rt,
-        alloc,
+    check_three(&rt, alloc, [3u32, 4, 70_000])?;
+    check_three(&rt, alloc, [(1u8, 9u32), (2, 1), (2, 5)])?;
+    let subjects = [
         Subject::Node(9),
         Subject::Edge { from: 1, to: 2 },
         Subject::Edge { from: 1, to: 3 },
-    )
+    ];
+    check_three(&rt, alloc, subjects)
 }
 
 #[test]

@@ -10,10 +10,9 @@ use std::test::Fail;
 fn check_three<K: Ord + Copy + Drop>(
     rt: &impl Abort,
     alloc: Global,
-    low: K,
-    middle: K,
-    high: K,
+    keys: [K; 3],
 ) -> Result<(), Fail> {
+    let [low, middle, high] = keys;
     let mut table = SharedTable::make();
     table.put(alloc, high, 30u32)?;
     table.put(alloc, low, 10)?;
@@ -39,13 +38,8 @@ fn name(kind: Kind, id: u32) -> RecName {
 #[test]
 fn keys_of_each_kind_stand_in_order(rt: HostRuntime) -> Result<(), Fail> {
     let alloc = rt.alloc();
-    check_three(&rt, alloc, 3u32, 4, 70_000)?;
-    check_three(&rt, alloc, (1u8, 9u32), (2, 1), (2, 5))?;
-    check_three(
-        &rt,
-        alloc,
-        name(Kind::Vi, 9),
-        name(Kind::Fe, 1),
-        name(Kind::Fe, 2),
-    )
+    check_three(&rt, alloc, [3u32, 4, 70_000])?;
+    check_three(&rt, alloc, [(1u8, 9u32), (2, 1), (2, 5)])?;
+    let names = [name(Kind::Vi, 9), name(Kind::Fe, 1), name(Kind::Fe, 2)];
+    check_three(&rt, alloc, names)
 }
