@@ -9,7 +9,7 @@ ghost use Rattle.bench_tests.specs.ReadyRows.{AreRowsAfter};
 
 use super::benches::{check_tables, open_bench, set_for};
 use super::records::{named, node};
-use cell_bench::Bench;
+use cell_bench::{Bench, BenchPlan};
 use cell_spec::{Edit, Key, Row, Rows, Subject};
 use chain_topo::Steps;
 use edit_sets::EditSet;
@@ -40,24 +40,6 @@ fn rows_in<L: Ledger>(
     Ok(rows)
 }
 
-/// The rows of the affected subjects of the cell that edits leave.
-fn ready_rows<L: Ledger>(
-    alloc: Global,
-    bench: &Bench,
-    set: &EditSet,
-    after: &Bench,
-    steps: &mut Steps<L>,
-) -> Result<Rows, AllocError>
-    requires level { set.now.nall ≡ bench.now.head.nall }
-    requires taken { is_applicable set.now.edits bench.now ≡ true }
-    requires after { after.now ≡ apply_edits set.now.edits bench.now }
-    ensures { IfOk result (AreRowsAfter bench.now set.now.edits) }
-{
-    let affected = bench.affected(alloc, set)?;
-    let rows = rows_in(alloc, after.store(), affected.as_slice(), steps)?;
-    Ok(Rows::of_vec(rows))
-}
-
 /// The keys that rows read.
 fn keys_in(alloc: Global, rows: &Rows) -> Result<Vec<Key>, AllocError> {
     let mut keys = Vec::new(alloc);
@@ -67,103 +49,110 @@ fn keys_in(alloc: Global, rows: &Rows) -> Result<Vec<Key>, AllocError> {
     Ok(keys)
 }
 
-/// The bench after edits, planned with rows that are ready where none of the stale keys is read.
-fn planned<L: Ledger>(
-    rt: &impl Abort,
+/// Edits at the level of a bench, and rows that may be ready for them.
+#[derive(Drop)]
+struct Trial<'a> {
     alloc: Global,
-    bench: &Bench,
-    set: &EditSet,
-    rows: &Rows,
-    stale: &[Key],
-    steps: &mut Steps<L>,
-) -> Result<Bench, AllocError>
-    requires level { set.now.nall ≡ bench.now.head.nall }
-    requires ready { AreReady bench.now set.now.edits stale.now rows.now }
-    ensures after { IfOk result (λ after. after ≡ apply_edits set.now.edits bench.now) }
-    ensures steps { steps.new ≤ steps.old + plan_budget set.now.edits bench.now stale.now rows.now }
-{
-    let Ok(plan) = bench.plan(alloc, set, rows, stale, steps) else {
-        panic!(rt; "the edits aren't taken");
-    };
-    let mut after = bench.copy(alloc)?;
-    after.install(plan);
-    Ok(after)
+    bench: &'a Bench,
+    set: &'a EditSet,
+    rows: Rows,
 }
 
-/// The bench after edits, planned with the rows of all affected subjects: four look-ups for each touched key and each edit at most.
-fn planned_by_rows<L: Ledger>(
-    rt: &impl Abort,
-    alloc: Global,
-    bench: &Bench,
-    set: &EditSet,
-    rows: &Rows,
-    steps: &mut Steps<L>,
-) -> Result<Bench, AllocError>
-    requires level { set.now.nall ≡ bench.now.head.nall }
-    requires rows { AreRowsAfter bench.now set.now.edits rows.now }
-    ensures { steps.new ≤ steps.old + 4 * (length (touched_keys set.now.edits bench.now) + length set.now.edits) }
-{
-    planned(rt, alloc, bench, set, rows, &[], steps)
-}
+impl<'a> Trial<'a> {
+    /// The rows of the affected subjects of the cell that the edits leave.
+    fn ready<L: Ledger>(&self, after: &Bench, steps: &mut Steps<L>) -> Result<Rows, AllocError>
+        requires level { self.now.set.now.nall ≡ self.now.bench.now.head.nall }
+        requires taken { is_applicable self.now.set.now.edits self.now.bench.now ≡ true }
+        requires after { after.now ≡ apply_edits self.now.set.now.edits self.now.bench.now }
+        ensures { IfOk result (AreRowsAfter self.now.bench.now self.now.set.now.edits) }
+    {
+        let affected = self.bench.affected(self.alloc, self.set)?;
+        let rows = rows_in(self.alloc, after.store(), affected.as_slice(), steps)?;
+        Ok(Rows::of_vec(rows))
+    }
 
-/// The bench after edits, planned with rows of which none is valid any more.
-fn planned_anew<L: Ledger>(
-    rt: &impl Abort,
-    alloc: Global,
-    bench: &Bench,
-    set: &EditSet,
-    rows: &Rows,
-    steps: &mut Steps<L>,
-) -> Result<Bench, AllocError>
-    requires level { set.now.nall ≡ bench.now.head.nall }
-    requires rows { AreRowsAfter bench.now set.now.edits rows.now }
-{
-    planned(rt, alloc, bench, set, rows, &keys_in(alloc, rows)?, steps)
-}
+    /// The bench that is planned.
+    fn installed(&self, plan: BenchPlan) -> Result<Bench, AllocError>
+        ensures { IfOk result (λ after. after ≡ plan) }
+    {
+        let mut after = self.bench.copy(self.alloc)?;
+        after.install(plan);
+        Ok(after)
+    }
 
-/// The bench after edits, planned from what they reach. Nothing is judged.
-fn planned_ahead<L: Ledger>(
-    rt: &impl Abort,
-    alloc: Global,
-    bench: &Bench,
-    set: &EditSet,
-    rows: &Rows,
-    steps: &mut Steps<L>,
-) -> Result<Bench, AllocError>
-    requires level { set.now.nall ≡ bench.now.head.nall }
-    requires taken { is_applicable set.now.edits bench.now ≡ true }
-    requires rows { AreRowsAfter bench.now set.now.edits rows.now }
-{
-    let reach = bench.reach(alloc, set, steps)?;
-    let Ok(plan) = bench.plan_judged(alloc, set, reach, rows) else {
-        panic!(rt; "the edits aren't taken");
-    };
-    let mut after = bench.copy(alloc)?;
-    after.install(plan);
-    Ok(after)
-}
+    /// The bench after the edits, planned with the rows where none of the stale keys is read.
+    fn planned<L: Ledger>(
+        &self,
+        rt: &impl Abort,
+        stale: &[Key],
+        steps: &mut Steps<L>,
+    ) -> Result<Bench, AllocError>
+        requires level { self.now.set.now.nall ≡ self.now.bench.now.head.nall }
+        requires ready { AreReady self.now.bench.now self.now.set.now.edits stale.now self.now.rows }
+        ensures after { IfOk result (λ after. after ≡ apply_edits self.now.set.now.edits self.now.bench.now) }
+        ensures steps { steps.new ≤ steps.old + plan_budget self.now.set.now.edits self.now.bench.now stale.now self.now.rows }
+    {
+        match self
+            .bench
+            .plan(self.alloc, self.set, &self.rows, stale, steps)
+        {
+            Ok(plan) => self.installed(plan),
+            Err(_) => panic!(rt; "the edits aren't taken"),
+        }
+    }
 
-/// Checks that plans by rows leave the findings of a bench.
-fn check_plans<L: Ledger>(
-    rt: &impl Abort,
-    alloc: Global,
-    bench: &Bench,
-    set: &EditSet,
-    rows: &Rows,
-    after: &Bench,
-    steps: &mut Steps<L>,
-) -> Result<(), AllocError>
-    requires level { set.now.nall ≡ bench.now.head.nall }
-    requires taken { is_applicable set.now.edits bench.now ≡ true }
-    requires rows { AreRowsAfter bench.now set.now.edits rows.now }
-{
-    let by_rows = planned_by_rows(rt, alloc, bench, set, rows, steps)?;
-    check_tables(rt, by_rows.findings(), after.findings());
-    let anew = planned_anew(rt, alloc, bench, set, rows, steps)?;
-    check_tables(rt, anew.findings(), after.findings());
-    let ahead = planned_ahead(rt, alloc, bench, set, rows, steps)?;
-    check_tables(rt, ahead.findings(), after.findings());
-    Ok(())
+    /// The bench after the edits, planned with the rows of all affected subjects: four look-ups for each touched key and each edit at most.
+    fn by_rows<L: Ledger>(&self, rt: &impl Abort, steps: &mut Steps<L>) -> Result<Bench, AllocError>
+        requires level { self.now.set.now.nall ≡ self.now.bench.now.head.nall }
+        requires rows { AreRowsAfter self.now.bench.now self.now.set.now.edits self.now.rows }
+        ensures { steps.new ≤ steps.old + 4 * (length (touched_keys self.now.set.now.edits self.now.bench.now) + length self.now.set.now.edits) }
+    {
+        self.planned(rt, &[], steps)
+    }
+
+    /// The bench after the edits, planned with rows of which none is valid any more.
+    fn anew<L: Ledger>(&self, rt: &impl Abort, steps: &mut Steps<L>) -> Result<Bench, AllocError>
+        requires level { self.now.set.now.nall ≡ self.now.bench.now.head.nall }
+        requires rows { AreRowsAfter self.now.bench.now self.now.set.now.edits self.now.rows }
+    {
+        self.planned(rt, &keys_in(self.alloc, &self.rows)?, steps)
+    }
+
+    /// The bench after the edits, planned from what they reach. Nothing is judged.
+    fn ahead<L: Ledger>(&self, rt: &impl Abort, steps: &mut Steps<L>) -> Result<Bench, AllocError>
+        requires level { self.now.set.now.nall ≡ self.now.bench.now.head.nall }
+        requires taken { is_applicable self.now.set.now.edits self.now.bench.now ≡ true }
+        requires rows { AreRowsAfter self.now.bench.now self.now.set.now.edits self.now.rows }
+    {
+        let reach = self.bench.reach(self.alloc, self.set, steps)?;
+        match self
+            .bench
+            .plan_judged(self.alloc, self.set, reach, &self.rows)
+        {
+            Ok(plan) => self.installed(plan),
+            Err(_) => panic!(rt; "the edits aren't taken"),
+        }
+    }
+
+    /// Checks that plans by rows leave the findings of a bench.
+    fn check<L: Ledger>(
+        &self,
+        rt: &impl Abort,
+        after: &Bench,
+        steps: &mut Steps<L>,
+    ) -> Result<(), AllocError>
+        requires level { self.now.set.now.nall ≡ self.now.bench.now.head.nall }
+        requires taken { is_applicable self.now.set.now.edits self.now.bench.now ≡ true }
+        requires rows { AreRowsAfter self.now.bench.now self.now.set.now.edits self.now.rows }
+    {
+        let by_rows = self.by_rows(rt, steps)?;
+        check_tables(rt, by_rows.findings(), after.findings());
+        let anew = self.anew(rt, steps)?;
+        check_tables(rt, anew.findings(), after.findings());
+        let ahead = self.ahead(rt, steps)?;
+        check_tables(rt, ahead.findings(), after.findings());
+        Ok(())
+    }
 }
 
 /// Checks that edits leave the same findings without rows, with rows that are ready, with rows that are stale, and from what they reach.
@@ -178,9 +167,22 @@ fn check_set<L: Ledger>(
 {
     let taken = bench.takes(alloc, set, steps)?;
     assert!(rt; taken);
-    let after = planned(rt, alloc, bench, set, &Rows::make(alloc), &[], steps)?;
-    let rows = ready_rows(alloc, bench, set, &after, steps)?;
-    check_plans(rt, alloc, bench, set, &rows, &after, steps)
+    let rows = Rows::make(alloc);
+    let bare = Trial {
+        alloc,
+        bench,
+        set,
+        rows,
+    };
+    let after = bare.planned(rt, &[], steps)?;
+    let rows = bare.ready(&after, steps)?;
+    let ready = Trial {
+        alloc,
+        bench,
+        set,
+        rows,
+    };
+    ready.check(rt, &after, steps)
 }
 
 /// A node of a cell of four squares is moved onto another, and one is deleted.
