@@ -18,7 +18,8 @@ fn text(alloc: Global, bytes: &[u8]) -> Result<Text, AllocError>
     Ok(Items::of_vec(Vec::from_slice(alloc, bytes)?))
 }
 
-fn head(alloc: Global) -> Result<Head, AllocError>
+/// The head of the generated cell, at the lexical levels 0. An `Err` means out of memory.
+pub fn make_head(alloc: Global) -> Result<Head, AllocError>
     ensures { IfOk result (λ made. made ≡ head_of 0 0) }
 {
     let dsnm = text(alloc, b"MAKE.000")?;
@@ -177,7 +178,7 @@ pub fn make_cell(alloc: Global, n: u32) -> Result<Cell, AllocError>
     ensures cell { IfOk result (λ cell. cell ≡ generated_cell n) }
     ensures writable { IfOk result IsWritable }
 {
-    let head = head(alloc)?;
+    let head = make_head(alloc)?;
     let vc = nodes(alloc, n)?;
     let ve = edges(alloc, n)?;
     let fe = areas(alloc, n)?;

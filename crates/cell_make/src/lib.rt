@@ -7,6 +7,6 @@ mod law;
 mod record;
 mod script;
 
-pub use cell::make_cell;
+pub use cell::{make_cell, make_head};
 pub use law::{one_square_is_made, records_are_numbered};
 pub use script::make_scripts;

@@ -10,12 +10,13 @@ ghost use Rattle.cell_spec.specs.Names.{name_parts, same_name};
 ghost use Rattle.cell_spec.specs.Writable.{AreOfKind, IsWritable};
 
 use crate::table::next_number;
+use cell_make::make_head;
 use cell_spec::writable_cells_are_readable;
 use chain_topo::{ListLook, Look, Steps};
 use look_counter::start_counter;
 use record_fit::head_fits;
 use s57_types::{
-    Attrs, Cell, Feature, Head, Items, Kind, Lnam, Partners, Rec, RecName, Recs, Spot, Text,
+    Attrs, Cell, Feature, Head, Items, Kind, Lnam, Partners, Rec, RecName, Recs, Spot,
 };
 use std::alloc::{AllocError, Global};
 use std::marker::Brand;
@@ -121,39 +122,6 @@ fn features(alloc: Global, size: u32) -> Result<Vec<Rec>, AllocError>
     Ok(features)
 }
 
-fn head(alloc: Global) -> Head {
-    Head {
-        dsid_rcid: 1,
-        intu: 5,
-        dsnm: Text::make(alloc),
-        edtn: Text::make(alloc),
-        updn: Text::make(alloc),
-        uadt: [48; 8],
-        isdt: [48; 8],
-        sted: [48; 4],
-        prsp: 1,
-        psdn: Text::make(alloc),
-        pred: Text::make(alloc),
-        prof: 1,
-        agen: 550,
-        dsid_comt: Text::make(alloc),
-        aall: 0,
-        nall: 0,
-        dspm_rcid: 1,
-        hdat: 2,
-        vdat: 23,
-        sdat: 23,
-        cscl: 10_000,
-        duni: 1,
-        huni: 1,
-        puni: 1,
-        coun: 1,
-        comf: 10_000_000,
-        somf: 10,
-        dspm_comt: Text::make(alloc),
-    }
-}
-
 fn cell_of(alloc: Global, head: Head, size: u32) -> Result<Cell, AllocError>
     requires few { size ≤ 262144 }
     requires fits { is_fit_head head ≡ true }
@@ -173,7 +141,7 @@ fn cell_of(alloc: Global, head: Head, size: u32) -> Result<Cell, AllocError>
 pub fn writable_cell(alloc: Global, size: u32) -> Result<Option<Cell>, AllocError>
     ensures { IfOk result (λ cell. IfSome cell IsWritable) }
 {
-    let head = head(alloc);
+    let head = make_head(alloc)?;
     if size > RECORD_LIMIT || !head_fits(&head) {
         return Ok(None);
     }

@@ -1,6 +1,7 @@
 //! Which heads can be written, and which of their records.
 
 use crate::texts::{long_text, text};
+use cell_make::make_head;
 use record_fit::{
     has_plain_texts, head_fits, identification_record_length, is_general_information_short,
     is_geographic_reference_short,
@@ -9,56 +10,13 @@ use s57_types::{Dsid, Dspm, Dssi, Head, HeadEdit, Level, Text};
 use std::alloc::{AllocError, Global};
 use std::test::Fail;
 
-/// The values of the second head record, with this comment.
-fn parameters(comt: Text) -> Dspm {
-    Dspm {
-        rcid: 1,
-        hdat: 2,
-        vdat: 23,
-        sdat: 23,
-        cscl: 10_000,
-        duni: 1,
-        huni: 1,
-        puni: 1,
-        coun: 1,
-        comf: 10_000_000,
-        somf: 10,
-        comt,
-    }
-}
-
+/// The head of the generated cell, at the lexical levels 1 and 2 and with this comment in its second record.
 pub fn head(alloc: Global, comment: Text) -> Result<Head, AllocError> {
-    let values = parameters(comment);
-    Ok(Head {
-        dsid_rcid: 1,
-        intu: 5,
-        dsnm: text(alloc, b"MAKE.000")?,
-        edtn: text(alloc, b"1")?,
-        updn: text(alloc, b"0")?,
-        uadt: *b"20240101",
-        isdt: *b"20240101",
-        sted: *b"03.1",
-        prsp: 1,
-        psdn: Text::make(alloc),
-        pred: text(alloc, b"2.0")?,
-        prof: 1,
-        agen: 1,
-        dsid_comt: Text::make(alloc),
-        aall: 1,
-        nall: 2,
-        dspm_rcid: values.rcid,
-        hdat: values.hdat,
-        vdat: values.vdat,
-        sdat: values.sdat,
-        cscl: values.cscl,
-        duni: values.duni,
-        huni: values.huni,
-        puni: values.puni,
-        coun: values.coun,
-        comf: values.comf,
-        somf: values.somf,
-        dspm_comt: values.into_comment(),
-    })
+    let mut head = make_head(alloc)?;
+    head.aall = 1;
+    head.nall = 2;
+    head.dspm_comt = comment;
+    Ok(head)
 }
 
 /// Whether a head with this comment can be written.
@@ -195,6 +153,24 @@ fn general_information_has_at_most_99_999_bytes(rt: HostRuntime) -> Result<(), F
         assert_eq!(rt; is_general_information_short(&dsid, dssi), answer);
     }
     Ok(())
+}
+
+/// The values of the geographic reference, with this comment.
+fn parameters(comt: Text) -> Dspm {
+    Dspm {
+        rcid: 1,
+        hdat: 2,
+        vdat: 23,
+        sdat: 23,
+        cscl: 10_000,
+        duni: 1,
+        huni: 1,
+        puni: 1,
+        coun: 1,
+        comf: 10_000_000,
+        somf: 10,
+        comt,
+    }
 }
 
 #[test]
