@@ -147,7 +147,7 @@ fn check_cell<L: Ledger>(
 }
 
 /// Lays the edits of changes over the store of a bench, commits them, and answers the rows that they leave.
-pub(crate) fn check_changes<L: Ledger>(
+fn check_changes<L: Ledger>(
     rt: &impl Abort,
     alloc: Global,
     bench: &mut Bench,
@@ -165,7 +165,13 @@ pub(crate) fn check_changes<L: Ledger>(
     Ok(after)
 }
 
-fn check_rounds<L: Ledger>(rt: &impl Abort, alloc: Global, blank: Blank) -> Result<(), AllocError>
+/// Checks lists of changes, one after the other, from a cell without a record, and answers the rows that they leave.
+pub(crate) fn check_each<L: Ledger>(
+    rt: &impl Abort,
+    alloc: Global,
+    blank: Blank,
+    lists: &[Vec<Change>],
+) -> Result<Vec<Row>, AllocError>
     requires name { blank.name ≡ L.name }
     requires parts { blank.parts ≡ L.parts }
     requires some_part { 0 < L.parts }
@@ -173,19 +179,28 @@ fn check_rounds<L: Ledger>(rt: &impl Abort, alloc: Global, blank: Blank) -> Resu
     let mut steps = start_counter::<L>(blank);
     let mut bench = empty_bench(rt, alloc, &mut steps)?;
     let mut rows = Vec::new(alloc);
+    for changes in lists {
+        rows = check_changes(rt, alloc, &mut bench, &rows, changes, &mut steps)?;
+    }
+    Ok(rows)
+}
+
+fn drawn_lists(alloc: Global) -> Result<Vec<Vec<Change>>, AllocError> {
+    let mut lists = Vec::new(alloc);
     let mut state = 1;
     for _ in 0..ROUNDS {
-        let changes = drawn_changes(alloc, &mut state)?;
-        rows = check_changes(rt, alloc, &mut bench, &rows, &changes, &mut steps)?;
+        lists.push(drawn_changes(alloc, &mut state)?)?;
     }
-    assert!(rt; rows.len() > 4);
-    Ok(())
+    Ok(lists)
 }
 
 #[test]
 fn stores_and_overlays_answer_what_the_rows_say(rt: HostRuntime) -> Result<(), Fail> {
     stores_cross_threads();
     overlays_cross_threads::<RecordStore>();
-    check_rounds::<Brand>(&rt, rt.alloc(), Blank::new(1))?;
+    let alloc = rt.alloc();
+    let lists = drawn_lists(alloc)?;
+    let rows = check_each::<Brand>(&rt, alloc, Blank::new(1), &lists)?;
+    assert!(rt; rows.len() > 4);
     Ok(())
 }

@@ -1,16 +1,11 @@
 //! The order of nodes after a deletion and an addition.
 
-ghost use Rattle.std.specs.Prelude.{◌≡◌, ◌<◌};
-
-use super::benches::empty_bench;
-use super::drawn::check_changes;
+use super::drawn::check_each;
 use super::rows::{Change, Row};
-use look_counter::start_counter;
 use s57_types::{Kind, RecName};
 use std::alloc::{AllocError, Global};
 use std::marker::Brand;
-use std::process::Abort;
-use std::sync::ledger::{Blank, Ledger};
+use std::sync::ledger::Blank;
 use std::test::Fail;
 
 /// Nodes that come. One of them goes, and comes again.
@@ -47,24 +42,19 @@ fn node_changes(alloc: Global, nodes: &[(u32, bool)]) -> Result<Vec<Change>, All
     Ok(changes)
 }
 
-fn check_order<L: Ledger>(rt: &impl Abort, alloc: Global, blank: Blank) -> Result<(), AllocError>
-    requires name { blank.name ≡ L.name }
-    requires parts { blank.parts ≡ L.parts }
-    requires some_part { 0 < L.parts }
-{
-    let mut steps = start_counter::<L>(blank);
-    let mut bench = empty_bench(rt, alloc, &mut steps)?;
-    let mut rows = Vec::new(alloc);
+fn node_lists(alloc: Global) -> Result<Vec<Vec<Change>>, AllocError> {
+    let mut lists = Vec::new(alloc);
     for nodes in NODES {
-        let changes = node_changes(alloc, nodes)?;
-        rows = check_changes(rt, alloc, &mut bench, &rows, &changes, &mut steps)?;
+        lists.push(node_changes(alloc, nodes)?)?;
     }
-    assert!(rt; rows.iter().map(|row| row.name.id).eq([1, 2, 3, 4, 10, 9]));
-    Ok(())
+    Ok(lists)
 }
 
 #[test]
 fn an_addition_goes_last(rt: HostRuntime) -> Result<(), Fail> {
-    check_order::<Brand>(&rt, rt.alloc(), Blank::new(1))?;
+    let alloc = rt.alloc();
+    let lists = node_lists(alloc)?;
+    let rows = check_each::<Brand>(&rt, alloc, Blank::new(1), &lists)?;
+    assert!(rt; rows.iter().map(|row| row.name.id).eq([1, 2, 3, 4, 10, 9]));
     Ok(())
 }
