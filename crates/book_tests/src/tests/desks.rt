@@ -1,13 +1,11 @@
 //! Desks of one workroom.
 
-ghost use Rattle.std.specs.Prelude.{◌≡◌, All, IfSome};
-ghost use Rattle.cell_bench.specs.Benches.{IsPlanned};
-ghost use Rattle.rule_spec.specs.Affected.{RowsAreExact};
+ghost use Rattle.std.specs.Prelude.{◌≡◌, All};
 
 use super::edits::{deletions, node};
 use super::rooms::{check_accepted, commit, new_desk, open_room, prepared_at, view};
 use cell_spec::Edit;
-use commit_book::{Book, Prepared, Reply};
+use commit_book::{Book, Reply};
 use edit_sets::FormFault;
 use s57_types::{Attrs, Feature, Kind, Lnam, Partners, Places, Rec, RecName, Spot};
 use std::alloc::{AllocError, Global};
@@ -66,30 +64,16 @@ fn second_area(alloc: Global) -> Result<Rec, AllocError> {
     }))
 }
 
-/// The edit that moves the first node, and the one that adds the second area.
-fn edit_of(alloc: Global, number: u32) -> Result<Edit, AllocError> {
-    match number {
-        1 => Ok(Edit::Set(node(alloc, 1, (1, 1))?)),
-        _ => Ok(Edit::Add(second_area(alloc)?)),
-    }
+/// The edit that moves the first node.
+fn moved_node(alloc: Global) -> Result<Vec<Edit>, AllocError> {
+    let edit = Edit::Set(node(alloc, 1, (1, 1))?);
+    vec![in alloc; edit]
 }
 
-/// One of the two edits, as it is prepared at a desk.
-fn prepared_edit<R: Threads + Abort + Sync>(
-    rt: &R,
-    alloc: Global,
-    desk: &Desk,
-    number: u32,
-) -> Prepared
-    ensures base { result.base ≡ desk.now.base }
-    ensures level { result.edits.nall ≡ desk.now.cell.head.nall }
-    ensures rows { RowsAreExact result.edits.edits desk.now.cell result.rows }
-    ensures ahead { IfSome result.ahead (IsPlanned desk.now.cell result.edits.edits) }
-{
-    match edit_of(alloc, number) {
-        Ok(edit) => prepared_at(rt, alloc, desk, &[edit]),
-        Err(_) => panic!(rt; "there is no memory"),
-    }
+/// The edit that adds the second area.
+fn added_area(alloc: Global) -> Result<Vec<Edit>, AllocError> {
+    let edit = Edit::Add(second_area(alloc)?);
+    vec![in alloc; edit]
 }
 
 /// The first desk prepares before the second commits, and commits after that.
@@ -105,8 +89,8 @@ fn commit_in_turn<R: Threads + Wait + Abort + Sync>(
     ensures first { first.new.room ≡ first.old.room }
     ensures second { second.new.room ≡ second.old.room }
 {
-    let early = prepared_edit(rt, alloc, first, 1);
-    let late = prepared_edit(rt, alloc, second, 2);
+    let early = prepared_at(rt, alloc, first, moved_node(alloc));
+    let late = prepared_at(rt, alloc, second, added_area(alloc));
     check_accepted(rt, &commit(rt, alloc, room, second, late), (1, 8));
     check_accepted(rt, &commit(rt, alloc, room, first, early), (2, 8));
 }
@@ -168,24 +152,6 @@ struct Worker {
     node: u32,
 }
 
-/// A node's deletion, as it is prepared at a desk.
-fn prepared_deletion<R: Threads + Abort + Sync>(
-    rt: &R,
-    alloc: Global,
-    desk: &Desk,
-    node: u32,
-) -> Prepared
-    ensures base { result.base ≡ desk.now.base }
-    ensures level { result.edits.nall ≡ desk.now.cell.head.nall }
-    ensures rows { RowsAreExact result.edits.edits desk.now.cell result.rows }
-    ensures ahead { IfSome result.ahead (IsPlanned desk.now.cell result.edits.edits) }
-{
-    match deletions(alloc, &[node]) {
-        Ok(edits) => prepared_at(rt, alloc, desk, &edits),
-        Err(_) => panic!(rt; "there is no memory"),
-    }
-}
-
 fn delete_node<R: Threads + Wait + Abort + Sync>(
     rt: &R,
     alloc: Global,
@@ -195,7 +161,8 @@ fn delete_node<R: Threads + Wait + Abort + Sync>(
     requires { worker.old.desk.room ≡ room.now.room }
     ensures { worker.new.desk.room ≡ room.now.room }
 {
-    let prepared = prepared_deletion(rt, alloc, &worker.desk, worker.node);
+    let edits = deletions(alloc, &[worker.node]);
+    let prepared = prepared_at(rt, alloc, &worker.desk, edits);
     let _ = commit(rt, alloc, room, &mut worker.desk, prepared);
 }
 

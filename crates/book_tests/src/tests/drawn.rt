@@ -1,15 +1,13 @@
 //! Drawn commits of two desks of one workroom, prepared on the newest cell or on an older one. After each that is accepted the findings of the desk's
 //! copy are those of its cell, judged whole.
 
-ghost use Rattle.std.specs.Prelude.{◌≡◌, ◌<◌, IfSome};
-ghost use Rattle.cell_bench.specs.Benches.{IsPlanned};
-ghost use Rattle.rule_spec.specs.Affected.{RowsAreExact};
+ghost use Rattle.std.specs.Prelude.{◌≡◌, ◌<◌};
 
 use super::edits::{node, node_name};
 use super::rooms::{commit, new_desk, open_room, prepared_at, view};
 use cell_bench::Bench;
 use cell_spec::{Edit, Findings, Subject};
-use commit_book::{Prepared, Reply};
+use commit_book::Reply;
 use look_counter::start_counter;
 use s57_types::{Kind, RecName};
 use shared_table::{Shared, SharedTable};
@@ -52,22 +50,10 @@ fn drawn_edit(alloc: Global, state: &mut u32) -> Result<Edit, AllocError> {
     }
 }
 
-/// A drawn edit, as it is prepared at a desk.
-fn prepared_edit<R: Threads + Abort + Sync>(
-    rt: &R,
-    alloc: Global,
-    desk: &Desk,
-    state: &mut u32,
-) -> Prepared
-    ensures base { result.base ≡ desk.now.base }
-    ensures level { result.edits.nall ≡ desk.now.cell.head.nall }
-    ensures rows { RowsAreExact result.edits.edits desk.now.cell result.rows }
-    ensures ahead { IfSome result.ahead (IsPlanned desk.now.cell result.edits.edits) }
-{
-    match drawn_edit(alloc, state) {
-        Ok(edit) => prepared_at(rt, alloc, desk, &[edit]),
-        Err(_) => panic!(rt; "there is no memory"),
-    }
+/// A list of one such edit.
+fn drawn_edits(alloc: Global, state: &mut u32) -> Result<Vec<Edit>, AllocError> {
+    let edit = drawn_edit(alloc, state)?;
+    vec![in alloc; edit]
 }
 
 /// Checks that two tables have the same findings.
@@ -125,7 +111,8 @@ fn take_turn<R: Threads + Wait + Abort + Sync>(
     if draw(state, 2) == 0 {
         let _ = view(rt, alloc, room, desk);
     }
-    let prepared = prepared_edit(rt, alloc, desk, state);
+    let edits = drawn_edits(alloc, state);
+    let prepared = prepared_at(rt, alloc, desk, edits);
     let reply = commit(rt, alloc, room, desk, prepared);
     is_accepted(rt, &reply, desk)
 }

@@ -9,7 +9,7 @@ use cell_make::make_cell;
 use cell_spec::Edit;
 use commit_book::{Prepared, Reply};
 use look_counter::start_counter;
-use std::alloc::Global;
+use std::alloc::{AllocError, Global};
 use std::marker::Brand;
 use std::process::Abort;
 use std::sync::Wait;
@@ -47,19 +47,22 @@ pub(crate) fn new_desk(rt: &impl Abort, alloc: Global, room: &mut Workroom) -> D
     }
 }
 
-/// Edits as they are prepared at a desk.
+/// Edits, if there was memory for them, as they are prepared at a desk.
 pub(crate) fn prepared_at<R: Threads + Abort + Sync>(
     rt: &R,
     alloc: Global,
     desk: &Desk,
-    edits: &[Edit],
+    edits: Result<Vec<Edit>, AllocError>,
 ) -> Prepared
     ensures base { result.base ≡ desk.now.base }
     ensures level { result.edits.nall ≡ desk.now.cell.head.nall }
     ensures rows { RowsAreExact result.edits.edits desk.now.cell result.rows }
     ensures ahead { IfSome result.ahead (IsPlanned desk.now.cell result.edits.edits) }
 {
-    let set = set_for(rt, alloc, desk.bench(), edits);
+    let Ok(edits) = edits else {
+        panic!(rt; "there is no memory");
+    };
+    let set = set_for(rt, alloc, desk.bench(), &edits);
     match desk.prepare(rt, alloc, set) {
         Ok(prepared) => prepared,
         Err(_) => panic!(rt; "there is no memory"),
