@@ -9,4 +9,5 @@ mod script;
 
 pub use cell::{make_cell, make_head};
 pub use law::{one_square_is_made, records_are_numbered};
+pub use record::{area, outer};
 pub use script::make_scripts;

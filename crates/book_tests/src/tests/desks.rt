@@ -4,10 +4,11 @@ ghost use Rattle.std.specs.Prelude.{◌≡◌, All};
 
 use super::edits::{deletions, node};
 use super::rooms::{check_accepted, commit, new_desk, open_room, prepared_at, view};
+use cell_make::{area, outer};
 use cell_spec::Edit;
 use commit_book::{Book, Reply};
 use edit_sets::FormFault;
-use s57_types::{Attrs, Feature, Kind, Lnam, Partners, Places, Rec, RecName, Spot};
+use s57_types::{Attrs, Places, Rec};
 use std::alloc::{AllocError, Global};
 use std::process::Abort;
 use std::sync::Wait;
@@ -30,38 +31,11 @@ fn there_are_sixteen_desks(rt: HostRuntime) -> Result<(), Fail> {
     Ok(())
 }
 
-/// A pointer of an area to an edge that has it at its right (1) or at its left (2).
-fn side(id: u32, ornt: u8) -> Spot {
-    Spot {
-        to: RecName { kind: Kind::Ve, id },
-        ornt,
-        usag: 1,
-        mask: 255,
-    }
-}
-
 /// A second depth area on the square, whose edges are 3, 2, 4 and 1 round it.
 fn second_area(alloc: Global) -> Result<Rec, AllocError> {
-    let places = vec![in alloc; side(3, 1), side(2, 1), side(4, 2), side(1, 2)]?;
-    Ok(Rec::F(Feature {
-        name: RecName {
-            kind: Kind::Fe,
-            id: 3,
-        },
-        prim: 3,
-        grup: 1,
-        objl: 42,
-        rver: 1,
-        foid: Lnam {
-            agen: 1,
-            fidn: 3,
-            fids: 1,
-        },
-        attf: Attrs::make(alloc),
-        natf: Attrs::make(alloc),
-        partners: Partners::make(alloc),
-        places: Places::of_vec(places),
-    }))
+    let places = vec![in alloc; outer(3, 1), outer(2, 1), outer(4, 2), outer(1, 2)]?;
+    let attributes = Attrs::make(alloc);
+    Ok(area(alloc, 3, 1, 42, attributes, Places::of_vec(places)))
 }
 
 /// The edit that moves the first node.

@@ -1,11 +1,9 @@
 //! A cell with one closed line and an area along it.
 
+use cell_make::outer;
 use geo_exact::Point;
 use s57_types::Kind::{Fe, Vc, Ve};
-use s57_types::{
-    Attrs, Deep, End, Ends, Feature, Kind, Lnam, Partners, Places, Plane, Rec, RecName, Spot,
-    Vector,
-};
+use s57_types::{Attrs, Deep, End, Ends, Kind, Places, Plane, Rec, RecName, Vector};
 use std::alloc::{AllocError, Global};
 
 /// The numbers of the node, the edge and the area, which no record of the generated cell has.
@@ -56,27 +54,8 @@ pub(crate) fn edge(alloc: Global, points: &[Point]) -> Result<Rec, AllocError> {
 pub(crate) fn area(alloc: Global, orientations: &[u8]) -> Result<Rec, AllocError> {
     let mut places = Vec::new(alloc);
     for ornt in orientations {
-        places.push(Spot {
-            to: named(Ve),
-            ornt: *ornt,
-            usag: 1,
-            mask: 255,
-        })?;
+        places.push(outer(NUMBER, *ornt))?;
     }
-    Ok(Rec::F(Feature {
-        name: named(Fe),
-        prim: 3,
-        grup: 1,
-        objl: 42,
-        rver: 1,
-        foid: Lnam {
-            agen: 1,
-            fidn: NUMBER,
-            fids: 1,
-        },
-        attf: Attrs::make(alloc),
-        natf: Attrs::make(alloc),
-        partners: Partners::make(alloc),
-        places: Places::of_vec(places),
-    }))
+    let attributes = Attrs::make(alloc);
+    Ok(cell_make::area(alloc, NUMBER, 1, 42, attributes, Places::of_vec(places)))
 }
