@@ -1,6 +1,6 @@
 -- Refusals of a book as those of its journal. This project's own.
-use Rattle.cell_bench.specs.declared.refusal.LoadRefusal.{LoadRefusal}
-use Rattle.cell_bench.specs.declared.refusal.LoadRefusal.TheVariants as load
+use Rattle.cell_findings.specs.declared.refusal.LoadRefusal.{LoadRefusal}
+use Rattle.cell_findings.specs.declared.refusal.LoadRefusal.TheVariants as load
 use Rattle.commit_book.specs.declared.refusal.BookRefusal.{BookRefusal}
 use Rattle.commit_book.specs.declared.refusal.BookRefusal.TheVariants as book
 use Rattle.book_journal.specs.declared.refusal.OpenRefusal.{OpenRefusal}

@@ -15,7 +15,7 @@ ghost use Rattle.call_files.specs.Inputs.{IsNotOfOrder, IsNotOfText, script_limi
 ghost use Rattle.call_files.specs.Refused.{IsRefusal};
 
 use cell_bench::{Bench, FINDING_LIMIT, LoadRefusal};
-use cell_findings::{FindingRefusal, Findings, find_all_in_threads};
+use cell_findings::{Findings, find_all_in_threads};
 use cell_read::ReadRefusal;
 use decode_laws::decoded_cell_is_writable;
 use enc_outside::Shelf;
@@ -138,8 +138,8 @@ fn judge_cell<R: Threads + Sync>(rt: &R, alloc: Global, bytes: &[u8]) -> Result<
     };
     match find_all_in_threads(rt, alloc, &cell, FINDING_LIMIT) {
         Ok(findings) => Ok(Checked { cell, findings }),
-        Err(FindingRefusal::TooMany) => Err(Status::TooManyFindings),
-        Err(FindingRefusal::NoMemory) => Err(Status::NoMemory),
+        Err(LoadRefusal::FindingsFull) => Err(Status::TooManyFindings),
+        Err(LoadRefusal::NoMemory) => Err(Status::NoMemory),
     }
 }
 

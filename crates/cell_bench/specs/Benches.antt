@@ -15,10 +15,8 @@ use Rattle.affected_subjects.specs.Reached.{gone_list}
 use Rattle.finding_laws.specs.Tables.{Covering, IsCoveringsOf, IsReadsOf, IsVerdictTable}
 use Rattle.edit_sets.specs.FormFault.{GuardedEdits}
 use Rattle.history_spec.specs.Steps.{finding_limit, state_refusal}
-use Rattle.cell_findings.specs.declared.refusal.FindingRefusal.{FindingRefusal}
-use Rattle.cell_findings.specs.declared.refusal.FindingRefusal.TheVariants as finding
-use Rattle.cell_bench.specs.declared.refusal.LoadRefusal.{LoadRefusal}
-use Rattle.cell_bench.specs.declared.refusal.LoadRefusal.TheVariants as load
+use Rattle.cell_findings.specs.declared.refusal.LoadRefusal.{LoadRefusal}
+use Rattle.cell_findings.specs.AllFindings.{IsFindingRefusal}
 use Rattle.cell_bench.specs.declared.refusal.PlanRefusal.{PlanRefusal}
 use Rattle.cell_bench.specs.declared.refusal.PlanRefusal.TheVariants as plan
 use Rattle.cell_bench.specs.Ready.{AreExact}
@@ -36,15 +34,9 @@ pub record IsLoaded (c bench : Cell) : Type 0 where
   pub same : bench ≡ c
   pub few : finding_total c ≤ finding_limit
 
--- why a cell whose findings aren't told isn't loaded
-abbrev pub load_refusal_of : FindingRefusal → LoadRefusal
-load_refusal_of finding.TooMany = load.FindingsFull
-load_refusal_of finding.NoMemory = load.NoMemory
-
 -- a cell isn't loaded where it has more findings than the limit, or where memory is out
 abbrev pub IsLoadRefusal : Cell → LoadRefusal → Type 0
-IsLoadRefusal c load.FindingsFull = finding_limit < finding_total c
-IsLoadRefusal c load.NoMemory = Unit {0}
+IsLoadRefusal c why = IsFindingRefusal c finding_limit why
 
 -- what is planned is the edited cell, and nothing speaks against the edits
 pub record IsPlanned (c : Cell) (edits : List Edit) (planned : Cell) : Type 0 where

@@ -20,7 +20,8 @@ mod verdicts;
 
 pub use affected_subjects::Reach;
 pub use bench::Bench;
+pub use cell_findings::LoadRefusal;
 pub use count::narrow;
 pub use plan::BenchPlan;
 pub use prepared::Prepared;
-pub use refusal::{FINDING_LIMIT, LoadRefusal, PlanRefusal};
+pub use refusal::{FINDING_LIMIT, PlanRefusal};

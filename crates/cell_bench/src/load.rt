@@ -15,11 +15,11 @@ ghost use Rattle.cell_bench.specs.Verdicts.{total_of};
 
 use crate::bench::Bench;
 use crate::indexed::IndexedCell;
-use crate::refusal::{FINDING_LIMIT, LoadRefusal};
-use crate::singles::{names_of, singles_of};
+use crate::refusal::FINDING_LIMIT;
+use crate::singles::singles_of;
 use crate::table::rows_of;
 use crate::verdicts::Verdicts;
-use cell_findings::{Findings as FlatFindings, find_all, tiles_of};
+use cell_findings::{Findings as FlatFindings, LoadRefusal, find_all, names_in, tiles_of};
 use cell_spec::{Keys, Subject};
 use chain_topo::Steps;
 use depend_map::DependMap;
@@ -62,7 +62,7 @@ impl IndexedCell {
         requires few { total_of verdicts ≤ finding_limit }
         ensures { IfOk result (λ indexed. indexed ≡ cell) }
     {
-        let names = names_of(alloc, &cell)?;
+        let names = names_in(alloc, &cell)?;
         let singles = singles_of(alloc, &cell)?;
         let store = RecordStore::load(alloc, cell)?;
         let tiles = tiles_of(alloc, &store, names.as_slice(), steps)?;

@@ -9,8 +9,8 @@ use Rattle.cell_spec.specs.declared.key.Subject.{Subject}
 use Rattle.cell_spec.specs.Writable.{IsWritable}
 use Rattle.rule_spec.specs.Findings.{all_findings, finding_total, findings_among, findings_of_subject, subjects}
 use Rattle.cell_findings.specs.declared.list.SubjectFinding.{SubjectFinding}
-use Rattle.cell_findings.specs.declared.refusal.FindingRefusal.{FindingRefusal}
-use Rattle.cell_findings.specs.declared.refusal.FindingRefusal.TheVariants.{TooMany, NoMemory}
+use Rattle.cell_findings.specs.declared.refusal.LoadRefusal.{LoadRefusal}
+use Rattle.cell_findings.specs.declared.refusal.LoadRefusal.TheVariants.{FindingsFull, NoMemory}
 use Rattle.cell_findings.specs.AllFindings.{IsAllOf, IsFindingRefusal}
 use Rattle.cell_findings.specs.Gathered.{IsGathered, IsOver}
 use Rattle.cell_findings.specs.Judged.{judged_subjects, subject_findings}
@@ -54,14 +54,14 @@ module _ (c : Cell) (w : IsWritable c) where
   }
 
   -- what was refused has its cause in the cell
-  pub over_is_refusal : (limit : ℕ) (refusal : FindingRefusal) → IsOver limit (flat_map (subject_findings c) (judged_subjects c)) refusal
+  pub over_is_refusal : (limit : ℕ) (refusal : LoadRefusal) → IsOver limit (flat_map (subject_findings c) (judged_subjects c)) refusal
       → IsFindingRefusal c limit refusal
-  over_is_refusal limit TooMany is = subst (λ n. limit < n) total is
+  over_is_refusal limit FindingsFull is = subst (λ n. limit < n) total is
   over_is_refusal limit NoMemory is = tt
 
   -- what was gathered or refused by parts
   pub all_of_parts : (limit : ℕ) (all : List SubjectFinding) → all ≡ flat_map (subject_findings c) (judged_subjects c)
-      → (r : Result (List SubjectFinding) FindingRefusal) → MatchResult r (IsGathered limit all) (IsOver limit all)
+      → (r : Result (List SubjectFinding) LoadRefusal) → MatchResult r (IsGathered limit all) (IsOver limit all)
       → MatchResult r (IsAllOf c limit) (IsFindingRefusal c limit)
   all_of_parts limit all same (Ok found) h = gathered_is_all limit found (subst (λ fs. IsGathered limit fs found) same h)
   all_of_parts limit all same (Err refusal) h = over_is_refusal limit refusal (subst (λ fs. IsOver limit fs refusal) same h)

@@ -4,20 +4,20 @@ use Rattle.std.specs.Prelude.{Err, IfOk, MatchResult, Ok, Result}
 use Rattle.std.proofs.lemmas.List.Elements.{All-cons, All-head, All-nil, All-tail}
 use Rattle.rayon.proofs.ListFacts.{All-parts}
 use Rattle.cell_findings.specs.declared.list.SubjectFinding.{SubjectFinding}
-use Rattle.cell_findings.specs.declared.refusal.FindingRefusal.{FindingRefusal}
-use Rattle.cell_findings.specs.declared.refusal.FindingRefusal.TheVariants.{TooMany, NoMemory}
+use Rattle.cell_findings.specs.declared.refusal.LoadRefusal.{LoadRefusal}
+use Rattle.cell_findings.specs.declared.refusal.LoadRefusal.TheVariants.{FindingsFull, NoMemory}
 use Rattle.cell_findings.specs.Gathered.{IsGathered, IsOver}
 
 -- what was gathered, where it was
-pub gathered_if : {X : Type 0} (r : Result X FindingRefusal) (limit : ℕ) (all found : List SubjectFinding)
+pub gathered_if : {X : Type 0} (r : Result X LoadRefusal) (limit : ℕ) (all found : List SubjectFinding)
     → MatchResult r (λ _. IsGathered limit all found) (IsOver limit all) → IfOk r (λ _. found ≡ all)
 gathered_if (Ok x) limit all found is = is.same
 gathered_if (Err refusal) limit all found over = tt
 
 -- what is too much for a part is too much for all
-pub over_more : (limit : ℕ) (before row rest all : List SubjectFinding) (refusal : FindingRefusal) → before ++ (row ++ rest) ≡ all
+pub over_more : (limit : ℕ) (before row rest all : List SubjectFinding) (refusal : LoadRefusal) → before ++ (row ++ rest) ≡ all
     → IsOver limit (before ++ row) refusal → IsOver limit all refusal
-over_more limit before row rest all TooMany left over =
+over_more limit before row rest all FindingsFull left over =
     let parts = ap (λ fs. length fs) (append_assoc before row rest ∙ left) in
     let sum = length-append (before ++ row) rest in
     omega (arith, parts, sum, over)

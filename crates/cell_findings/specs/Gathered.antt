@@ -1,8 +1,8 @@
 -- Findings that are gathered within a limit. This project's own.
 use Rattle.std.specs.Prelude.{◌≡◌, ℕ, ◌≤◌, ◌<◌, List, length}
 use Rattle.cell_findings.specs.declared.list.SubjectFinding.{SubjectFinding}
-use Rattle.cell_findings.specs.declared.refusal.FindingRefusal.{FindingRefusal}
-use Rattle.cell_findings.specs.declared.refusal.FindingRefusal.TheVariants.{TooMany, NoMemory}
+use Rattle.cell_findings.specs.declared.refusal.LoadRefusal.{LoadRefusal}
+use Rattle.cell_findings.specs.declared.refusal.LoadRefusal.TheVariants.{FindingsFull, NoMemory}
 
 -- the findings that were gathered are all that there are, and not more than the limit
 pub record IsGathered (limit : ℕ) (all found : List SubjectFinding) : Type 0 where
@@ -10,6 +10,6 @@ pub record IsGathered (limit : ℕ) (all found : List SubjectFinding) : Type 0 w
   pub within : length all ≤ limit
 
 -- why they weren't gathered: there are more than the limit, or memory runs out
-abbrev pub IsOver : ℕ → List SubjectFinding → FindingRefusal → Type 0
-IsOver limit all TooMany = limit < length all
+abbrev pub IsOver : ℕ → List SubjectFinding → LoadRefusal → Type 0
+IsOver limit all FindingsFull = limit < length all
 IsOver limit all NoMemory = Unit {0}

@@ -17,7 +17,7 @@ ghost use Rattle.cell_findings.specs.Judged.{is_part_name, judged_subjects, part
 use crate::list::{Findings, SubjectFinding};
 use crate::names::{edge_names, identities_in, names_in, part_names};
 use crate::pairing::push_pairs;
-use crate::refusal::FindingRefusal;
+use crate::refusal::LoadRefusal;
 use crate::single::{push_identities, push_records, push_sides};
 use chain_topo::{ListLook, Steps};
 use s57_types::{Cell, Lnam, RecName};
@@ -32,7 +32,7 @@ fn push_records_and_sides<L: Ledger>(
     names: &[RecName],
     limit: usize,
     steps: &mut Steps<L>,
-) -> Result<(), FindingRefusal>
+) -> Result<(), LoadRefusal>
     requires { length gathered.old.items ≤ limit }
     ensures { MatchResult result
         (λ _. IsGathered limit (gathered.old.items ++ flat_map (subject_findings look.now) (records_and_sides names.now)) gathered.new.items)
@@ -52,7 +52,7 @@ fn push_pairs_and_identities<L: Ledger>(
     identities: &[Lnam],
     limit: usize,
     steps: &mut Steps<L>,
-) -> Result<(), FindingRefusal>
+) -> Result<(), LoadRefusal>
     requires parts { All (λ (n : SpecRecName). IsTrue (is_chain_part look.now n)) (filter is_part_name names.now) }
     requires subjects { All (λ (s : SpecSubject). IsTrue (is_subject look.now s)) (part_pairs names.now) }
     requires ascending { IsStrictlySortedBy name_order names.now }
@@ -73,7 +73,7 @@ fn gather<L: Ledger>(
     cell: &Cell,
     limit: usize,
     steps: &mut Steps<L>,
-) -> Result<Vec<SubjectFinding>, FindingRefusal>
+) -> Result<Vec<SubjectFinding>, LoadRefusal>
     requires writable { IsWritable cell.now }
     ensures { MatchResult result
         (λ found. IsGathered limit (flat_map (subject_findings cell.now) (judged_subjects cell.now)) found.items)
@@ -105,7 +105,7 @@ pub fn find_all<L: Ledger>(
     cell: &Cell,
     limit: usize,
     steps: &mut Steps<L>,
-) -> Result<Findings, FindingRefusal>
+) -> Result<Findings, LoadRefusal>
     requires writable { IsWritable cell.now }
     ensures { MatchResult result (IsAllOf cell.now limit) (IsFindingRefusal cell.now limit) }
 {

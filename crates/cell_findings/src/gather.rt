@@ -5,7 +5,7 @@ ghost use Rattle.cell_findings.specs.Gathered.{IsGathered, IsOver};
 ghost use Rattle.cell_findings.specs.Rows.{with_subject};
 
 use crate::list::SubjectFinding;
-use crate::refusal::FindingRefusal;
+use crate::refusal::LoadRefusal;
 use cell_spec::{Finding, Row, Subject};
 use std::alloc::AllocError;
 
@@ -31,13 +31,13 @@ pub(crate) fn push_found(
     subject: Subject,
     findings: &[Finding],
     limit: usize,
-) -> Result<(), FindingRefusal>
+) -> Result<(), LoadRefusal>
     ensures { MatchResult result (λ _. IsGathered limit (gathered.old.items ++ map (with_subject subject) findings.now)
         gathered.new.items) (IsOver limit (gathered.old.items ++ map (with_subject subject) findings.now)) }
 {
     push_findings(gathered, subject, findings)?;
     if gathered.len() > limit {
-        return Err(FindingRefusal::TooMany);
+        return Err(LoadRefusal::FindingsFull);
     }
     Ok(())
 }
@@ -47,7 +47,7 @@ pub(crate) fn push_row(
     gathered: &mut Vec<SubjectFinding>,
     row: &Row,
     limit: usize,
-) -> Result<(), FindingRefusal>
+) -> Result<(), LoadRefusal>
     ensures { MatchResult result (λ _. IsGathered limit (gathered.old.items ++ map (with_subject row.now.subject) row.now.findings)
         gathered.new.items) (IsOver limit (gathered.old.items ++ map (with_subject row.now.subject) row.now.findings)) }
 {

@@ -16,7 +16,8 @@ mod tiles;
 
 pub use findings::find_all;
 pub use list::{Findings, SubjectFinding};
-pub use refusal::FindingRefusal;
+pub use names::names_in;
+pub use refusal::LoadRefusal;
 pub use text::{push_cell, push_findings};
 pub use threads::find_all_in_threads;
 pub use tiles::tiles_of;

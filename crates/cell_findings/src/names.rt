@@ -23,7 +23,7 @@ fn push_names(names: &mut Vec<RecName>, recs: &[Rec]) -> Result<(), AllocError>
 }
 
 /// The names of a cell's records, ascending.
-pub(crate) fn names_in(alloc: Global, cell: &Cell) -> Result<Names, AllocError>
+pub fn names_in(alloc: Global, cell: &Cell) -> Result<Names, AllocError>
     ensures { IfOk result (λ names. names ≡ spec_names_in cell.now) }
 {
     let mut names = Vec::new(alloc);

@@ -17,7 +17,7 @@ ghost use Rattle.cell_findings.specs.Parts.{AreParts};
 use crate::gather::push_found;
 use crate::list::SubjectFinding;
 use crate::part::{PlacedParts, parts_of};
-use crate::refusal::FindingRefusal;
+use crate::refusal::LoadRefusal;
 use box_tree::{BoxTree, Leaf};
 use cell_spec::{Finding, Names, Subject, ascending_names, orders_are_by_parts};
 use chain_topo::{ListLook, Steps};
@@ -74,7 +74,7 @@ fn push_pair<L: Ledger>(
     pair: (RecName, RecName),
     limit: usize,
     steps: &mut Steps<L>,
-) -> Result<(), FindingRefusal>
+) -> Result<(), LoadRefusal>
     requires subject { IsTrue (is_subject look.now (SubjectPair pair.0 pair.1)) }
     requires parts { AreParts look.now placed.now }
     ensures { MatchResult result
@@ -95,7 +95,7 @@ fn push_pairs_with<L: Ledger>(
     others: &[RecName],
     limit: usize,
     steps: &mut Steps<L>,
-) -> Result<(), FindingRefusal>
+) -> Result<(), LoadRefusal>
     requires parts { AreParts look.now placed.now }
     requires subjects { All (λ (other : SpecRecName). IsTrue (is_subject look.now (SubjectPair name other))) others.now }
     requires within { length gathered.old.items ≤ limit }
@@ -119,7 +119,7 @@ fn push_pairs_of<L: Ledger>(
     leaf: Leaf,
     limit: usize,
     steps: &mut Steps<L>,
-) -> Result<(), FindingRefusal>
+) -> Result<(), LoadRefusal>
     requires parts { AreParts look.now placed.now }
     requires subjects { AreNearSubjects look.now tree.now leaf }
     requires within { length gathered.old.items ≤ limit }
@@ -144,7 +144,7 @@ pub(crate) fn push_near_pairs<L: Ledger>(
     tree: &BoxTree,
     limit: usize,
     steps: &mut Steps<L>,
-) -> Result<(), FindingRefusal>
+) -> Result<(), LoadRefusal>
     requires parts { AreParts look.now placed.now }
     requires subjects { All (AreNearSubjects look.now tree.now) leaves.now }
     requires within { length gathered.old.items ≤ limit }
@@ -167,7 +167,7 @@ pub(crate) fn push_pairs<L: Ledger>(
     names: &[RecName],
     limit: usize,
     steps: &mut Steps<L>,
-) -> Result<(), FindingRefusal>
+) -> Result<(), LoadRefusal>
     requires parts { All (λ (n : SpecRecName). IsTrue (is_chain_part look.now n)) names.now }
     requires subjects { All (λ (s : SpecSubject). IsTrue (is_subject look.now s)) (pairs_among names.now) }
     requires ascending { IsStrictlySortedBy name_order names.now }

@@ -8,7 +8,7 @@ ghost use Rattle.cell_findings.specs.Judged.{subject_findings};
 
 use crate::gather::push_row;
 use crate::list::SubjectFinding;
-use crate::refusal::FindingRefusal;
+use crate::refusal::LoadRefusal;
 use chain_topo::{ListLook, Steps};
 use check_group1::{verdict_ident, verdict_side};
 use check_record::verdict_rec;
@@ -23,7 +23,7 @@ fn push_record<L: Ledger>(
     name: RecName,
     limit: usize,
     steps: &mut Steps<L>,
-) -> Result<(), FindingRefusal>
+) -> Result<(), LoadRefusal>
     ensures { MatchResult result (λ _. IsGathered limit (gathered.old.items ++ subject_findings look.now (SubjectRec name)) gathered.new.items)
         (IsOver limit (gathered.old.items ++ subject_findings look.now (SubjectRec name))) }
 {
@@ -39,7 +39,7 @@ pub(crate) fn push_records<L: Ledger>(
     names: &[RecName],
     limit: usize,
     steps: &mut Steps<L>,
-) -> Result<(), FindingRefusal>
+) -> Result<(), LoadRefusal>
     requires { length gathered.old.items ≤ limit }
     ensures { MatchResult result (λ _. IsGathered limit (gathered.old.items ++ flat_map (subject_findings look.now) (map SubjectRec names.now))
         gathered.new.items) (IsOver limit (gathered.old.items ++ flat_map (subject_findings look.now) (map SubjectRec names.now))) }
@@ -57,7 +57,7 @@ fn push_side<L: Ledger>(
     edge: RecName,
     limit: usize,
     steps: &mut Steps<L>,
-) -> Result<(), FindingRefusal>
+) -> Result<(), LoadRefusal>
     ensures { MatchResult result (λ _. IsGathered limit (gathered.old.items ++ subject_findings look.now (SubjectSide edge)) gathered.new.items)
         (IsOver limit (gathered.old.items ++ subject_findings look.now (SubjectSide edge))) }
 {
@@ -73,7 +73,7 @@ pub(crate) fn push_sides<L: Ledger>(
     edges: &[RecName],
     limit: usize,
     steps: &mut Steps<L>,
-) -> Result<(), FindingRefusal>
+) -> Result<(), LoadRefusal>
     requires { length gathered.old.items ≤ limit }
     ensures { MatchResult result (λ _. IsGathered limit (gathered.old.items ++ flat_map (subject_findings look.now) (map SubjectSide edges.now))
         gathered.new.items) (IsOver limit (gathered.old.items ++ flat_map (subject_findings look.now) (map SubjectSide edges.now))) }
@@ -91,7 +91,7 @@ fn push_identity<L: Ledger>(
     identity: Lnam,
     limit: usize,
     steps: &mut Steps<L>,
-) -> Result<(), FindingRefusal>
+) -> Result<(), LoadRefusal>
     ensures { MatchResult result (λ _. IsGathered limit (gathered.old.items ++ subject_findings look.now (SubjectIdent identity))
         gathered.new.items) (IsOver limit (gathered.old.items ++ subject_findings look.now (SubjectIdent identity))) }
 {
@@ -107,7 +107,7 @@ pub(crate) fn push_identities<L: Ledger>(
     identities: &[Lnam],
     limit: usize,
     steps: &mut Steps<L>,
-) -> Result<(), FindingRefusal>
+) -> Result<(), LoadRefusal>
     requires { length gathered.old.items ≤ limit }
     ensures { MatchResult result (λ _. IsGathered limit (gathered.old.items ++ flat_map (subject_findings look.now)
         (map SubjectIdent identities.now)) gathered.new.items)

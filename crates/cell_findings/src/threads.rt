@@ -17,7 +17,7 @@ use crate::list::{Findings, SubjectFinding};
 use crate::names::{edge_names, identities_in, names_in, part_names};
 use crate::pairing::push_near_pairs;
 use crate::part::parts_of;
-use crate::refusal::FindingRefusal;
+use crate::refusal::LoadRefusal;
 use crate::single::{push_identities, push_records, push_sides};
 use chain_topo::{ListLook, Steps};
 use finding_laws::apart_pairs_are_clean;
@@ -44,7 +44,7 @@ fn push_block<L: Ledger>(
     block: Block,
     limit: usize,
     steps: &mut Steps<L>,
-) -> Result<(), FindingRefusal>
+) -> Result<(), LoadRefusal>
     requires parts { AreParts look.now judged.now.placed }
     requires subjects { AreSubjects look.now judged.now.tree block }
     requires within { length gathered.old.items ≤ limit }
@@ -79,7 +79,7 @@ fn counted<L: Ledger>(
     block: Block,
     limit: usize,
     blank: Blank,
-) -> Result<Findings, FindingRefusal>
+) -> Result<Findings, LoadRefusal>
     requires parts { AreParts look.now judged.now.placed }
     requires subjects { AreSubjects look.now judged.now.tree block }
     requires name { blank.name ≡ L.name }
@@ -101,7 +101,7 @@ fn judge(
     judged: &Judged,
     block: Block,
     limit: usize,
-) -> Result<Findings, FindingRefusal>
+) -> Result<Findings, LoadRefusal>
     requires parts { AreParts look.now judged.now.placed }
     requires subjects { AreSubjects look.now judged.now.tree block }
     ensures { IfOk result (λ found. found ≡ block_findings look.now judged.now.tree block.entry) }
@@ -114,8 +114,8 @@ fn judge(
 /// An `Err` is that of a call, or out of memory.
 fn each_in_threads<
     R: Threads + Sync,
-    F: Fn(&Block) -> Result<Findings, FindingRefusal> + Copy + Send + Sync,
->(rt: &R, alloc: Global, blocks: &[Block], judge: F) -> Result<Vec<Findings>, FindingRefusal>
+    F: Fn(&Block) -> Result<Findings, LoadRefusal> + Copy + Send + Sync,
+>(rt: &R, alloc: Global, blocks: &[Block], judge: F) -> Result<Vec<Findings>, LoadRefusal>
     requires { All (λ (block : SpecBlock). (shown : Bor SpecBlock) → shown.now ≡ block → F.pre judge shown) blocks.now }
     ensures { IfOk result (λ parts. (shown : List (Bor SpecBlock)) × (map (λ (b : Bor SpecBlock). b.now) shown ≡ blocks.now)
         × AllZip (λ b found. F.post judge b (Ok found)) shown parts.items) }
@@ -124,12 +124,12 @@ fn each_in_threads<
         .par_iter()
         .with_min_len(FEWEST)
         .map(
-            |block: &Block| -> Result<Findings, FindingRefusal>
+            |block: &Block| -> Result<Findings, LoadRefusal>
                 requires { F.pre judge block }
                 ensures { F.post judge block.entry result }
             { judge(block) },
         )
-        .collect::<Result<Vec<Findings>, FindingRefusal>>(rt, alloc)?;
+        .collect::<Result<Vec<Findings>, LoadRefusal>>(rt, alloc)?;
     Ok(parts?)
 }
 
@@ -143,7 +143,7 @@ fn judge_blocks<R: Threads + Sync>(
     judged: &Judged,
     blocks: &[Block],
     limit: usize,
-) -> Result<Vec<Findings>, FindingRefusal>
+) -> Result<Vec<Findings>, LoadRefusal>
     requires parts { AreParts look.now judged.now.placed }
     requires subjects { All (AreSubjects look.now judged.now.tree) blocks.now }
     ensures { IfOk result (λ parts. parts.items ≡ map (block_findings look.now judged.now.tree) blocks.now) }
@@ -152,7 +152,7 @@ fn judge_blocks<R: Threads + Sync>(
         rt,
         alloc,
         blocks,
-        |block: &Block| -> Result<Findings, FindingRefusal>
+        |block: &Block| -> Result<Findings, LoadRefusal>
             requires { AreParts look.now judged.now.placed × AreSubjects look.now judged.now.tree block.now }
             ensures { IfOk result (λ found. found ≡ block_findings look.entry.now judged.entry.now.tree block.now) }
         { judge(alloc, look, judged, *block, limit) },
@@ -195,7 +195,7 @@ fn judged_by<R: Threads + Sync, L: Ledger>(
     cell: &Cell,
     limit: usize,
     blank: Blank,
-) -> Result<Vec<Findings>, FindingRefusal>
+) -> Result<Vec<Findings>, LoadRefusal>
     requires writable { IsWritable cell.now }
     requires name { blank.name ≡ L.name }
     requires parts { blank.parts ≡ L.parts }
@@ -215,18 +215,18 @@ fn push_part(
     all: &mut Vec<SubjectFinding>,
     part: &[SubjectFinding],
     limit: usize,
-) -> Result<(), FindingRefusal>
+) -> Result<(), LoadRefusal>
     ensures { MatchResult result (λ _. IsGathered limit (all.old.items ++ part.now) all.new.items) (IsOver limit (all.old.items ++ part.now)) }
 {
     all.extend_from_slice(part)?;
     if all.len() > limit {
-        return Err(FindingRefusal::TooMany);
+        return Err(LoadRefusal::FindingsFull);
     }
     Ok(())
 }
 
 /// The findings of blocks one after the other, within the limit.
-fn joined(alloc: Global, parts: &[Findings], limit: usize) -> Result<Findings, FindingRefusal>
+fn joined(alloc: Global, parts: &[Findings], limit: usize) -> Result<Findings, LoadRefusal>
     ensures { MatchResult result (IsGathered limit (flat_map (λ part. part) parts.now)) (IsOver limit (flat_map (λ part. part) parts.now)) }
 {
     let mut all = Vec::new(alloc);
@@ -242,7 +242,7 @@ fn find_alone<L: Ledger>(
     cell: &Cell,
     limit: usize,
     blank: Blank,
-) -> Result<Findings, FindingRefusal>
+) -> Result<Findings, LoadRefusal>
     requires writable { IsWritable cell.now }
     requires name { blank.name ≡ L.name }
     requires parts { blank.parts ≡ L.parts }
@@ -262,7 +262,7 @@ pub fn find_all_in_threads<R: Threads + Sync>(
     alloc: Global,
     cell: &Cell,
     limit: usize,
-) -> Result<Findings, FindingRefusal>
+) -> Result<Findings, LoadRefusal>
     requires writable { IsWritable cell.now }
     ensures { MatchResult result (IsAllOf cell.now limit) (IsFindingRefusal cell.now limit) }
 {

@@ -9,7 +9,7 @@ ghost use Rattle.whole_files.specs.Output.{Adds, AddsFront};
 ghost use Rattle.draw_top.specs.Drawing.{IsAnswer, IsCause, drawn_bytes, drawn_cell, ending_of};
 
 use crate::ending::Ending;
-use cell_findings::{FindingRefusal, find_all};
+use cell_findings::{LoadRefusal, find_all};
 use cell_picture::push_picture;
 use cell_read::{ReadRefusal, read_cell};
 use decode_laws::decoded_cell_is_writable;
@@ -39,8 +39,8 @@ fn draw_counted<L: Ledger>(alloc: Global, cell: &Cell, blank: Blank) -> Result<V
     let mut steps = start_counter::<L>(blank);
     let findings = match find_all(alloc, cell, FINDING_LIMIT, &mut steps) {
         Ok(findings) => findings,
-        Err(FindingRefusal::TooMany) => return Err(Ending::TooManyFindings),
-        Err(FindingRefusal::NoMemory) => return Err(Ending::NoMemory),
+        Err(LoadRefusal::FindingsFull) => return Err(Ending::TooManyFindings),
+        Err(LoadRefusal::NoMemory) => return Err(Ending::NoMemory),
     };
     let mut text = Vec::new(alloc);
     push_picture(&mut text, cell, findings.as_slice(), &mut steps)?;
