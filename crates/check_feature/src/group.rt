@@ -13,8 +13,8 @@ use rule_spec::WRONG_GROUP;
 use s57_types::Feature;
 use std::alloc::AllocError;
 
-/// The group GRUP of the skin of the earth.
-const SKIN: u8 = 1;
+/// The group GRUP of the skin of the earth (Group 1).
+const GROUP_1: u8 = 1;
 
 /// WrongGroup: appends its finding about a feature.
 pub(crate) fn push_wrong_group(
@@ -23,6 +23,6 @@ pub(crate) fn push_wrong_group(
 ) -> Result<(), AllocError>
     ensures { (c : SpecCell) → OnOk result (findings.new.items ≡ findings.old.items ++ map (finding WRONG_GROUP) (wrong_group c feature.now)) }
 {
-    let has_group1 = feature.grup == SKIN;
+    let has_group1 = feature.grup == GROUP_1;
     push_if(findings, WRONG_GROUP, is_group1_area(feature) != has_group1)
 }
