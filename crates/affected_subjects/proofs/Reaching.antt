@@ -26,17 +26,19 @@ module _ (edits : List Edit) (c d : Cell) (edited : d ≡ apply_edits edits c) (
       (sym (planned ∙ (λ i. after_changes tiles (flat_map (changes_to (edited i)) (first_of reads (touched i))))))
       (changes edits c reads tiles found are covers)
 
-  module _ (changes : ChangesGiveTheTiles) (rounds : RoundsAreConsidered) (found : FindTheirRecords edits c) (list : List Subject)
-      (looked_at : list ≡ add_each (mated tiles after) (first_of reads keys) (first_of reads keys)) where
-    list_is : list ≡ each_once (considered (change_by edits c))
-    list_is =
-        looked_at
-        ∙ (λ i. add_each (mated tiles after) (first_of reads (touched i)) (first_of reads (touched i)))
-        ∙ rounds edits c reads tiles after are covers (tiles_are changes found)
+  pub list_is : ChangesGiveTheTiles → RoundsAreConsidered → FindTheirRecords edits c → (list : List Subject)
+      → list ≡ add_each (mated tiles after) (first_of reads keys) (first_of reads keys) → list ≡ each_once (considered (change_by edits c))
+  list_is changes rounds found list looked_at =
+      looked_at
+      ∙ (λ i. add_each (mated tiles after) (first_of reads (touched i)) (first_of reads (touched i)))
+      ∙ rounds edits c reads tiles after are covers (tiles_are changes found)
 
-    pub judged_is : (judged : List Subject) → judged ≡ filter (is_subject d) list → judged ≡ affected_list (change_by edits c)
-    unfolding affected_list
-    judged_is judged is = is ∙ (λ i. filter (is_subject (edited i)) (list_is i))
+-- what is looked at is put apart by what the edited cell has
+module _ (edits : List Edit) (c d : Cell) (edited : d ≡ apply_edits edits c) (list : List Subject)
+    (is_considered : list ≡ each_once (considered (change_by edits c))) where
+  pub judged_is : (judged : List Subject) → judged ≡ filter (is_subject d) list → judged ≡ affected_list (change_by edits c)
+  unfolding affected_list
+  judged_is judged is = is ∙ (λ i. filter (is_subject (edited i)) (is_considered i))
 
-    pub gone_is : (gone : List Subject) → gone ≡ filter (λ s. not (is_subject d s)) list → gone ≡ gone_list (change_by edits c)
-    gone_is gone is = is ∙ (λ i. filter (λ s. not (is_subject (edited i) s)) (list_is i))
+  pub gone_is : (gone : List Subject) → gone ≡ filter (λ s. not (is_subject d s)) list → gone ≡ gone_list (change_by edits c)
+  gone_is gone is = is ∙ (λ i. filter (λ s. not (is_subject (edited i) s)) (is_considered i))
