@@ -231,7 +231,7 @@ fn judge_script(alloc: Global, bytes: &[u8], session: u32) -> Result<Script, Sta
 }
 
 /// The script of a session in an input file.
-pub fn read_session<H: Shelf>(
+pub fn script_in_file<H: Shelf>(
     alloc: Global,
     shelf: &mut H,
     name: &str,
@@ -261,7 +261,7 @@ fn push_script(scripts: &mut Vec<Script>, script: Script) -> Result<(), AllocErr
 }
 
 /// The scripts of sessions in input files, in order.
-pub fn read_scripts<H: Shelf>(
+pub fn scripts_in_files<H: Shelf>(
     alloc: Global,
     shelf: &mut H,
     names: &[String],
@@ -281,7 +281,7 @@ pub fn read_scripts<H: Shelf>(
     let mut scripts = Vec::new(alloc);
     for (k, name) in names.iter().enumerate() {
         let session = k as u32 + 1;
-        let script = match read_session(alloc, shelf, name.as_str(), session) {
+        let script = match script_in_file(alloc, shelf, name.as_str(), session) {
             Ok(script) => script,
             Err(status) => return Err(status),
         };
@@ -318,7 +318,7 @@ fn judge_order(alloc: Global, bytes: &[u8], quotas: &[u32]) -> Result<Order, Sta
 }
 
 /// The order of an input file.
-pub fn read_sessions<H: Shelf>(
+pub fn order_in_file<H: Shelf>(
     alloc: Global,
     shelf: &mut H,
     name: &str,

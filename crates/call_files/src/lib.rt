@@ -6,8 +6,8 @@ mod output;
 mod work;
 
 pub use inputs::{
-    Checked, quotas_of, read_bench, read_cell, read_scripts, read_session, read_sessions,
-    read_update,
+    Checked, order_in_file, quotas_of, read_bench, read_cell, read_update, script_in_file,
+    scripts_in_files,
 };
 pub use output::finish;
 pub use work::{Export, Work};

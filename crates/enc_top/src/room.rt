@@ -11,7 +11,7 @@ ghost use Rattle.export_laws.specs.ExportedCells.{IsScriptOfText};
 ghost use Rattle.room_run.specs.Rooms.{IsRunEnd};
 
 use crate::work::work_of;
-use call_files::{Work, read_bench, read_scripts};
+use call_files::{Work, read_bench, scripts_in_files};
 use cell_bench::Bench;
 use enc_outside::{Meet, Shelf};
 use export_laws::exports_are_read_back;
@@ -73,7 +73,7 @@ fn room_on<R: Threads + Wait + Sync, H: Shelf, M: Meet + Sync>(
         Ok(bench) => bench,
         Err(status) => return Err(status),
     };
-    let scripts = match read_scripts(alloc, shelf, names) {
+    let scripts = match scripts_in_files(alloc, shelf, names) {
         Ok(scripts) => scripts,
         Err(status) => return Err(status),
     };

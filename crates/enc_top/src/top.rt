@@ -24,7 +24,7 @@ use crate::room::asked_room;
 use crate::update::apply;
 use crate::words::begins_with_room;
 use crate::work::work_of;
-use call_files::{Work, finish, quotas_of, read_bench, read_cell, read_scripts, read_sessions};
+use call_files::{Work, finish, order_in_file, quotas_of, read_bench, read_cell, scripts_in_files};
 use cell_bench::Bench;
 use cell_findings::push_cell;
 use commit_book::Book;
@@ -266,7 +266,7 @@ fn run_on<R: Threads + Sync, H: Shelf>(
     ensures read_faults { H.read_faults shelf.old ≤ H.read_faults shelf.new }
     ensures write_faults { H.write_faults shelf.new ≡ H.write_faults shelf.old }
 {
-    let scripts = match read_scripts(alloc, shelf, names) {
+    let scripts = match scripts_in_files(alloc, shelf, names) {
         Ok(scripts) => scripts,
         Err(status) => return Err(status),
     };
@@ -297,7 +297,7 @@ fn run_in_order_of<R: Threads + Sync, H: Shelf>(
 {
     exports_are_read_back();
     let quotas = quotas_of(alloc, &scripts)?;
-    let sessions = match read_sessions(alloc, shelf, order, &quotas) {
+    let sessions = match order_in_file(alloc, shelf, order, &quotas) {
         Ok(sessions) => sessions,
         Err(status) => return Err(status),
     };

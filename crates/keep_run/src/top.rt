@@ -12,7 +12,7 @@ ghost use Rattle.keep_run.specs.Words.{form_of, keep_form};
 use crate::keep::keep;
 use crate::report::Kept;
 use book_journal::a_journal_has_one_reading;
-use call_files::{Export, Work, finish, read_cell, read_session};
+use call_files::{Export, Work, finish, read_cell, script_in_file};
 use crash_disk::Disk;
 use decode_laws::decoded_cell_is_writable;
 use enc_outside::{Shelf, Sink};
@@ -133,7 +133,7 @@ fn kept_work<R: Threads + Sync, H: Shelf, D: Disk>(
         Ok(checked) => checked,
         Err(status) => return Err(status),
     };
-    let script = match read_session(alloc, shelf, script, DESK) {
+    let script = match script_in_file(alloc, shelf, script, DESK) {
         Ok(script) => script,
         Err(status) => return Err(status),
     };

@@ -14,7 +14,7 @@ returns-in-Err-clause-tells g c =
     let quotas = c.deref-2.ensures.value ∙ c.in_ok-quotas.ensures ∙ ap quotas_of c.deref.ensures.value in
     tells_first (λ order. order) task_of (OrderIs c.deref-2.result.now c.args.order.now)
     (OrderedRunIs c.args.bench c.args.out.now c.args.order.now c.args.scripts.items) (IsFile c.args.order.now) (IsFile c.args.order.now)
-    (g.H.Shelf.files c.args.shelf.now) (g.H.Shelf.read_faults c.args.shelf.now) (g.H.Shelf.read_faults c.read_sessions.new.shelf) c.in-Err.status
+    (g.H.Shelf.files c.args.shelf.now) (g.H.Shelf.read_faults c.args.shelf.now) (g.H.Shelf.read_faults c.order_in_file.new.shelf) c.in-Err.status
     (λ fs bad. inr (c.in-Err.status, subst (λ q. OrderIs q c.args.order.now fs (Err c.in-Err.status)) quotas bad, refl))
     (λ fs n near. near) c.in-Err.ensures.tells
 

@@ -13,7 +13,7 @@ returns-in-Err-clause-tells g c =
     tells_first (λ (scripts : Vec Script Global). scripts.items) task_of (ScriptsAre (map string_bytes c.args.names.now))
     (RunIs c.args.bench c.args.out.now c.args.order.now (map string_bytes c.args.names.now))
     (λ fs n. IsReachedScript (map string_bytes c.args.names.now) fs n) (λ fs n. IsReachedInRun c.args.order.now (map string_bytes c.args.names.now) fs n)
-    (g.H.Shelf.files c.args.shelf.now) (g.H.Shelf.read_faults c.args.shelf.now) (g.H.Shelf.read_faults c.read_scripts.new.shelf) c.in-Err.status
+    (g.H.Shelf.files c.args.shelf.now) (g.H.Shelf.read_faults c.args.shelf.now) (g.H.Shelf.read_faults c.scripts_in_files.new.shelf) c.in-Err.status
     (λ fs bad. inr (c.in-Err.status, bad, refl)) (λ fs n near. inl near) c.in-Err.ensures.tells
 
 pub returns-in-Err-clause-status : goal.returns-in-Err-clause-status
@@ -26,14 +26,14 @@ returns-clause-tells g c =
     let names = map string_bytes c.args.names.now in
     let tells =
     subst (λ files. Tells task_of (OrderedRunIs c.args.bench c.args.out.now c.args.order.now c.in-Ok.scripts.items)
-    (IsFile c.args.order.now) files (g.H.Shelf.read_faults c.read_scripts.new.shelf)
+    (IsFile c.args.order.now) files (g.H.Shelf.read_faults c.scripts_in_files.new.shelf)
     (g.H.Shelf.read_faults c.run_in_order_of.new.shelf) c.run_in_order_of.result)
     c.in-Ok.ensures.files
     c.run_in_order_of.ensures.tells in
     tells_last task_of (OrderedRunIs c.args.bench c.args.out.now c.args.order.now c.in-Ok.scripts.items)
     (RunIs c.args.bench c.args.out.now c.args.order.now names) (IsFile c.args.order.now) (λ fs n. IsReachedInRun c.args.order.now names fs n)
     (λ fs. ScriptsAre names fs (Ok c.in-Ok.scripts.items))
-    (g.H.Shelf.files c.args.shelf.now) (g.H.Shelf.read_faults c.args.shelf.now) (g.H.Shelf.read_faults c.read_scripts.new.shelf)
+    (g.H.Shelf.files c.args.shelf.now) (g.H.Shelf.read_faults c.args.shelf.now) (g.H.Shelf.read_faults c.scripts_in_files.new.shelf)
     (g.H.Shelf.read_faults c.run_in_order_of.new.shelf) c.run_in_order_of.result
     c.in-Ok.ensures.read_faults c.in-Ok.ensures.tells (λ fs answer good step. inl (c.in-Ok.scripts.items, good, step))
     (λ fs n good is. inr (c.in-Ok.scripts.items, good, is)) tells
@@ -47,7 +47,7 @@ pub returns-clause-run : goal.returns-clause-run
 returns-clause-run g c =
     let names = map string_bytes c.args.names.now in
     if_ok_more (λ (work : Work). IsOrderedRun c.args.bench c.args.out.now c.args.order.now c.in-Ok.scripts.items
-    (g.H.Shelf.files c.read_scripts.new.shelf) (task_of work))
+    (g.H.Shelf.files c.scripts_in_files.new.shelf) (task_of work))
     (λ (work : Work). IsRunOf c.args.bench c.args.out.now c.args.order.now names (g.H.Shelf.files c.args.shelf.now) (task_of work)) c.run_in_order_of.result
     (λ work run. record {
       commands = c.in-Ok.scripts.items;

@@ -8,7 +8,7 @@ use Rattle.export_laws.specs.ExportedCells.{IsScriptOfText}
 use Rattle.sessions.specs.Replays.{IsShortScript}
 use Rattle.call_files.specs.Inputs.{AreScripts, IsAmong, IsFile, IsReachedScript, ScriptIs, ScriptsAre, Tells}
 use Rattle.call_files.proofs.Answered.{both_told, first_bad, name_there, reached_script, scripts_more, status_of_more, tells_later}
-use Rattle.call_files.proofs.inputs.read_scripts.Goals as goal
+use Rattle.call_files.proofs.inputs.scripts_in_files.Goals as goal
 
 pub returns-in-Err-clause-tells : goal.returns-in-Err-clause-tells
 returns-in-Err-clause-tells g c =
@@ -22,12 +22,12 @@ returns-in-Err-clause-tells g c =
     tells_later (λ script. script) (λ (scripts : Vec Script Global). scripts.items) (ScriptIs (c.loop-k.k + 1) c.as_str.result.now)
     (ScriptsAre names) (IsFile c.as_str.result.now) (λ fs n. IsReachedScript names fs n) (λ fs. AreScripts names fs c.loop-k.scripts.items)
     (g.H.Shelf.files c.args.shelf.now) (g.H.Shelf.read_faults c.args.shelf.now) (g.H.Shelf.read_faults c.loop-k.shelf)
-    (g.H.Shelf.read_faults c.read_session.new.shelf) c.in-Err.status
+    (g.H.Shelf.read_faults c.script_in_file.new.shelf) c.in-Err.status
     before.read_faults before.good (λ fs good bad. first_bad names fs c.loop-k.scripts.items c.as_str.result.now c.in-Err.status
     inside there good (subst (λ n. ScriptIs (n + 1) c.as_str.result.now fs (Err c.in-Err.status)) (sym before.many) bad))
     (λ fs other good is. reached_script names fs c.loop-k.scripts.items c.as_str.result.now other inside there good is)
     (subst (λ files. Tells (λ script. script) (ScriptIs (c.loop-k.k + 1) c.as_str.result.now) (IsFile c.as_str.result.now) files
-    (g.H.Shelf.read_faults c.loop-k.shelf) (g.H.Shelf.read_faults c.read_session.new.shelf) (Err c.in-Err.status)) before.files
+    (g.H.Shelf.read_faults c.loop-k.shelf) (g.H.Shelf.read_faults c.script_in_file.new.shelf) (Err c.in-Err.status)) before.files
     c.in-Err.ensures.tells)
 
 pub returns-in-Err-clause-status : goal.returns-in-Err-clause-status
@@ -47,7 +47,7 @@ loop-k-preserved g c =
     let there = ap (λ k. slice_index_or names k []) before.many
     ∙ name_there c.args.names.now c.loop-k.k c.index-names-k.result within c.index-names-k.is ∙ sym c.as_str.ensures.value in
     let tells = subst (λ files. Tells (λ script. script) (ScriptIs (c.loop-k.k + 1) c.as_str.result.now) (IsFile c.as_str.result.now) files
-    (g.H.Shelf.read_faults c.loop-k.shelf) (g.H.Shelf.read_faults c.read_session.new.shelf) (Ok c.in-Ok.script)) before.files
+    (g.H.Shelf.read_faults c.loop-k.shelf) (g.H.Shelf.read_faults c.script_in_file.new.shelf) (Ok c.in-Ok.script)) before.files
     c.in-Ok.ensures.tells in
     let pushed = c.in_ok-push_script.ensures in
     record {
