@@ -1,5 +1,5 @@
 -- A drill: the generated scripts are run on the generated cell, the sessions in turn. This project's own.
-use Rattle.std.specs.Prelude.{◌≡◌, ℕ, ◌≤◌, ◌<◌, Bool, true, false, List, length, count_by}
+use Rattle.std.specs.Prelude.{◌≡◌, ℕ, ◌≤◌, Bool, true, false, List, length, count_by}
 use Rattle.s57_types.specs.declared.cell.Cell.{Cell}
 use Rattle.rule_spec.specs.Findings.{finding_total}
 use Rattle.text_spec.specs.declared.command.Command.{Command}
@@ -14,8 +14,6 @@ use Rattle.cell_make.specs.GeneratedCell.{generated_cell}
 use Rattle.cell_make.specs.GeneratedScripts.{generated_scripts}
 use Rattle.drill_run.specs.RoundRobin.{round_robin}
 use Rattle.drill_run.specs.declared.counts.Drilled.{Drilled}
-use Rattle.drill_run.specs.declared.run.DrillRefusal.{DrillRefusal}
-use Rattle.drill_run.specs.declared.run.DrillRefusal.TheVariants.{TooManyFindings, NoMemory}
 
 -- an answer that refuses a commit
 abbrev pub is_refusal : Brief → Bool
@@ -47,8 +45,3 @@ drill_counts n sessions = counts_of_run (generated_cell n) (generated_scripts n 
 pub record IsDrilled (n sessions : ℕ) (drilled : Drilled) : Type 0 where
   pub few : finding_total (generated_cell n) ≤ finding_limit
   pub counts : drilled ≡ drill_counts n sessions
-
--- there is none where it has too many, or where memory runs out
-abbrev pub IsDrillRefusal : ℕ → DrillRefusal → Type 0
-IsDrillRefusal n TooManyFindings = finding_limit < finding_total (generated_cell n)
-IsDrillRefusal n NoMemory = Unit {0}

@@ -8,4 +8,4 @@ mod turns;
 
 pub use counts::Drilled;
 pub use lines::{push_drill, push_made};
-pub use run::{DrillRefusal, drill};
+pub use run::drill;

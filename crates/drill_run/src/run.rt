@@ -1,8 +1,10 @@
 //! A drill.
 
 ghost use Rattle.std.specs.Prelude.{◌≡◌, ◌≤◌, [], IfErr, IfOk};
+ghost use Rattle.cell_bench.specs.Benches.{IsLoadRefusal};
+ghost use Rattle.cell_make.specs.GeneratedCell.{generated_cell};
 ghost use Rattle.cell_make.specs.GeneratedScripts.{generated_scripts};
-ghost use Rattle.drill_run.specs.Drills.{IsDrillRefusal, IsDrilled, counts_of_run};
+ghost use Rattle.drill_run.specs.Drills.{IsDrilled, counts_of_run};
 ghost use Rattle.drill_run.specs.RoundRobin.{round_robin as round_robin_of};
 
 use crate::counts::{Drilled, counts_of};
@@ -13,25 +15,6 @@ use commit_book::Book;
 use sessions::{load_bench, replay};
 use std::alloc::{AllocError, Global};
 use std::thread::Threads;
-
-/// Why there is no drill.
-#[derive(Clone, Copy, Debug, PartialEq, Eq, Drop)]
-pub enum DrillRefusal {
-    /// The generated cell has more findings than the limit.
-    TooManyFindings,
-    /// Out of memory.
-    NoMemory,
-}
-
-impl From<AllocError> for DrillRefusal {
-    ghost use Rattle.drill_run.specs.declared.run.DrillRefusal.TheVariants.{NoMemory};
-
-    ghost from_gives = { λ _ refusal. refusal ≡ NoMemory };
-
-    fn from(_error: AllocError) -> DrillRefusal {
-        DrillRefusal::NoMemory
-    }
-}
 
 /// The counts of running the generated scripts on the cell of an opened log, the sessions in turn.
 fn run_in_turns<R: Threads + Sync>(
@@ -63,20 +46,16 @@ pub fn drill<R: Threads + Sync>(
     alloc: Global,
     size: u32,
     sessions: u32,
-) -> Result<Drilled, DrillRefusal>
+) -> Result<Drilled, LoadRefusal>
     requires some { 1 ≤ size }
     requires few { size ≤ 100 }
     requires one_session { 1 ≤ sessions }
     requires sessions { sessions ≤ 16 }
     ensures ok { IfOk result (IsDrilled size sessions) }
-    ensures err { IfErr result (IsDrillRefusal size) }
+    ensures err { IfErr result (IsLoadRefusal (generated_cell size)) }
 {
     let cell = make_cell(alloc, size)?;
-    let bench = match load_bench(alloc, cell) {
-        Ok(bench) => bench,
-        Err(LoadRefusal::FindingsFull) => return Err(DrillRefusal::TooManyFindings),
-        Err(LoadRefusal::NoMemory) => return Err(DrillRefusal::NoMemory),
-    };
+    let bench = load_bench(alloc, cell)?;
     let book = Book::of_bench(alloc, bench);
     Ok(run_in_turns(rt, alloc, book, size, sessions)?)
 }

@@ -10,9 +10,10 @@ ghost use Rattle.enc_top.specs.Words.{drill_among, make_among};
 
 use crate::words::number_up_to;
 use call_files::{Export, Work};
+use cell_bench::LoadRefusal;
 use cell_make::make_cell;
 use cell_write::write_cell;
-use drill_run::{DrillRefusal, push_drill, push_made};
+use drill_run::{push_drill, push_made};
 use file_spec::writable_cell_is_read_back;
 use report_text::Status;
 use std::alloc::{AllocError, Global};
@@ -91,8 +92,8 @@ fn drilled_work<R: Threads + Sync>(
 {
     let drilled = match drill_run::drill(rt, alloc, size, sessions) {
         Ok(drilled) => drilled,
-        Err(DrillRefusal::TooManyFindings) => return Err(Status::TooManyFindings),
-        Err(DrillRefusal::NoMemory) => return Err(Status::NoMemory),
+        Err(LoadRefusal::FindingsFull) => return Err(Status::TooManyFindings),
+        Err(LoadRefusal::NoMemory) => return Err(Status::NoMemory),
     };
     let mut text = Vec::new(alloc);
     push_drill(alloc, size, sessions, &drilled, &mut text)?;

@@ -1,13 +1,15 @@
 use Rattle.std.proofs.Common.{◌++◌, inl, inr, refl, subst, ap, ◌∙◌}
 use Rattle.std.proofs.lemmas.Result.{err_from_is_err_and}
-use Rattle.drill_run.specs.Drills.{IsDrillRefusal}
+use Rattle.cell_bench.specs.Benches.{IsLoadRefusal}
+use Rattle.cell_make.specs.GeneratedCell.{generated_cell}
 use Rattle.drill_run.specs.DrillText.{drill_line}
 use Rattle.enc_top.proofs.GeneratedWork.{drilled_is, too_full}
 use Rattle.enc_top.proofs.made.drilled_work.Goals as goal
 
-pub returns-in-Err-TooManyFindings : goal.returns-in-Err-TooManyFindings
-returns-in-Err-TooManyFindings g c =
-    inl (too_full c.args.size c.args.sessions (subst (IsDrillRefusal c.args.size) c.in-Err-TooManyFindings.field-0-is c.in-Err-TooManyFindings.ensures.err))
+pub returns-in-Err-FindingsFull : goal.returns-in-Err-FindingsFull
+returns-in-Err-FindingsFull g c =
+    inl (too_full c.args.size c.args.sessions (subst (IsLoadRefusal (generated_cell c.args.size)) c.in-Err-FindingsFull.field-0-is
+    c.in-Err-FindingsFull.ensures.err))
 
 pub returns-in_err-push_drill : goal.returns-in_err-push_drill
 returns-in_err-push_drill g c =
