@@ -8,6 +8,8 @@ use Rattle.std.specs.Str.Parse.{digits_value, signed_digits_value}
 use Rattle.geometry_spec.specs.Points.{Point}
 use Rattle.enc_top.specs.declared.operation.Operation.{Operation}
 use Rattle.enc_top.specs.declared.operation.Operation.TheVariants.{Split, Join}
+use Rattle.enc_top.specs.declared.operation.OperationKind.{OperationKind}
+use Rattle.enc_top.specs.declared.operation.OperationKind.TheVariants as kinds
 use Rattle.call_files.specs.Words.{is_word}
 
 -- the text is that of a number
@@ -89,6 +91,10 @@ split_in other = None
 abbrev pub join_in : List (List ℕ) → Option Operation
 join_in (edge ∷ other ∷ []) = option_and_then (λ e. option_map (Join e) (number_in other)) (number_in edge)
 join_in other = None
+
+abbrev pub operation_in : OperationKind → List (List ℕ) → Option Operation
+operation_in kinds.Split = split_in
+operation_in kinds.Join = join_in
 
 abbrev pub edge_of : (cell out : List ℕ) → Option Operation → Form
 edge_of cell out None = no_form

@@ -6,10 +6,10 @@ ghost use Rattle.topo_ops.specs.declared.refusal.OpRefusal.{OpRefusal as SpecRef
 ghost use Rattle.call_files.specs.Inputs.{IsJudged};
 ghost use Rattle.enc_top.specs.Operations.{IsOperation, IsOperationEnd, IsOperationStatus, OperationKeeps, operated, operation_refusal};
 ghost use Rattle.enc_top.specs.Outcome.{IsAskedBy};
-ghost use Rattle.enc_top.specs.Words.{edge_among, edge_form, join_in, split_in};
+ghost use Rattle.enc_top.specs.Words.{edge_among, edge_form, operation_in};
 
 use crate::first::{commit, left_work};
-use crate::operation::{Operation, join_in_words, split_in_words};
+use crate::operation::{Operation, OperationKind, operation_in_words};
 use call_files::{Work, read_bench};
 use cell_bench::Bench;
 use chain_topo::Steps;
@@ -23,14 +23,15 @@ use std::sync::ledger::{Blank, Ledger};
 use std::thread::Threads;
 use topo_ops::OpRefusal;
 
-/// The work that the words behind `split` ask for.
-pub(crate) fn split<R: Threads + Sync, H: Shelf>(
+/// The work that the words behind `split` or `join` ask for.
+pub(crate) fn edit_edges<R: Threads + Sync, H: Shelf>(
     rt: &R,
     alloc: Global,
     others: &[String],
     shelf: &mut H,
+    kind: OperationKind,
 ) -> Result<Work, Status>
-    ensures asked { IsAskedBy ⊥ (edge_among split_in (map string_bytes others.now))
+    ensures asked { IsAskedBy ⊥ (edge_among (operation_in kind) (map string_bytes others.now))
         (H.files shelf.old) (H.read_faults shelf.old) (H.read_faults shelf.new) result }
     ensures files { H.files shelf.new ≡ H.files shelf.old }
     ensures read_faults { H.read_faults shelf.old ≤ H.read_faults shelf.new }
@@ -39,29 +40,7 @@ pub(crate) fn split<R: Threads + Sync, H: Shelf>(
     let [cell, out, numbers @ ..] = others else {
         return Err(Status::Usage);
     };
-    let Some(operation) = split_in_words(numbers) else {
-        return Err(Status::Usage);
-    };
-    edit(rt, alloc, shelf, cell.as_str(), out.as_str(), operation)
-}
-
-/// The work that the words behind `join` ask for.
-pub(crate) fn join<R: Threads + Sync, H: Shelf>(
-    rt: &R,
-    alloc: Global,
-    others: &[String],
-    shelf: &mut H,
-) -> Result<Work, Status>
-    ensures asked { IsAskedBy ⊥ (edge_among join_in (map string_bytes others.now))
-        (H.files shelf.old) (H.read_faults shelf.old) (H.read_faults shelf.new) result }
-    ensures files { H.files shelf.new ≡ H.files shelf.old }
-    ensures read_faults { H.read_faults shelf.old ≤ H.read_faults shelf.new }
-    ensures write_faults { H.write_faults shelf.new ≡ H.write_faults shelf.old }
-{
-    let [cell, out, numbers @ ..] = others else {
-        return Err(Status::Usage);
-    };
-    let Some(operation) = join_in_words(numbers) else {
+    let Some(operation) = operation_in_words(kind, numbers) else {
         return Err(Status::Usage);
     };
     edit(rt, alloc, shelf, cell.as_str(), out.as_str(), operation)

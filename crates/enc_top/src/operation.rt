@@ -1,7 +1,7 @@
 //! Operations on edges, as words ask for them.
 
 ghost use Rattle.std.specs.Prelude.{◌≡◌, map, string_bytes};
-ghost use Rattle.enc_top.specs.Words.{join_in, split_in};
+ghost use Rattle.enc_top.specs.Words.{join_in, operation_in, split_in};
 
 use crate::words::number_of;
 
@@ -22,8 +22,15 @@ pub enum Operation {
     },
 }
 
+/// What is done to edges.
+#[derive(Clone, Copy, Debug, PartialEq, Eq)]
+pub(crate) enum OperationKind {
+    Split,
+    Join,
+}
+
 /// The split that the words behind the names of files ask for.
-pub(crate) fn split_in_words(numbers: &[String]) -> Option<Operation>
+fn split_in_words(numbers: &[String]) -> Option<Operation>
     ensures { result ≡ split_in (map string_bytes numbers.now) }
 {
     let [edge, at, node, fresh] = numbers else {
@@ -38,7 +45,7 @@ pub(crate) fn split_in_words(numbers: &[String]) -> Option<Operation>
 }
 
 /// The join that the words behind the names of files ask for.
-pub(crate) fn join_in_words(numbers: &[String]) -> Option<Operation>
+fn join_in_words(numbers: &[String]) -> Option<Operation>
     ensures { result ≡ join_in (map string_bytes numbers.now) }
 {
     let [edge, other] = numbers else {
@@ -48,4 +55,14 @@ pub(crate) fn join_in_words(numbers: &[String]) -> Option<Operation>
         edge: number_of(edge.as_str())?,
         other: number_of(other.as_str())?,
     })
+}
+
+/// The operation of a kind that the words behind the names of files ask for.
+pub(crate) fn operation_in_words(kind: OperationKind, numbers: &[String]) -> Option<Operation>
+    ensures { result ≡ operation_in kind (map string_bytes numbers.now) }
+{
+    match kind {
+        OperationKind::Split => split_in_words(numbers),
+        OperationKind::Join => join_in_words(numbers),
+    }
 }

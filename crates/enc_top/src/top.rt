@@ -17,8 +17,9 @@ ghost use Rattle.enc_top.specs.Task.{run_task};
 ghost use Rattle.call_files.specs.Task.{task_of};
 ghost use Rattle.enc_top.specs.Words.{begins_with_room as spec_begins_with_room, check_among, form_of, no_form, replay_among};
 
-use crate::edge::{join, split};
+use crate::edge::edit_edges;
 use crate::made::{drill, make};
+use crate::operation::OperationKind;
 use crate::probed::probe;
 use crate::room::asked_room;
 use crate::update::apply;
@@ -182,10 +183,10 @@ fn asked_work<R: Threads + Sync, H: Shelf>(
         return drill(rt, alloc, others);
     }
     if first == "split" {
-        return split(rt, alloc, others, shelf);
+        return edit_edges(rt, alloc, others, shelf, OperationKind::Split);
     }
     if first == "join" {
-        return join(rt, alloc, others, shelf);
+        return edit_edges(rt, alloc, others, shelf, OperationKind::Join);
     }
     if first == "probe" {
         return probe(alloc, others, shelf);
