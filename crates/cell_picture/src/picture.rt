@@ -19,11 +19,11 @@ use crate::text::{push_figure, push_mark, push_row, push_spot};
 use cell_findings::{SubjectFinding, push_findings};
 use cell_spec::writable_cells_are_readable;
 use chain_topo::{ListLook, Steps};
-use check_words::{is_group1_area, number};
+use check_words::{is_coverage_area, is_group1_area, number};
 use geometry_spec::Box4;
 use picture_places::{
     Held, PagePoint, Strokes, anchor_of, area_strokes_of, extent_of, field_of, free_field,
-    is_coverage_area, label_point, mark_anchor, place_of, vector_strokes_of,
+    label_point, mark_anchor, place_of, vector_strokes_of,
 };
 use s57_types::{Cell, Feature, Kind, Rec, Text, Vector};
 use std::alloc::{AllocError, Global};

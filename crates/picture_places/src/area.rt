@@ -1,58 +1,23 @@
 //! The loops that fill an area.
 
 ghost use Rattle.std.specs.Prelude.{◌≡◌, ◌++◌, ◌∷◌, [], IfOk, OnOk, drop, flat_map, map, take};
-ghost use Rattle.std.specs.List.{list_any};
 ghost use Rattle.check_area.specs.Parts.{length_of_block};
 ghost use Rattle.rule_spec.specs.Boundary.{line_along as spec_line_along};
-ghost use Rattle.rule_spec.specs.Features.{is_coverage_area as spec_is_coverage_area, says_covered as spec_says_covered};
 ghost use Rattle.rule_spec.specs.Loops.{blocks_of};
 ghost use Rattle.picture_places.specs.Areas.{arc_of_line, area_strokes, boundary_lines, boundary_strokes, lines_at, loop_stroke, points_of_line};
 
 use crate::stroke::{Strokes, push_stroke};
 use chain_topo::{ListLook, Steps, edge_line};
-use check_words::{AREA, number};
+use check_words::number;
 use geometry_spec::{Box4, Point};
 use ring_build::{Block, RingCut, cut};
 use rule_spec::EdgeLine;
-use s57_types::{Attr, Feature, Plane, RecName, Spot};
+use s57_types::{Feature, Plane, RecName, Spot};
 use std::alloc::{AllocError, Global};
 use std::sync::ledger::Ledger;
 
-/// The object class M_COVR.
-const COVERAGE_CLASS: u16 = 302;
-
-/// The attribute CATCOV.
-const CATCOV: u16 = 18;
-
 /// The orientation indicator ORNT of a pointer against its edge.
 const REVERSE: u8 = 2;
-
-/// Whether an attribute is CATCOV 1.
-fn says_covered(attr: &Attr) -> bool
-    ensures { result ≡ spec_says_covered attr.now }
-{
-    attr.code == CATCOV && attr.value.len() == 1 && attr.value.as_slice().contains(&b'1')
-}
-
-fn one_says_covered(attrs: &[Attr]) -> bool
-    ensures { result ≡ list_any spec_says_covered attrs.now }
-{
-    for attr in attrs {
-        if says_covered(attr) {
-            return true;
-        }
-    }
-    false
-}
-
-/// Whether a feature is an area of data coverage (M_COVR) that says that its data is there.
-pub fn is_coverage_area(feature: &Feature) -> bool
-    ensures { result ≡ spec_is_coverage_area feature.now }
-{
-    feature.prim == AREA
-        && feature.objl == COVERAGE_CLASS
-        && one_says_covered(feature.attf.as_slice())
-}
 
 /// A line as a spatial pointer goes along it.
 fn line_along(ornt: u8, line: EdgeLine) -> EdgeLine

@@ -11,7 +11,7 @@ mod page;
 mod place;
 mod stroke;
 
-pub use area::{area_strokes_of, is_coverage_area};
+pub use area::area_strokes_of;
 pub use extent::extent_of;
 pub use hold::{Held, mark_anchor};
 pub use label::{anchor_of, field_of, free_field, label_point};

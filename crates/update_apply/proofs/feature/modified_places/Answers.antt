@@ -1,8 +1,0 @@
-use Rattle.std.proofs.Common.{subst}
-use Rattle.update_spec.specs.UpdatedRows.{updated_rows}
-use Rattle.update_apply.specs.Gives.{GivesUpdate}
-use Rattle.update_apply.proofs.feature.modified_places.Goals as goal
-
-pub returns : goal.returns
-returns c = subst (GivesUpdate c.updated_rows.result)
-    (λ i. updated_rows (c.control_among-control.ensures i) (c.in_ok-given.ensures i) (c.as_slice.ensures i)) c.updated_rows.ensures
