@@ -27,7 +27,7 @@ use Rattle.cell_spec.proofs.Orders.{one_when_same}
 use Rattle.edit_sets.specs.FormFault.{IsFormed, unfitness_of_edit}
 use Rattle.edit_sets.proofs.Formed.{formed}
 use Rattle.cell_spec.proofs.EachItem.{each_append, each_weaker}
-use Rattle.text_spec.specs.EditLine.{has_line, is_feature, is_head, record_has_line}
+use Rattle.text_spec.specs.EditLine.{has_line, is_head, record_has_line}
 use Rattle.answer_laws.proofs.EditedLists.{IsOfKind}
 use Rattle.edit_laws.specs.KeptWritable.{TakenEditsHaveLines}
 
@@ -36,36 +36,29 @@ good_names : (good : Bool) (rest : Option Unfit) → (if not good then Some BadN
 good_names true rest none = refl
 good_names false rest none = absurd cc
 
-vector_name : (kind : Kind) → is_vector_kind kind ≡ true → (not (is_feature kind) && not (is_head kind)) ≡ true
+vector_name : (kind : Kind) → is_vector_kind kind ≡ true → (not (is_feature_kind kind) && not (is_head kind)) ≡ true
 vector_name Vi is = refl
 vector_name Vc is = refl
 vector_name Ve is = refl
 vector_name Fe is = absurd cc
 vector_name HeadKind is = absurd cc
 
-feature_name : (kind : Kind) → is_feature_kind kind ≡ true → is_feature kind ≡ true
-feature_name Vi is = absurd cc
-feature_name Vc is = absurd cc
-feature_name Ve is = absurd cc
-feature_name Fe is = refl
-feature_name HeadKind is = absurd cc
-
 no_head : {X : Type 0} (target : X → RecName) (xs : List X) → list_all (λ x. is_vector_kind (target x).kind) xs ≡ true
     → list_all (λ x. not (is_head (target x).kind)) xs ≡ true
 no_head target [] all = refl
 no_head target (x ∷ xs) all =
     let parts = and_parts (is_vector_kind (target x).kind) (list_all (λ y. is_vector_kind (target y).kind) xs) all in
-    let vector = and_parts (not (is_feature (target x).kind)) (not (is_head (target x).kind)) (vector_name (target x).kind parts.0) in
+    let vector = and_parts (not (is_feature_kind (target x).kind)) (not (is_head (target x).kind)) (vector_name (target x).kind parts.0) in
     and_from (not (is_head (target x).kind)) (list_all (λ y. not (is_head (target y).kind)) xs) vector.1 (no_head target xs parts.1)
 
 named_well : (rec : Rec) → has_good_names rec ≡ true → record_has_line rec ≡ true
 named_well (V v) good =
     let parts = and_parts (is_vector_kind v.name.kind) (list_all (λ (e : End). is_vector_kind e.to.kind) v.ends) good in
-    and_from (not (is_feature v.name.kind) && not (is_head v.name.kind)) (list_all (λ (e : End). not (is_head e.to.kind)) v.ends)
+    and_from (not (is_feature_kind v.name.kind) && not (is_head v.name.kind)) (list_all (λ (e : End). not (is_head e.to.kind)) v.ends)
     (vector_name v.name.kind parts.0) (no_head (λ (e : End). e.to) v.ends parts.1)
 named_well (F f) good =
     let parts = and_parts (is_feature_kind f.name.kind) (list_all (λ (s : Spot). is_vector_kind s.to.kind) f.places) good in
-    and_from (is_feature f.name.kind) (list_all (λ (s : Spot). not (is_head s.to.kind)) f.places) (feature_name f.name.kind parts.0)
+    and_from (is_feature_kind f.name.kind) (list_all (λ (s : Spot). not (is_head s.to.kind)) f.places) parts.0
     (no_head (λ (s : Spot). s.to) f.places parts.1)
 named_well (H h) good = absurd cc
 

@@ -7,6 +7,7 @@ use Rattle.s57_types.specs.declared.name.RecName.{RecName}
 use Rattle.s57_types.specs.declared.name.Kind.TheVariants.{Head as HeadKind}
 use Rattle.s57_types.specs.declared.head.HeadEdit.{HeadEdit}
 use Rattle.s57_types.specs.declared.record.Vector.{Vector}
+use Rattle.s57_types.specs.Fitness.{is_feature_kind}
 use Rattle.s57_types.specs.declared.record.Feature.{Feature}
 use Rattle.s57_types.specs.declared.record.Rec.{Rec}
 use Rattle.s57_types.specs.declared.record.Rec.TheVariants.{V, F, H}
@@ -15,7 +16,7 @@ use Rattle.cell_spec.specs.declared.edit.Edit.TheVariants.{Add, Set, Del, Head}
 use Rattle.text_spec.specs.CellText.{kind_word, name_words}
 use Rattle.text_spec.specs.Lines.{spaced_words}
 use Rattle.text_spec.specs.EditLine.{attribute_item, end_item, plane_item, deep_item, partner_item, place_item, vector_words, feature_words, record_words}
-use Rattle.text_spec.specs.EditLine.{head_words, record_has_line, is_feature, is_head}
+use Rattle.text_spec.specs.EditLine.{head_words, record_has_line, is_head}
 use Rattle.text_spec.specs.ScriptLines.{command_line, IsCommand}
 use Rattle.text_spec.specs.declared.command.Command.{Command}
 use Rattle.text_spec.specs.declared.command.Command.TheVariants.{View, Commit, Drop, List as Findings, Push, Guard}
@@ -71,7 +72,7 @@ alike_features f f' w w' same =
 
 -- a vector record and a feature record differ in their kinds, and both from the head
 apart : (v : Vector) (f : Feature) → record_has_line (V v) ≡ true → record_has_line (F f) ≡ true → kind_word v.name.kind ≡ kind_word f.name.kind → ⊥
-apart v f own own' same = false≢true (sym (own_vector v own).no_feature ∙ ap is_feature (same_kind v.name.kind f.name.kind same) ∙ own_feature f own')
+apart v f own own' same = false≢true (sym (own_vector v own).no_feature ∙ ap is_feature_kind (same_kind v.name.kind f.name.kind same) ∙ own_feature f own')
 
 apart_head : (r : Rec) (e : HeadEdit) → record_has_line r ≡ true → record_words r ≡ codes "head" ∷ head_words e → ⊥
 apart_head (V v) e own same = false≢true (sym (own_vector v own).no_head ∙ ap is_head (same_kind v.name.kind HeadKind (ap (λ t. get_or t 0 []) same)))

@@ -12,6 +12,7 @@ use Rattle.s57_types.specs.declared.name.RecName.{RecName}
 use Rattle.s57_types.specs.declared.head.HeadEdit.{HeadEdit}
 use Rattle.s57_types.specs.declared.record.End.{End}
 use Rattle.s57_types.specs.declared.record.Spot.{Spot}
+use Rattle.s57_types.specs.Fitness.{is_feature_kind}
 use Rattle.s57_types.specs.declared.record.Vector.{Vector}
 use Rattle.s57_types.specs.declared.record.Feature.{Feature}
 use Rattle.s57_types.specs.declared.record.Rec.{Rec}
@@ -20,7 +21,7 @@ use Rattle.cell_spec.specs.declared.edit.Edit.{Edit}
 use Rattle.cell_spec.specs.declared.edit.Edit.TheVariants.{Add, Set, Del, Head}
 use Rattle.text_spec.specs.CellText.{kind_word, name_words}
 use Rattle.text_spec.specs.Lines.{spaced_words}
-use Rattle.text_spec.specs.EditLine.{vector_words, feature_words, record_words, head_words, edit_line, is_feature, is_head, record_has_line, guard_has_line}
+use Rattle.text_spec.specs.EditLine.{vector_words, feature_words, record_words, head_words, edit_line, is_head, record_has_line, guard_has_line}
 use Rattle.text_spec.specs.ScriptLines.{command_line, IsCommand, IsHeadEditOfWidth, IsOfWidth, record_subfields, shown_limit}
 use Rattle.text_spec.specs.declared.command.Command.{Command}
 use Rattle.text_spec.specs.declared.command.Command.TheVariants.{View, Commit, Drop, List as Findings, Push, Guard}
@@ -47,19 +48,19 @@ kind_of_head kind words e test spelled = test HeadKind (spaced_words (head_words
 
 -- the kind of a vector record with a line
 pub record IsOfVector (kind : Kind) : Type 0 where
-  pub no_feature : is_feature kind ≡ false
+  pub no_feature : is_feature_kind kind ≡ false
   pub no_head : is_head kind ≡ false
 
 pub own_vector : (v : Vector) → record_has_line (V v) ≡ true → IsOfVector v.name.kind
 own_vector v own =
-    let both = and_parts (not (is_feature v.name.kind) && not (is_head v.name.kind)) (list_all (λ (e : End). not (is_head e.to.kind)) v.ends) own in
-    let kinds = and_parts (not (is_feature v.name.kind)) (not (is_head v.name.kind)) both.0 in
-    record { no_feature = not-true (is_feature v.name.kind) kinds.0; no_head = not-true (is_head v.name.kind) kinds.1 }
+    let both = and_parts (not (is_feature_kind v.name.kind) && not (is_head v.name.kind)) (list_all (λ (e : End). not (is_head e.to.kind)) v.ends) own in
+    let kinds = and_parts (not (is_feature_kind v.name.kind)) (not (is_head v.name.kind)) both.0 in
+    record { no_feature = not-true (is_feature_kind v.name.kind) kinds.0; no_head = not-true (is_head v.name.kind) kinds.1 }
 
-pub own_feature : (f : Feature) → record_has_line (F f) ≡ true → is_feature f.name.kind ≡ true
-own_feature f own = (and_parts (is_feature f.name.kind) (list_all (λ (s : Spot). not (is_head s.to.kind)) f.places) own).0
+pub own_feature : (f : Feature) → record_has_line (F f) ≡ true → is_feature_kind f.name.kind ≡ true
+own_feature f own = (and_parts (is_feature_kind f.name.kind) (list_all (λ (s : Spot). not (is_head s.to.kind)) f.places) own).0
 
-pub no_head_feature : (kind : Kind) → is_feature kind ≡ true → is_head kind ≡ false
+pub no_head_feature : (kind : Kind) → is_feature_kind kind ≡ true → is_head kind ≡ false
 no_head_feature Vi own = refl
 no_head_feature Vc own = refl
 no_head_feature Ve own = refl
@@ -67,20 +68,20 @@ no_head_feature Fe own = refl
 no_head_feature HeadKind own = absurd (false≢true own)
 
 -- the record that words are read as
-pub feature_found : (r : Rec) (read : Feature) (kind : Kind) (words : List ℕ) → is_feature kind ≡ true → IsKindOf kind words
+pub feature_found : (r : Rec) (read : Feature) (kind : Kind) (words : List ℕ) → is_feature_kind kind ≡ true → IsKindOf kind words
     → ((f : Feature) → IsFeatureOfWidth f → words ≡ spaced_words (feature_words f) → read ≡ f)
     → IsRecordOfWidth r → record_has_line r ≡ true → words ≡ spaced_words (record_words r) → F read ≡ r
 feature_found (V v) read kind words is test found width own spelled =
-    absurd (false≢true (sym (own_vector v own).no_feature ∙ ap is_feature (sym (kind_of_vector kind words v test spelled)) ∙ is))
+    absurd (false≢true (sym (own_vector v own).no_feature ∙ ap is_feature_kind (sym (kind_of_vector kind words v test spelled)) ∙ is))
 feature_found (F f) read kind words is test found width own spelled = ap (λ (x : Feature). F x) (found f width spelled)
 feature_found (H h) read kind words is test found width own spelled = absurd (false≢true own)
 
-pub vector_found : (r : Rec) (read : Vector) (kind : Kind) (words : List ℕ) → is_feature kind ≡ false → IsKindOf kind words
+pub vector_found : (r : Rec) (read : Vector) (kind : Kind) (words : List ℕ) → is_feature_kind kind ≡ false → IsKindOf kind words
     → ((v : Vector) → IsVectorOfWidth v → words ≡ spaced_words (vector_words v) → read ≡ v)
     → IsRecordOfWidth r → record_has_line r ≡ true → words ≡ spaced_words (record_words r) → V read ≡ r
 vector_found (V v) read kind words is test found width own spelled = ap (λ (x : Vector). V x) (found v width spelled)
 vector_found (F f) read kind words is test found width own spelled =
-    absurd (false≢true (sym is ∙ ap is_feature (kind_of_feature kind words f test spelled) ∙ own_feature f own))
+    absurd (false≢true (sym is ∙ ap is_feature_kind (kind_of_feature kind words f test spelled) ∙ own_feature f own))
 vector_found (H h) read kind words is test found width own spelled = absurd (false≢true own)
 
 -- words of a record that isn't the head

@@ -2,11 +2,12 @@
 
 ghost use Rattle.std.specs.Prelude.{◌≡◌, ◌++◌, not, OnOk, true};
 ghost use Rattle.std.specs.List.{list_all};
+ghost use Rattle.s57_types.specs.Fitness.{is_feature_kind};
 ghost use Rattle.s57_types.specs.declared.record.End.{End};
 ghost use Rattle.s57_types.specs.declared.record.Rec.{Rec};
 ghost use Rattle.s57_types.specs.declared.record.Spot.{Spot};
 ghost use Rattle.text_spec.specs.EditLine.{guard_has_line as guard_has_line_lem, has_line as has_line_lem, record_has_line as record_has_line_lem};
-ghost use Rattle.text_spec.specs.EditLine.{is_feature as is_feature_lem, is_head as is_head_lem};
+ghost use Rattle.text_spec.specs.EditLine.{is_head as is_head_lem};
 ghost use Rattle.text_spec.specs.ScriptLines.{command_line};
 ghost use Rattle.text_spec.specs.declared.command.Command.{Command};
 ghost use Rattle.script_text.specs.Guess.{can_stand as can_stand_lem};
@@ -21,7 +22,7 @@ use text_spec::Command;
 const MOST_SHOWN: u32 = 20;
 
 pub fn is_feature(kind: Kind) -> bool
-    ensures { result ≡ is_feature_lem kind }
+    ensures { result ≡ is_feature_kind kind }
 {
     matches!(kind, Kind::Fe)
 }

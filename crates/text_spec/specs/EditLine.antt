@@ -13,6 +13,7 @@ use Rattle.s57_types.specs.declared.record.Vector.{Vector}
 use Rattle.s57_types.specs.declared.record.Feature.{Feature}
 use Rattle.s57_types.specs.declared.record.Rec.{Rec}
 use Rattle.s57_types.specs.declared.head.HeadEdit.{HeadEdit}
+use Rattle.s57_types.specs.Fitness.{is_feature_kind}
 use Rattle.s57_types.specs.Heads.{head_name, level_number}
 use Rattle.s57_types.specs.declared.record.Rec.TheVariants.{V, F, H}
 use Rattle.cell_spec.specs.declared.edit.Edit.{Edit}
@@ -97,13 +98,6 @@ edit_line (Set r) = line (codes "set") (record_words r)
 edit_line (Del n) = line (codes "del") (name_words n)
 edit_line (Head e) = line (codes "set") (codes "head" ∷ head_words e)
 
-abbrev pub is_feature : Kind → Bool
-is_feature Vi = false
-is_feature Vc = false
-is_feature Ve = false
-is_feature Fe = true
-is_feature HeadKind = false
-
 abbrev pub is_head : Kind → Bool
 is_head Vi = false
 is_head Vc = false
@@ -113,8 +107,8 @@ is_head HeadKind = true
 
 -- a record has a line where it is of the sort that its kind says, and none of its pointers names the head
 abbrev pub record_has_line : Rec → Bool
-record_has_line (V v) = not (is_feature v.name.kind) && not (is_head v.name.kind) && list_all (λ (e : End). not (is_head e.to.kind)) v.ends
-record_has_line (F f) = is_feature f.name.kind && list_all (λ (s : Spot). not (is_head s.to.kind)) f.places
+record_has_line (V v) = not (is_feature_kind v.name.kind) && not (is_head v.name.kind) && list_all (λ (e : End). not (is_head e.to.kind)) v.ends
+record_has_line (F f) = is_feature_kind f.name.kind && list_all (λ (s : Spot). not (is_head s.to.kind)) f.places
 record_has_line (H h) = false
 
 -- so does an edit of such a record; a record that isn't the head can be deleted, and the head be edited
