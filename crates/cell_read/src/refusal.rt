@@ -56,14 +56,6 @@ impl RecordRefusal {
     }
 }
 
-impl From<RecordFault> for RecordRefusal {
-    ghost from_gives = { λ fault e. e ≡ Fault fault };
-
-    fn from(fault: RecordFault) -> RecordRefusal {
-        RecordRefusal::Fault(fault)
-    }
-}
-
 impl From<AllocError> for RecordRefusal {
     ghost from_gives = { λ _ e. e ≡ NoMemory };
 
