@@ -78,38 +78,6 @@ fn character_set_text(kind: LeaderKind) -> &'static [u8; 3]
     }
 }
 
-/// The leader.
-fn leader_of(kind: LeaderKind, layout: &Layout, fields: &[OutField]) -> [u8; 24]
-    requires { IsLayoutOf (lengths_of fields.now) layout.now }
-    ensures { result ≡ leader_text (is_first kind) (lengths_of fields.now) }
-{
-    let [l0, l1, l2, l3, l4] = five_digits(layout.length);
-    let [i0, i1, i2, i3, i4, i5, i6] = *identifier_text(kind);
-    let [b0, b1, b2, b3, b4] = five_digits(layout.base_address);
-    let [c0, c1, c2] = *character_set_text(kind);
-    let m = b'0' + layout.length_digits as u8;
-    let n = b'0' + layout.position_digits as u8;
-    [
-        l0, l1, l2, l3, l4, i0, i1, i2, i3, i4, i5, i6, b0, b1, b2, b3, b4, c0, c1, c2, m, n, b'0',
-        b'4',
-    ]
-}
-
-/// Appends the leader, with room for the record. A refusal leaves the bytes as they were.
-fn push_leader(
-    kind: LeaderKind,
-    layout: &Layout,
-    fields: &[OutField],
-    out: &mut Vec<u8>,
-) -> Result<(), AllocError>
-    requires { IsLayoutOf (lengths_of fields.now) layout.now }
-    ensures ok { OnOk result (out.new.items ≡ out.old.items ++ leader_text (is_first kind) (lengths_of fields.now)) }
-    ensures err { OnErr result (out.new.items ≡ out.old.items) }
-{
-    out.reserve(layout.length)?;
-    out.extend_from_slice(&leader_of(kind, layout, fields))
-}
-
 /// Appends an entry of the directory for each field.
 fn push_directory(layout: &Layout, fields: &[OutField], out: &mut Vec<u8>) -> Result<(), AllocError>
     requires few { sum (lengths_of fields.now) ≤ 99999 }
@@ -139,22 +107,53 @@ fn push_field_area(fields: &[OutField], out: &mut Vec<u8>) -> Result<(), AllocEr
     Ok(())
 }
 
-/// Appends the record of this layout.
-fn push_record(
+/// A record that is written: its kind, its fields and their layout.
+#[derive(Drop)]
+struct Draft<'a> {
     kind: LeaderKind,
-    layout: &Layout,
-    fields: &[OutField],
-    out: &mut Vec<u8>,
-) -> Result<(), AllocError>
-    requires { IsLayoutOf (lengths_of fields.now) layout.now }
-    ensures ok { OnOk result (out.new.items ≡ out.old.items ++ written_record (is_first kind) (fields_of fields.now)) }
-    ensures err { OnErr result (KeepsFront out.old.items out.new.items) }
-{
-    push_leader(kind, layout, fields, out)?;
-    push_directory(layout, fields, out)?;
-    out.push(FIELD_TERMINATOR)?;
-    push_field_area(fields, out)?;
-    Ok(())
+    fields: &'a [OutField],
+    layout: Layout,
+}
+
+impl<'a> Draft<'a> {
+    fn leader(&self) -> [u8; 24]
+        requires { IsLayoutOf (lengths_of self.now.fields.now) self.now.layout }
+        ensures { result ≡ leader_text (is_first self.now.kind) (lengths_of self.now.fields.now) }
+    {
+        let [l0, l1, l2, l3, l4] = five_digits(self.layout.length);
+        let [i0, i1, i2, i3, i4, i5, i6] = *identifier_text(self.kind);
+        let [b0, b1, b2, b3, b4] = five_digits(self.layout.base_address);
+        let [c0, c1, c2] = *character_set_text(self.kind);
+        let m = b'0' + self.layout.length_digits as u8;
+        let n = b'0' + self.layout.position_digits as u8;
+        [
+            l0, l1, l2, l3, l4, i0, i1, i2, i3, i4, i5, i6, b0, b1, b2, b3, b4, c0, c1, c2, m, n,
+            b'0', b'4',
+        ]
+    }
+
+    /// Appends the leader, with room for the record. A refusal leaves the bytes as they were.
+    fn push_leader(&self, out: &mut Vec<u8>) -> Result<(), AllocError>
+        requires { IsLayoutOf (lengths_of self.now.fields.now) self.now.layout }
+        ensures ok { OnOk result (out.new.items ≡ out.old.items ++ leader_text (is_first self.now.kind) (lengths_of self.now.fields.now)) }
+        ensures err { OnErr result (out.new.items ≡ out.old.items) }
+    {
+        out.reserve(self.layout.length)?;
+        out.extend_from_slice(&self.leader())
+    }
+
+    /// Appends the record.
+    fn push_record(&self, out: &mut Vec<u8>) -> Result<(), AllocError>
+        requires { IsLayoutOf (lengths_of self.now.fields.now) self.now.layout }
+        ensures ok { OnOk result (out.new.items ≡ out.old.items ++ written_record (is_first self.now.kind) (fields_of self.now.fields.now)) }
+        ensures err { OnErr result (KeepsFront out.old.items out.new.items) }
+    {
+        self.push_leader(out)?;
+        push_directory(&self.layout, self.fields, out)?;
+        out.push(FIELD_TERMINATOR)?;
+        push_field_area(self.fields, out)?;
+        Ok(())
+    }
 }
 
 /// Appends the record of these fields (ISO/IEC 8211; S-57 Part 3, Annex A): the leader, the directory and the fields one
@@ -174,8 +173,13 @@ pub fn write_record(
     let Some(layout) = layout_of(fields) else {
         return Err(WriteRefusal::TooLong);
     };
+    let draft = Draft {
+        kind,
+        fields,
+        layout,
+    };
     let before = out.len();
-    if push_record(kind, &layout, fields, out).is_err() {
+    if draft.push_record(out).is_err() {
         out.truncate(before);
         return Err(WriteRefusal::NoMemory);
     }

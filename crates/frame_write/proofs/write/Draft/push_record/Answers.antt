@@ -3,16 +3,16 @@ use Rattle.std.proofs.Math.Seq.{take-length}
 use Rattle.frame_spec.specs.WrittenRecord.{directory_entries, field_area, leader_text, length_digits, position_digits, written_record}
 use Rattle.frame_write.specs.OutFields.{fields_of, is_first, lengths_of}
 use Rattle.frame_write.proofs.Steps.{appended, front_more, front_through}
-use Rattle.frame_write.proofs.write.push_record.Goals as goal
+use Rattle.frame_write.proofs.write.Draft.push_record.Goals as goal
 
 pub returns-clause-ok : goal.returns-clause-ok
 unfolding written_record
 returns-clause-ok c =
-    let fields = fields_of c.args.fields.now in
-    let lengths = lengths_of c.args.fields.now in
-    let layout = c.args.layout.now in
+    let fields = fields_of c.args.self.now.fields.now in
+    let lengths = lengths_of c.args.self.now.fields.now in
+    let layout = c.args.self.now.layout in
     let out : List ℕ = c.args.out.now.items in
-    let leader : List ℕ = leader_text (is_first c.args.kind) lengths in
+    let leader : List ℕ = leader_text (is_first c.args.self.now.kind) lengths in
     let behind : List ℕ = c.push_leader.new.out.items in
     c.in_ok-push_field_area.ensures.ok
     ∙ appended out _ _ _ leader (directory_entries (length_digits lengths) (position_digits lengths) 0 fields) (30 ∷ []) (field_area fields)
