@@ -1,8 +1,13 @@
 //! The attributes of a record after an update.
 
 ghost use Rattle.std.specs.Prelude.{◌≡◌, IfOk, OnOk};
+ghost use Rattle.field_spec.specs.Contents.{attribute_content};
+ghost use Rattle.file_spec.specs.RecordReading.{rows_of};
 ghost use Rattle.update_spec.specs.UpdatedAttributes.{is_delete_value, place_of_code, updated_attributes, with_given};
 
+use crate::given::rows_of;
+use file_spec::FieldTag;
+use iso_frame::Frame;
 use s57_types::{Attr, Attrs, Duplicate, Items};
 use std::alloc::{AllocError, Global};
 
@@ -53,7 +58,7 @@ fn take_given(
 ///
 /// An `Err` means out of memory.
 #[tactic(auto, unfolding(update_spec::specs::UpdatedAttributes::updated_attributes))]
-pub fn updated_attributes(
+fn updated_attributes(
     alloc: Global,
     level: u8,
     given: &Attrs,
@@ -66,4 +71,20 @@ pub fn updated_attributes(
         take_given(alloc, level, &mut updated, attr)?;
     }
     Ok(Items::of_vec(updated))
+}
+
+/// The attributes after an update by a record that gives attributes of a tag at a lexical level.
+///
+/// An `Err` means out of memory.
+pub fn modified_attributes(
+    alloc: Global,
+    frame: &Frame<'_>,
+    tag: FieldTag,
+    level: u8,
+    attrs: &Attrs,
+) -> Result<Attrs, AllocError>
+    ensures { IfOk result (λ modified. modified ≡ updated_attributes level (rows_of tag (attribute_content level) frame.now.fields) attrs.now) }
+{
+    let given = rows_of(alloc, frame, tag, level)?;
+    updated_attributes(alloc, level, &given, attrs)
 }

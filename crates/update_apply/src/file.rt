@@ -11,6 +11,7 @@ ghost use Rattle.update_apply.specs.FileParts.{edits_behind, edits_of_data};
 ghost use Rattle.update_apply.specs.Gives.{GivesFile, GivesNext, IsUpdate, IsUpdateRefusal, RefusesAt};
 ghost use Rattle.update_apply.specs.declared.refusal.StepRefusal.TheVariants.{Fault};
 
+use crate::case::Case;
 use crate::earlier::Earlier;
 use crate::head::update_identification;
 use crate::record::record_update;
@@ -68,7 +69,14 @@ fn read_next(
         Ok(frame) => frame,
         Err(fault) => return Err(of_frame(fault)),
     };
-    let edit = match record_update(alloc, look, nall, level, number, &earlier, &frame) {
+    let case = Case {
+        alloc,
+        look,
+        nall,
+        level,
+        frame: &frame,
+    };
+    let edit = match record_update(&case, number, &earlier) {
         Ok(edit) => edit,
         Err(refusal) => return Err(refusal),
     };

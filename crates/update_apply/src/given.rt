@@ -19,6 +19,7 @@ use s57_fields::{
 };
 use s57_types::{Attr, Dsid, Dssi, End, Frid, Items, Lnam, Partner, Spot, Vrid};
 use std::alloc::{AllocError, Global};
+use update_spec::UpdateFault;
 
 /// What a field of one row holds.
 pub trait Single: Drop + Sized {
@@ -89,13 +90,13 @@ pub fn required<T: Single>(
     ensures { GivesUpdate result (of_record (required tag T.content frame.now.fields)) }
 {
     let Some(bytes) = first_field(frame, &tag_text(tag)) else {
-        return Err(StepRefusal::from(RecordFault::MissingField));
+        return Err(StepRefusal::Fault(UpdateFault::Record(RecordFault::MissingField)));
     };
     match T::read(alloc, bytes) {
         Ok(value) => Ok(value),
         Err(FieldRefusal::NoMemory) => Err(StepRefusal::NoMemory),
         Err(FieldRefusal::BadField | FieldRefusal::BadText) => {
-            Err(StepRefusal::from(RecordFault::MissingField))
+            Err(StepRefusal::Fault(UpdateFault::Record(RecordFault::MissingField)))
         }
     }
 }

@@ -2,6 +2,7 @@
 #![tactic(auto)]
 
 mod attributes;
+mod case;
 mod control;
 mod coordinates;
 mod earlier;

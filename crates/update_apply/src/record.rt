@@ -8,6 +8,7 @@ ghost use Rattle.update_spec.specs.UpdateFields.{checked_fields};
 ghost use Rattle.update_spec.specs.UpdateRecords.{are_mixed, feature_update, identifiers, is_next, no_update, record_update, vector_update};
 ghost use Rattle.update_apply.specs.Gives.{GivesUpdate};
 
+use crate::case::Case;
 use crate::earlier::Earlier;
 use crate::feature::{feature_edit, feature_name};
 use crate::fields::fields_fault;
@@ -18,7 +19,6 @@ use crate::tags::has_field;
 use crate::vector::vector_edit;
 use cell_read::record_type;
 use cell_spec::Edit;
-use chain_topo::ListLook;
 use file_spec::{FieldTag, RecordFault, RecordType};
 use iso_frame::Frame;
 use s57_types::{Frid, Lnam, RecName, Vrid};
@@ -61,25 +61,19 @@ pub fn check_fields(
 
 /// The edit of a vector record.
 #[tactic(auto, using(crate::proofs::Steps::stops, crate::proofs::Steps::goes), unfolding(update_spec::specs::UpdateRecords::vector_update))]
-fn vector_update(
-    alloc: Global,
-    look: &ListLook<'_>,
-    nall: u8,
-    earlier: &Earlier,
-    frame: &Frame<'_>,
-) -> Result<Edit, StepRefusal>
-    requires { nall ≡ look.now.head.nall }
-    ensures { GivesUpdate result (vector_update look.now earlier.now frame.now.fields) }
+fn vector_update(case: &Case<'_>, earlier: &Earlier) -> Result<Edit, StepRefusal>
+    requires { case.now.nall ≡ case.now.look.now.head.nall }
+    ensures { GivesUpdate result (vector_update case.now.look.now earlier.now case.now.frame.now.fields) }
 {
-    check_fields(alloc, 0, RecordType::Vector, frame)?;
-    let vrid: Vrid = required(alloc, frame, FieldTag::Vrid)?;
+    check_fields(case.alloc, 0, RecordType::Vector, case.frame)?;
+    let vrid: Vrid = required(case.alloc, case.frame, FieldTag::Vrid)?;
     let Some(instruction) = instruction_of(vrid.ruin) else {
         return Err(StepRefusal::Fault(UpdateFault::Record(RecordFault::NotBase)));
     };
     if let Some(fault) = next_fault(earlier, vrid.name) {
         return Err(StepRefusal::Fault(fault));
     }
-    vector_edit(alloc, look, nall, instruction, vrid, frame)
+    vector_edit(case, instruction, vrid)
 }
 
 /// Whether exactly one of two lexical levels is that of two-byte texts.
@@ -107,29 +101,22 @@ fn identifiers(alloc: Global, frame: &Frame<'_>) -> Result<Identifiers, StepRefu
 
 /// The edit of a feature record; national attributes are at the update's level.
 #[tactic(auto, using(crate::proofs::Steps::stops, crate::proofs::Steps::goes), unfolding(update_spec::specs::UpdateRecords::feature_update))]
-fn feature_update(
-    alloc: Global,
-    look: &ListLook<'_>,
-    nall: u8,
-    level: u8,
-    earlier: &Earlier,
-    frame: &Frame<'_>,
-) -> Result<Edit, StepRefusal>
-    requires { nall ≡ look.now.head.nall }
-    ensures { GivesUpdate result (feature_update look.now level earlier.now frame.now.fields) }
+fn feature_update(case: &Case<'_>, earlier: &Earlier) -> Result<Edit, StepRefusal>
+    requires { case.now.nall ≡ case.now.look.now.head.nall }
+    ensures { GivesUpdate result (feature_update case.now.look.now case.now.level earlier.now case.now.frame.now.fields) }
 {
-    check_fields(alloc, level, RecordType::Feature, frame)?;
-    let ids = identifiers(alloc, frame)?;
+    check_fields(case.alloc, case.level, RecordType::Feature, case.frame)?;
+    let ids = identifiers(case.alloc, case.frame)?;
     let Some(instruction) = instruction_of(ids.frid.ruin) else {
         return Err(StepRefusal::Fault(UpdateFault::Record(RecordFault::NotBase)));
     };
     if let Some(fault) = next_fault(earlier, feature_name(ids.frid)) {
         return Err(StepRefusal::Fault(fault));
     }
-    if is_mixed(frame, level, nall) {
+    if is_mixed(case.frame, case.level, case.nall) {
         return Err(StepRefusal::Fault(UpdateFault::LevelMix));
     }
-    feature_edit(alloc, look, nall, level, instruction, ids, frame)
+    feature_edit(case, instruction, ids)
 }
 
 /// A data set geographic reference record, which has no effect and may be the second data record alone.
@@ -147,18 +134,14 @@ fn no_update(alloc: Global, number: u32, frame: &Frame<'_>) -> Result<Option<Edi
 /// The edit that the record of a number stands for, behind those of earlier edits, or its first fault.
 #[tactic(auto, using(crate::proofs::Steps::stops, crate::proofs::Steps::goes), unfolding(update_spec::specs::UpdateRecords::record_update))]
 pub fn record_update(
-    alloc: Global,
-    look: &ListLook<'_>,
-    nall: u8,
-    level: u8,
+    case: &Case<'_>,
     number: u32,
     earlier: &Earlier,
-    frame: &Frame<'_>,
 ) -> Result<Option<Edit>, StepRefusal>
-    requires { nall ≡ look.now.head.nall }
-    ensures { GivesUpdate result (record_update look.now level number earlier.now frame.now.fields) }
+    requires { case.now.nall ≡ case.now.look.now.head.nall }
+    ensures { GivesUpdate result (record_update case.now.look.now case.now.level number earlier.now case.now.frame.now.fields) }
 {
-    let kind = match record_type(frame) {
+    let kind = match record_type(case.frame) {
         Ok(kind) => kind,
         Err(fault) => return Err(StepRefusal::Fault(UpdateFault::Record(fault))),
     };
@@ -166,10 +149,8 @@ pub fn record_update(
         RecordType::GeneralInformation => {
             Err(StepRefusal::Fault(UpdateFault::Record(RecordFault::HeadOrder)))
         }
-        RecordType::GeographicReference => no_update(alloc, number, frame),
-        RecordType::Vector => Ok(Some(vector_update(alloc, look, nall, earlier, frame)?)),
-        RecordType::Feature => {
-            Ok(Some(feature_update(alloc, look, nall, level, earlier, frame)?))
-        }
+        RecordType::GeographicReference => no_update(case.alloc, number, case.frame),
+        RecordType::Vector => Ok(Some(vector_update(case, earlier)?)),
+        RecordType::Feature => Ok(Some(feature_update(case, earlier)?)),
     }
 }

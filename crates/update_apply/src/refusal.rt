@@ -3,9 +3,7 @@
 ghost use Rattle.std.specs.Prelude.{◌≡◌};
 ghost use Rattle.update_apply.specs.Gives.{refusal_at};
 ghost use Rattle.update_apply.specs.declared.refusal.StepRefusal.TheVariants.{Fault, NoMemory};
-ghost use Rattle.update_spec.specs.declared.fault.UpdateFault.TheVariants.{Record};
 
-use file_spec::RecordFault;
 use s57_types::CellFault;
 use std::alloc::AllocError;
 use update_spec::UpdateFault;
@@ -41,22 +39,6 @@ impl StepRefusal {
             }),
             StepRefusal::NoMemory => UpdateRefusal::NoMemory,
         }
-    }
-}
-
-impl From<UpdateFault> for StepRefusal {
-    ghost from_gives = { λ fault refusal. refusal ≡ Fault fault };
-
-    fn from(fault: UpdateFault) -> StepRefusal {
-        StepRefusal::Fault(fault)
-    }
-}
-
-impl From<RecordFault> for StepRefusal {
-    ghost from_gives = { λ fault refusal. refusal ≡ Fault (Record fault) };
-
-    fn from(fault: RecordFault) -> StepRefusal {
-        StepRefusal::Fault(UpdateFault::Record(fault))
     }
 }
 

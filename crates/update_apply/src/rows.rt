@@ -1,14 +1,19 @@
 //! Lists of a record after an update.
 
 ghost use Rattle.std.specs.Prelude.{◌≡◌, ◌++◌, IfOk, None};
-ghost use Rattle.update_spec.specs.ControlFields.{instruction_of};
+ghost use Rattle.file_spec.specs.RecordReading.{rows_of};
+ghost use Rattle.update_spec.specs.ControlFields.{control_among, instruction_of};
 ghost use Rattle.update_spec.specs.UpdatedRows.{changed_rows, has_place, updated_rows};
 ghost use Rattle.update_apply.specs.Gives.{GivesUpdate};
 
+use crate::control::control_among;
+use crate::given::{Given, rows_of};
 use crate::refusal::StepRefusal;
+use file_spec::FieldTag;
+use iso_frame::Frame;
 use s57_types::{Duplicate, Items};
 use std::alloc::{AllocError, Global};
-use update_spec::{Control, Instruction, UpdateFault};
+use update_spec::{Control, ControlTag, Instruction, UpdateFault};
 
 /// The instruction of a number, as RUIN and the control fields have it.
 pub fn instruction_of(number: u8) -> Option<Instruction>
@@ -108,4 +113,19 @@ pub fn updated_rows<T: Duplicate + Drop>(
         }
         None => Err(StepRefusal::Fault(UpdateFault::BadControl)),
     }
+}
+
+/// The rows of a list after an update by a record that gives rows of a tag, and says in a control field where they come.
+pub fn modified_rows<T: Given + Duplicate>(
+    alloc: Global,
+    frame: &Frame<'_>,
+    tag: FieldTag,
+    control: ControlTag,
+    rows: &Items<T>,
+) -> Result<Items<T>, StepRefusal>
+    ensures { GivesUpdate result (updated_rows (control_among control frame.now.fields) (rows_of tag (T.content 0) frame.now.fields) rows.now) }
+{
+    let given = rows_of(alloc, frame, tag, 0)?;
+    let control = control_among(frame, control);
+    updated_rows(alloc, control, given, rows.as_slice())
 }

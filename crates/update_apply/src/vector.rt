@@ -2,31 +2,26 @@
 
 ghost use Rattle.std.specs.Prelude.{◌≡◌, ◌+◌, ◌==◌, List, IfOk};
 ghost use Rattle.frame_spec.specs.RecordFrame.{Field};
-ghost use Rattle.file_spec.specs.RecordReading.{rows_of};
-ghost use Rattle.file_spec.specs.declared.tag.FieldTag.TheVariants as tags;
-ghost use Rattle.field_spec.specs.Contents.{attribute_content, end_content};
 ghost use Rattle.update_spec.specs.ControlFields.{control_among};
-ghost use Rattle.update_spec.specs.UpdatedAttributes.{updated_attributes};
-ghost use Rattle.update_spec.specs.UpdatedRows.{updated_coordinates, updated_rows};
+ghost use Rattle.update_spec.specs.UpdatedRows.{updated_coordinates};
 ghost use Rattle.update_spec.specs.UpdateRecords.{given_coordinates, inserted_vector, modified_vector, vector_edit};
-ghost use Rattle.update_spec.specs.declared.control.ControlTag.TheVariants.{Vrpc, Sgcc};
+ghost use Rattle.update_spec.specs.declared.control.ControlTag.TheVariants.{Sgcc};
 ghost use Rattle.update_spec.specs.declared.control.Instruction.TheVariants.{Insert, Delete, Modify};
 ghost use Rattle.update_apply.specs.Gives.{GivesUpdate};
 
-use crate::attributes::updated_attributes;
+use crate::attributes::modified_attributes;
+use crate::case::Case;
 use crate::control::control_among;
 use crate::coordinates::updated_coordinates;
 use crate::given::rows_of;
 use crate::refusal::StepRefusal;
-use crate::rows::updated_rows;
-use crate::tags::has_controls;
-use crate::target::{is_new, target_vector};
+use crate::rows::modified_rows;
+use crate::target::target_vector;
 use cell_spec::Edit;
 use chain_topo::ListLook;
-use file_spec::{FieldTag, RecordFault, RecordType};
+use file_spec::{FieldTag, RecordType};
 use iso_frame::Frame;
-use record_fit::is_short;
-use s57_types::{Attrs, Deep, Ends, Plane, Rec, Vector, Vrid};
+use s57_types::{Deep, Plane, Rec, Vector, Vrid};
 use std::alloc::{AllocError, Global};
 use update_spec::{ControlTag, Instruction, UpdateFault};
 
@@ -53,27 +48,6 @@ fn given_coordinates(alloc: Global, frame: &Frame<'_>) -> Result<(Plane, Deep), 
     Ok((plane, rows_of(alloc, frame, FieldTag::Sg3d, 0)?))
 }
 
-/// The attributes of a modified vector record.
-fn modified_attributes(
-    alloc: Global,
-    target: &Vector,
-    frame: &Frame<'_>,
-) -> Result<Attrs, AllocError>
-    ensures { IfOk result (λ attrs. attrs ≡ updated_attributes 0 (rows_of tags.Attv (attribute_content 0) frame.now.fields) target.now.attrs) }
-{
-    let given = rows_of(alloc, frame, FieldTag::Attv, 0)?;
-    updated_attributes(alloc, 0, &given, &target.attrs)
-}
-
-/// The pointers of a modified vector record.
-fn modified_ends(alloc: Global, target: &Vector, frame: &Frame<'_>) -> Result<Ends, StepRefusal>
-    ensures { GivesUpdate result (updated_rows (control_among Vrpc frame.now.fields) (rows_of tags.Vrpt end_content frame.now.fields) target.now.ends) }
-{
-    let given = rows_of(alloc, frame, FieldTag::Vrpt, 0)?;
-    let control = control_among(frame, ControlTag::Vrpc);
-    updated_rows(alloc, control, given, target.ends.as_slice())
-}
-
 /// The coordinates of a modified vector record.
 fn modified_coordinates(
     alloc: Global,
@@ -98,9 +72,9 @@ fn modified_vector(
 ) -> Result<Rec, StepRefusal>
     ensures { GivesUpdate result (modified_vector target.now vrid frame.now.fields) }
 {
-    let ends = modified_ends(alloc, target, frame)?;
+    let ends = modified_rows(alloc, frame, FieldTag::Vrpt, ControlTag::Vrpc, &target.ends)?;
     let points = modified_coordinates(alloc, target, frame)?;
-    let attrs = modified_attributes(alloc, target, frame)?;
+    let attrs = modified_attributes(alloc, frame, FieldTag::Attv, 0, &target.attrs)?;
     Ok(Rec::V(Vector {
         name: vrid.name,
         rver: vrid.rver,
@@ -120,27 +94,18 @@ pub fn is_next_version(before: u16, after: u16) -> bool
 
 /// The edit of a vector record that is inserted.
 #[tactic(auto, unfolding(update_spec::specs::UpdateRecords::vector_edit))]
-fn vector_insertion(
-    alloc: Global,
-    look: &ListLook<'_>,
-    nall: u8,
-    vrid: Vrid,
-    frame: &Frame<'_>,
-) -> Result<Edit, StepRefusal>
-    requires { nall ≡ look.now.head.nall }
-    ensures { GivesUpdate result (vector_edit Insert look.now vrid frame.now.fields) }
+fn vector_insertion(case: &Case<'_>, vrid: Vrid) -> Result<Edit, StepRefusal>
+    requires { case.now.nall ≡ case.now.look.now.head.nall }
+    ensures { GivesUpdate result (vector_edit Insert case.now.look.now vrid case.now.frame.now.fields) }
 {
-    if !is_new(look, vrid.name) {
-        return Err(StepRefusal::Fault(UpdateFault::TargetThere));
+    if let Some(fault) = case.insertion_fault(vrid.name, RecordType::Vector) {
+        return Err(StepRefusal::Fault(fault));
     }
-    if has_controls(frame, RecordType::Vector) {
-        return Err(StepRefusal::Fault(UpdateFault::BadControl));
+    let rec = inserted_vector(case.alloc, vrid, case.frame)?;
+    match case.length_fault(&rec) {
+        Some(fault) => Err(StepRefusal::Fault(fault)),
+        None => Ok(Edit::Add(rec)),
     }
-    let rec = inserted_vector(alloc, vrid, frame)?;
-    if !is_short(&rec, nall) {
-        return Err(StepRefusal::Fault(UpdateFault::Record(RecordFault::TooLong)));
-    }
-    Ok(Edit::Add(rec))
 }
 
 /// The edit of a vector record that is deleted.
@@ -156,47 +121,38 @@ fn vector_deletion(look: &ListLook<'_>, vrid: Vrid) -> Result<Edit, UpdateFault>
 
 /// The edit of a vector record that is modified.
 #[tactic(auto, unfolding(update_spec::specs::UpdateRecords::vector_edit))]
-fn vector_modification(
-    alloc: Global,
-    look: &ListLook<'_>,
-    nall: u8,
-    vrid: Vrid,
-    frame: &Frame<'_>,
-) -> Result<Edit, StepRefusal>
-    requires { nall ≡ look.now.head.nall }
-    ensures { GivesUpdate result (vector_edit Modify look.now vrid frame.now.fields) }
+fn vector_modification(case: &Case<'_>, vrid: Vrid) -> Result<Edit, StepRefusal>
+    requires { case.now.nall ≡ case.now.look.now.head.nall }
+    ensures { GivesUpdate result (vector_edit Modify case.now.look.now vrid case.now.frame.now.fields) }
 {
-    let Some(target) = target_vector(look, vrid.name) else {
+    let Some(target) = target_vector(case.look, vrid.name) else {
         return Err(StepRefusal::Fault(UpdateFault::NoTarget));
     };
     if !is_next_version(target.rver, vrid.rver) {
         return Err(StepRefusal::Fault(UpdateFault::WrongVersion));
     }
-    let rec = modified_vector(alloc, target, vrid, frame)?;
-    if !is_short(&rec, nall) {
-        return Err(StepRefusal::Fault(UpdateFault::Record(RecordFault::TooLong)));
+    let rec = modified_vector(case.alloc, target, vrid, case.frame)?;
+    match case.length_fault(&rec) {
+        Some(fault) => Err(StepRefusal::Fault(fault)),
+        None => Ok(Edit::Set(rec)),
     }
-    Ok(Edit::Set(rec))
 }
 
 /// The edit of a vector record, by its instruction.
 pub fn vector_edit(
-    alloc: Global,
-    look: &ListLook<'_>,
-    nall: u8,
+    case: &Case<'_>,
     instruction: Instruction,
     vrid: Vrid,
-    frame: &Frame<'_>,
 ) -> Result<Edit, StepRefusal>
-    requires { nall ≡ look.now.head.nall }
-    ensures { GivesUpdate result (vector_edit instruction look.now vrid frame.now.fields) }
+    requires { case.now.nall ≡ case.now.look.now.head.nall }
+    ensures { GivesUpdate result (vector_edit instruction case.now.look.now vrid case.now.frame.now.fields) }
 {
     match instruction {
-        Instruction::Insert => vector_insertion(alloc, look, nall, vrid, frame),
-        Instruction::Delete => match vector_deletion(look, vrid) {
+        Instruction::Insert => vector_insertion(case, vrid),
+        Instruction::Delete => match vector_deletion(case.look, vrid) {
             Ok(edit) => Ok(edit),
             Err(fault) => Err(StepRefusal::Fault(fault)),
         },
-        Instruction::Modify => vector_modification(alloc, look, nall, vrid, frame),
+        Instruction::Modify => vector_modification(case, vrid),
     }
 }
