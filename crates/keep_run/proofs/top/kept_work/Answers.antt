@@ -35,13 +35,15 @@ returns-in-Err-script_in_file-clause-asked g c =
     let files = g.H.Shelf.files c.args.shelf.now in
     let reads = g.H.Shelf.read_faults c.args.shelf.now in
     let disk = c.args.disk.now in
-    let content = g.D.Disk.content disk in
-    let faults = g.D.Disk.faults disk in
+    let new = disk in
+    let content = g.D.Disk.content in
+    let faults = g.D.Disk.faults in
+    let images = g.D.Disk.images new in
     let read = g.H.Shelf.read_faults c.script_in_file.new.shelf in
     let mid = g.H.Shelf.read_faults c.read_cell.new.shelf in
     let tells = subst (λ (fs : Option Files). Tells (λ (script : Script). script) (ScriptIs 1 form.script) (IsFile form.script) fs mid read
     (Err c.in-Err-script_in_file.status)) c.in-Ok.ensures.files c.in-Err-script_in_file.ensures.tells in
-    script_ends form files reads content content faults faults (g.D.Disk.images disk) c.in-Ok.checked.cell c.in-Ok.ensures.tells mid read
+    script_ends form files reads (content disk) (content new) (faults disk) (faults new) images c.in-Ok.checked.cell c.in-Ok.ensures.tells mid read
     c.in-Err-script_in_file.status c.in-Ok.ensures.read_faults c.in-Err-script_in_file.ensures.status c.in-Err-script_in_file.ensures.kind tells
 
 pub returns-in-Err-script_in_file-clause-moments : goal.returns-in-Err-script_in_file-clause-moments
@@ -57,43 +59,78 @@ keep-requires-clause-writable g c κs within =
 
 pub returns-in_err-work_of-in-Ok-keep-clause-moments : goal.returns-in_err-work_of-in-Ok-keep-clause-moments
 returns-in_err-work_of-in-Ok-keep-clause-moments g c =
-    kept_of g.D.Disk.moment g.D.Disk.left_since g.D.Disk.images (keep_form c.args.cell.now c.args.out.now c.args.script.now)
-    (g.H.Shelf.files c.args.shelf.now) (g.H.Shelf.files c.read_cell.new.shelf) (g.D.Disk.content c.args.disk.now) c.args.disk.now c.keep.new.disk
-    c.in-Ok.checked.cell c.into_cell.result c.in-Ok-script_in_file.script c.into_cell.ensures c.in-Ok.ensures.files c.in-Ok.ensures.tells
-    c.in-Ok-script_in_file.ensures.tells c.keep.ensures.moments
+    let form = keep_form c.args.cell.now c.args.out.now c.args.script.now in
+    let files = g.H.Shelf.files c.args.shelf.now in
+    let disk = c.args.disk.now in
+    let new = c.keep.new.disk in
+    let content = g.D.Disk.content in
+    let start = c.into_cell.result in
+    let script = c.in-Ok-script_in_file.script in
+    let good = subst (λ (cell : Cell). IfSome files (λ fs. CellIs form.cell fs (Ok cell))) (sym c.into_cell.ensures) c.in-Ok.ensures.tells in
+    let read = subst (λ (fs : Option Files). IfSome fs (λ f. ScriptIs 1 form.script f (Ok script))) c.in-Ok.ensures.files
+    c.in-Ok-script_in_file.ensures.tells in
+    kept_meanwhile g.D.Disk.moment g.D.Disk.left_since g.D.Disk.images form files (content disk) disk new start script good read c.keep.ensures.moments
 
 pub returns-in-Ok-keep-clause-asked : goal.returns-in-Ok-keep-clause-asked
 returns-in-Ok-keep-clause-asked g c =
     let form = keep_form c.args.cell.now c.args.out.now c.args.script.now in
     let files = g.H.Shelf.files c.args.shelf.now in
-    let given = given_of form files (g.H.Shelf.files c.read_cell.new.shelf) c.in-Ok.checked.cell c.into_cell.result c.in-Ok-script_in_file.script
-    c.into_cell.ensures c.in-Ok.ensures.files c.in-Ok.ensures.tells c.in-Ok-script_in_file.ensures.tells in
-    kept_done form files (g.H.Shelf.read_faults c.args.shelf.now) (g.D.Disk.content c.args.disk.now) (g.D.Disk.content c.keep.new.disk)
-    (g.D.Disk.faults c.args.disk.now) (g.D.Disk.faults c.keep.new.disk) (g.D.Disk.images c.keep.new.disk) c.into_cell.result given.cell_is
-    c.in-Ok-script_in_file.script given.script_is (g.H.Shelf.read_faults c.script_in_file.new.shelf)
+    let disk = c.args.disk.now in
+    let new = c.keep.new.disk in
+    let content = g.D.Disk.content in
+    let reads = g.H.Shelf.read_faults c.args.shelf.now in
+    let read_now = g.H.Shelf.read_faults c.script_in_file.new.shelf in
+    let faults = g.D.Disk.faults in
+    let start = c.into_cell.result in
+    let script = c.in-Ok-script_in_file.script in
+    let good = subst (λ (cell : Cell). IfSome files (λ fs. CellIs form.cell fs (Ok cell))) (sym c.into_cell.ensures) c.in-Ok.ensures.tells in
+    let read = subst (λ (fs : Option Files). IfSome fs (λ f. ScriptIs 1 form.script f (Ok script))) c.in-Ok.ensures.files
+    c.in-Ok-script_in_file.ensures.tells in
+    kept_done form files reads (content disk) (content new) (faults disk) (faults new) (g.D.Disk.images new) start good script read read_now
     c.in-Ok-keep.kept c.in_ok-work_of-in-Ok-keep.field-0 c.in-Ok-keep.ensures.ok c.in_ok-work_of-in-Ok-keep.ensures
 
 pub returns-in-Ok-keep-clause-moments : goal.returns-in-Ok-keep-clause-moments
 returns-in-Ok-keep-clause-moments g c =
-    kept_of g.D.Disk.moment g.D.Disk.left_since g.D.Disk.images (keep_form c.args.cell.now c.args.out.now c.args.script.now)
-    (g.H.Shelf.files c.args.shelf.now) (g.H.Shelf.files c.read_cell.new.shelf) (g.D.Disk.content c.args.disk.now) c.args.disk.now c.keep.new.disk
-    c.in-Ok.checked.cell c.into_cell.result c.in-Ok-script_in_file.script c.into_cell.ensures c.in-Ok.ensures.files c.in-Ok.ensures.tells
-    c.in-Ok-script_in_file.ensures.tells c.keep.ensures.moments
+    let form = keep_form c.args.cell.now c.args.out.now c.args.script.now in
+    let files = g.H.Shelf.files c.args.shelf.now in
+    let disk = c.args.disk.now in
+    let new = c.keep.new.disk in
+    let content = g.D.Disk.content in
+    let start = c.into_cell.result in
+    let script = c.in-Ok-script_in_file.script in
+    let good = subst (λ (cell : Cell). IfSome files (λ fs. CellIs form.cell fs (Ok cell))) (sym c.into_cell.ensures) c.in-Ok.ensures.tells in
+    let read = subst (λ (fs : Option Files). IfSome fs (λ f. ScriptIs 1 form.script f (Ok script))) c.in-Ok.ensures.files
+    c.in-Ok-script_in_file.ensures.tells in
+    kept_meanwhile g.D.Disk.moment g.D.Disk.left_since g.D.Disk.images form files (content disk) disk new start script good read c.keep.ensures.moments
 
 pub returns-clause-asked : goal.returns-clause-asked
 returns-clause-asked g c =
-    let given = given_of (keep_form c.args.cell.now c.args.out.now c.args.script.now) (g.H.Shelf.files c.args.shelf.now)
-    (g.H.Shelf.files c.read_cell.new.shelf) c.in-Ok.checked.cell c.into_cell.result c.in-Ok-script_in_file.script c.into_cell.ensures
-    c.in-Ok.ensures.files c.in-Ok.ensures.tells c.in-Ok-script_in_file.ensures.tells in
+    let form = keep_form c.args.cell.now c.args.out.now c.args.script.now in
+    let files = g.H.Shelf.files c.args.shelf.now in
     let disk = c.args.disk.now in
     let new = c.keep.new.disk in
-    keep_ends (keep_form c.args.cell.now c.args.out.now c.args.script.now) (g.H.Shelf.files c.args.shelf.now) (g.H.Shelf.read_faults c.args.shelf.now)
-    (g.D.Disk.content disk) (g.D.Disk.content new) (g.D.Disk.faults disk) (g.D.Disk.faults new) (g.D.Disk.images new) c.into_cell.result given.cell_is
-    c.in-Ok-script_in_file.script given.script_is (g.H.Shelf.read_faults c.script_in_file.new.shelf) c.in-Err-keep.status c.in-Err-keep.ensures.err
+    let content = g.D.Disk.content in
+    let reads = g.H.Shelf.read_faults c.args.shelf.now in
+    let read_now = g.H.Shelf.read_faults c.script_in_file.new.shelf in
+    let faults = g.D.Disk.faults in
+    let start = c.into_cell.result in
+    let script = c.in-Ok-script_in_file.script in
+    let good = subst (λ (cell : Cell). IfSome files (λ fs. CellIs form.cell fs (Ok cell))) (sym c.into_cell.ensures) c.in-Ok.ensures.tells in
+    let read = subst (λ (fs : Option Files). IfSome fs (λ f. ScriptIs 1 form.script f (Ok script))) c.in-Ok.ensures.files
+    c.in-Ok-script_in_file.ensures.tells in
+    keep_ends form files reads (content disk) (content new) (faults disk) (faults new) (g.D.Disk.images new) start good script read read_now
+    c.in-Err-keep.status c.in-Err-keep.ensures.err
 
 pub returns-clause-moments : goal.returns-clause-moments
 returns-clause-moments g c =
-    kept_of g.D.Disk.moment g.D.Disk.left_since g.D.Disk.images (keep_form c.args.cell.now c.args.out.now c.args.script.now)
-    (g.H.Shelf.files c.args.shelf.now) (g.H.Shelf.files c.read_cell.new.shelf) (g.D.Disk.content c.args.disk.now) c.args.disk.now c.keep.new.disk
-    c.in-Ok.checked.cell c.into_cell.result c.in-Ok-script_in_file.script c.into_cell.ensures c.in-Ok.ensures.files c.in-Ok.ensures.tells
-    c.in-Ok-script_in_file.ensures.tells c.keep.ensures.moments
+    let form = keep_form c.args.cell.now c.args.out.now c.args.script.now in
+    let files = g.H.Shelf.files c.args.shelf.now in
+    let disk = c.args.disk.now in
+    let new = c.keep.new.disk in
+    let content = g.D.Disk.content in
+    let start = c.into_cell.result in
+    let script = c.in-Ok-script_in_file.script in
+    let good = subst (λ (cell : Cell). IfSome files (λ fs. CellIs form.cell fs (Ok cell))) (sym c.into_cell.ensures) c.in-Ok.ensures.tells in
+    let read = subst (λ (fs : Option Files). IfSome fs (λ f. ScriptIs 1 form.script f (Ok script))) c.in-Ok.ensures.files
+    c.in-Ok-script_in_file.ensures.tells in
+    kept_meanwhile g.D.Disk.moment g.D.Disk.left_since g.D.Disk.images form files (content disk) disk new start script good read c.keep.ensures.moments
