@@ -41,13 +41,13 @@ fn second_area(alloc: Global) -> Result<Rec, AllocError> {
 /// The edit that moves the first node.
 fn moved_node(alloc: Global) -> Result<Vec<Edit>, AllocError> {
     let edit = Edit::Set(node(alloc, 1, (1, 1))?);
-    vec![in alloc; edit]
+    Ok(vec![in alloc; edit]?)
 }
 
 /// The edit that adds the second area.
 fn added_area(alloc: Global) -> Result<Vec<Edit>, AllocError> {
     let edit = Edit::Add(second_area(alloc)?);
-    vec![in alloc; edit]
+    Ok(vec![in alloc; edit]?)
 }
 
 /// The first desk prepares before the second commits, and commits after that.

@@ -53,7 +53,7 @@ fn drawn_edit(alloc: Global, state: &mut u32) -> Result<Edit, AllocError> {
 /// A list of one such edit.
 fn drawn_edits(alloc: Global, state: &mut u32) -> Result<Vec<Edit>, AllocError> {
     let edit = drawn_edit(alloc, state)?;
-    vec![in alloc; edit]
+    Ok(vec![in alloc; edit]?)
 }
 
 /// Checks that two tables have the same findings.
