@@ -1,5 +1,5 @@
 use Rattle.std.proofs.Common.{◌≡◌, All, length}
-use Rattle.gate_turns.proofs.signatures.join_all.Given as goal
+use Rattle.turn_gate_tests.proofs.signatures.join_all.Given as goal
 
 abbrev pub decreases-loop-worker : goal.decreases-loop-worker
 decreases-loop-worker l = length l.workers.items
