@@ -25,23 +25,7 @@ pub struct Dsid {
 
 impl Drop for Dsid {
     fn drop(self) {
-        let Dsid {
-            rcid: _,
-            expp: _,
-            intu: _,
-            dsnm: _,
-            edtn: _,
-            updn: _,
-            uadt: _uadt,
-            isdt: _isdt,
-            sted: _sted,
-            prsp: _,
-            psdn: _,
-            pred: _,
-            prof: _,
-            agen: _,
-            comt: _,
-        } = self;
+        drop(self.into_texts());
     }
 }
 
@@ -50,12 +34,7 @@ impl Dsid {
 
     /// Its texts: DSNM, EDTN, UPDN, PSDN, PRED and COMT. It takes no memory.
     pub fn into_texts(self) -> (Text, Text, Text, Text, Text, Text)
-        ensures dsnm { result.0 ≡ self.dsnm }
-        ensures edtn { result.1 ≡ self.edtn }
-        ensures updn { result.2 ≡ self.updn }
-        ensures psdn { result.3 ≡ self.psdn }
-        ensures pred { result.4 ≡ self.pred }
-        ensures comt { result.5 ≡ self.comt }
+        ensures { result ≡ (self.dsnm, self.edtn, self.updn, self.psdn, self.pred, self.comt) }
     {
         let Dsid {
             rcid: _,
@@ -107,20 +86,7 @@ pub struct Dspm {
 
 impl Drop for Dspm {
     fn drop(self) {
-        let Dspm {
-            rcid: _,
-            hdat: _,
-            vdat: _,
-            sdat: _,
-            cscl: _,
-            duni: _,
-            huni: _,
-            puni: _,
-            coun: _,
-            comf: _,
-            somf: _,
-            comt: _,
-        } = self;
+        drop(self.into_comment());
     }
 }
 
