@@ -14,6 +14,7 @@ use Rattle.s57_types.specs.Subfield.{unit_terminator, is_plain}
 use Rattle.field_spec.specs.Cutting.{split, split_units, front, cut_row}
 use Rattle.field_spec.proofs.CutBack.{mapped_back, bound_back}
 use Rattle.s57_fields.specs.RowCutting.{take_row}
+use Rattle.s57_fields.specs.RowLayouts.{RowLayout}
 
 -- what was cut off, with more bytes behind what was left
 abbrev with_more : {X : Type 0} → List ℕ → X × List ℕ → X × List ℕ
@@ -103,18 +104,18 @@ cut_row-more (form ∷ forms) b more x e =
     (cut_row forms y.1) x others
     (λ z is. ap (option_map (λ (s : List Subfield × List ℕ). (y.0 ∷ s.0, s.1))) (cut_row-more forms y.1 more z is)))
 
-pub take_row-more : {X : Type 0} (forms : List Form) (good : List Subfield → Bool) (value : List Subfield → X) (b more : List ℕ)
+pub take_row-more : {X : Type 0} (layout : RowLayout X) (b more : List ℕ)
     (x : X) (plain : Bool) (after : List ℕ)
-    → take_row forms good value b ≡ Some (x, plain, after) → take_row forms good value (b ++ more) ≡ Some (x, plain, after ++ more)
-take_row-more {X} forms good value b more x plain after e =
-    bound_back judge (take_row forms good value (b ++ more) ≡ Some (x, plain, after ++ more)) (cut_row forms b) (x, plain, after) e
-    (λ y cut is. ap (option_and_then judge) (cut_row-more forms b more y cut) ∙ tested y (good y.0) is)
+    → take_row layout b ≡ Some (x, plain, after) → take_row layout (b ++ more) ≡ Some (x, plain, after ++ more)
+take_row-more {X} layout b more x plain after e =
+    bound_back judge (take_row layout (b ++ more) ≡ Some (x, plain, after ++ more)) (cut_row layout.forms b) (x, plain, after) e
+    (λ y cut is. ap (option_and_then judge) (cut_row-more layout.forms b more y cut) ∙ tested y (layout.good y.0) is)
   where
     answer : List Subfield × List ℕ → Bool → Option (X × Bool × List ℕ)
-    answer y g = cond {A = Option (X × Bool × List ℕ)} g (Some (value y.0, list_all is_plain y.0, y.1)) None
+    answer y g = cond {A = Option (X × Bool × List ℕ)} g (Some (layout.value y.0, list_all is_plain y.0, y.1)) None
 
     judge : List Subfield × List ℕ → Option (X × Bool × List ℕ)
-    judge y = answer y (good y.0)
+    judge y = answer y (layout.good y.0)
 
     tested : (y : List Subfield × List ℕ) (g : Bool) → answer y g ≡ Some (x, plain, after) → answer (with_more more y) g ≡ Some (x, plain, after ++ more)
     tested y true is = ap (λ (z : Option (X × Bool × List ℕ)). option_map (λ r. (r.0, r.1, r.2 ++ more)) z) is
@@ -128,12 +129,12 @@ get_chunk n (suc k) (suc count) xs d within =
     get_chunk n k count (drop n xs) d (omega (arith, within)) ∙ ap (take n) (drop-drop (k * n) n xs ∙ ap (λ j. drop j xs) (omega arith))
 
 -- the row that fills a chunk is the next row
-pub chunk_row : {X : Type 0} (forms : List Form) (good : List Subfield → Bool) (value : List Subfield → X) (n k : ℕ) (xs : List ℕ) (x : X) (plain : Bool)
-    → take_row forms good value (take n (drop (k * n) xs)) ≡ Some (x, plain, [])
-    → take_row forms good value (drop (k * n) xs) ≡ Some (x, plain, drop ((k + 1) * n) xs)
-chunk_row forms good value n k xs x plain e =
-    ap (take_row forms good value) (sym (take-append-drop n (drop (k * n) xs)))
-    ∙ take_row-more forms good value (take n (drop (k * n) xs)) (drop n (drop (k * n) xs)) x plain [] e
+pub chunk_row : {X : Type 0} (layout : RowLayout X) (n k : ℕ) (xs : List ℕ) (x : X) (plain : Bool)
+    → take_row layout (take n (drop (k * n) xs)) ≡ Some (x, plain, [])
+    → take_row layout (drop (k * n) xs) ≡ Some (x, plain, drop ((k + 1) * n) xs)
+chunk_row layout n k xs x plain e =
+    ap (take_row layout) (sym (take-append-drop n (drop (k * n) xs)))
+    ∙ take_row-more layout (take n (drop (k * n) xs)) (drop n (drop (k * n) xs)) x plain [] e
     ∙ ap (λ rest. Some (x, plain, rest)) (drop-drop n (k * n) xs ∙ ap (λ j. drop j xs) (omega arith))
 
 -- behind each chunk fewer bytes are left, and before it stand no fewer bytes than chunks

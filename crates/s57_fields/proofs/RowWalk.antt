@@ -2,8 +2,8 @@
 use Rattle.std.proofs.Common.{◌≡◌, ℕ, suc, ◌+◌, ◌-◌, ◌<◌, ◌≤◌, ◌&&◌, Bool, true, false, List, [], ◌∷◌, ◌++◌, length, take, set, Option, Some, None, refl}
 use Rattle.std.proofs.Common.{sym, ap, ◌∙◌, append_assoc, arith}
 use Rattle.std.proofs.lemmas.List.{append-nil, take_more_set}
-use Rattle.s57_types.specs.Subfield.{Form, Subfield}
 use Rattle.s57_fields.specs.RowCutting.{take_row, with_front, rows_after, rows_from}
+use Rattle.s57_fields.specs.RowLayouts.{RowLayout}
 
 and_assoc : (p q r : Bool) → (p && (q && r)) ≡ ((p && q) && r)
 and_assoc true q r = refl
@@ -24,55 +24,55 @@ with_front-with_front front plain x is_plain (Some rows) =
     (simp append_assoc) (and_assoc plain is_plain rows.1)
 
 -- bytes that are left give the next row, of one row fewer
-rows_from-next : {X : Type 0} (forms : List Form) (good : List Subfield → Bool) (value : List Subfield → X) (j : ℕ) (rest : List ℕ) → 0 < length rest
-    → rows_from forms good value (suc j) rest ≡ rows_after (rows_from forms good value j) (take_row forms good value rest)
+rows_from-next : {X : Type 0} (layout : RowLayout X) (j : ℕ) (rest : List ℕ) → 0 < length rest
+    → rows_from layout (suc j) rest ≡ rows_after (rows_from layout j) (take_row layout rest)
 unfolding rows_from
-rows_from-next forms good value j [] some = absurd (omega arith)
-rows_from-next forms good value j (c ∷ b) some = refl
+rows_from-next layout j [] some = absurd (omega arith)
+rows_from-next layout j (c ∷ b) some = refl
 
 -- the next row, where so many rows are left
-next_is : {X : Type 0} (forms : List Form) (good : List Subfield → Bool) (value : List Subfield → X) (k j : ℕ) (rest : List ℕ)
+next_is : {X : Type 0} (layout : RowLayout X) (k j : ℕ) (rest : List ℕ)
     (taken : Option (X × Bool × List ℕ))
-    → 0 < length rest → k ≡ suc j → take_row forms good value rest ≡ taken → rows_from forms good value k rest ≡ rows_after (rows_from forms good value j) taken
-next_is forms good value k j rest taken some left is =
-    ap (λ n. rows_from forms good value n rest) left ∙ rows_from-next forms good value j rest some ∙ ap (rows_after (rows_from forms good value j)) is
+    → 0 < length rest → k ≡ suc j → take_row layout rest ≡ taken → rows_from layout k rest ≡ rows_after (rows_from layout j) taken
+next_is layout k j rest taken some left is =
+    ap (λ n. rows_from layout n rest) left ∙ rows_from-next layout j rest some ∙ ap (rows_after (rows_from layout j)) is
 
-pub goes_on : {X : Type 0} (forms : List Form) (good : List Subfield → Bool) (value : List Subfield → X) (front : List X)
+pub goes_on : {X : Type 0} (layout : RowLayout X) (front : List X)
     (plain : Bool) (total : Option (List X × Bool)) (k j : ℕ) (rest : List ℕ)
     (x : X) (is_plain : Bool) (after : List ℕ)
-    → 0 < length rest → k ≡ suc j → take_row forms good value rest ≡ Some (x, is_plain, after)
-    → with_front front plain (rows_from forms good value k rest) ≡ total
-    → with_front (front ++ x ∷ []) (plain && is_plain) (rows_from forms good value j after) ≡ total
-goes_on forms good value front plain total k j rest x is_plain after some left taken so_far =
-    sym (with_front-with_front front plain x is_plain (rows_from forms good value j after))
-    ∙ sym (ap (with_front front plain) (next_is forms good value k j rest (Some (x, is_plain, after)) some left taken))
+    → 0 < length rest → k ≡ suc j → take_row layout rest ≡ Some (x, is_plain, after)
+    → with_front front plain (rows_from layout k rest) ≡ total
+    → with_front (front ++ x ∷ []) (plain && is_plain) (rows_from layout j after) ≡ total
+goes_on layout front plain total k j rest x is_plain after some left taken so_far =
+    sym (with_front-with_front front plain x is_plain (rows_from layout j after))
+    ∙ sym (ap (with_front front plain) (next_is layout k j rest (Some (x, is_plain, after)) some left taken))
     ∙ so_far
 
-pub stops : {X : Type 0} (forms : List Form) (good : List Subfield → Bool) (value : List Subfield → X) (front : List X) (plain : Bool)
+pub stops : {X : Type 0} (layout : RowLayout X) (front : List X) (plain : Bool)
     (total : Option (List X × Bool)) (k j : ℕ) (rest : List ℕ)
-    → 0 < length rest → k ≡ suc j → take_row forms good value rest ≡ None → with_front front plain (rows_from forms good value k rest) ≡ total → total ≡ None
-stops forms good value front plain total k j rest some left taken so_far =
-    sym so_far ∙ ap (with_front front plain) (next_is forms good value k j rest None some left taken)
+    → 0 < length rest → k ≡ suc j → take_row layout rest ≡ None → with_front front plain (rows_from layout k rest) ≡ total → total ≡ None
+stops layout front plain total k j rest some left taken so_far =
+    sym so_far ∙ ap (with_front front plain) (next_is layout k j rest None some left taken)
 
-pub is_done : {X : Type 0} (forms : List Form) (good : List Subfield → Bool) (value : List Subfield → X) (front : List X)
+pub is_done : {X : Type 0} (layout : RowLayout X) (front : List X)
     (plain : Bool) (total : Option (List X × Bool)) (k : ℕ) (rest : List ℕ)
-    → length rest ≡ 0 → with_front front plain (rows_from forms good value k rest) ≡ total → total ≡ Some (front, plain)
+    → length rest ≡ 0 → with_front front plain (rows_from layout k rest) ≡ total → total ≡ Some (front, plain)
 unfolding rows_from
-is_done forms good value front plain total k [] none so_far = sym so_far ∙ pair (front ++ []) front (plain && true) plain (append-nil front) (and_true plain)
-is_done forms good value front plain total k (c ∷ b) none so_far = absurd (omega arith)
+is_done layout front plain total k [] none so_far = sym so_far ∙ pair (front ++ []) front (plain && true) plain (append-nil front) (and_true plain)
+is_done layout front plain total k (c ∷ b) none so_far = absurd (omega arith)
 
 -- the next row is written over a place
-pub writes_on : {X : Type 0} (forms : List Form) (good : List Subfield → Bool) (value : List Subfield → X) (rows : List X)
+pub writes_on : {X : Type 0} (layout : RowLayout X) (rows : List X)
     (place : ℕ) (plain : Bool) (total : Option (List X × Bool)) (size : ℕ) (rest : List ℕ)
     (x : X) (is_plain : Bool) (after : List ℕ)
-    → place < length rows → length rest + place ≤ size → length after < length rest → take_row forms good value rest ≡ Some (x, is_plain, after)
-    → with_front (take place rows) plain (rows_from forms good value (size - place) rest) ≡ total
-    → with_front (take (place + 1) (set rows place x)) (plain && is_plain) (rows_from forms good value (size - (place + 1)) after) ≡ total
-writes_on forms good value rows place plain total size rest x is_plain after within room shorter taken so_far =
+    → place < length rows → length rest + place ≤ size → length after < length rest → take_row layout rest ≡ Some (x, is_plain, after)
+    → with_front (take place rows) plain (rows_from layout (size - place) rest) ≡ total
+    → with_front (take (place + 1) (set rows place x)) (plain && is_plain) (rows_from layout (size - (place + 1)) after) ≡ total
+writes_on layout rows place plain total size rest x is_plain after within room shorter taken so_far =
     let left : size - place ≡ suc (size - (place + 1)) = omega (arith, room, shorter) in
     let some : 0 < length rest = omega (arith, shorter) in
-    ap (λ front. with_front front (plain && is_plain) (rows_from forms good value (size - (place + 1)) after)) (take_more_set rows place x within)
-    ∙ goes_on forms good value (take place rows) plain total (size - place) (size - (place + 1)) rest x is_plain after some left taken so_far
+    ap (λ front. with_front front (plain && is_plain) (rows_from layout (size - (place + 1)) after)) (take_more_set rows place x within)
+    ∙ goes_on layout (take place rows) plain total (size - place) (size - (place + 1)) rest x is_plain after some left taken so_far
 
 -- no row stands in front
 pub begins : {X : Type 0} (total : Option (List X × Bool)) → with_front [] true total ≡ total

@@ -1,20 +1,18 @@
 //! The fields of a feature record (S-57 Part 3, 7.6).
 
-ghost use Rattle.std.specs.Prelude.{◌≡◌, ◌<◌, ◌++◌, MatchOption, IfSome, OnOk, OnErr, true, Ok, Err, [], ◌∷◌, length};
+ghost use Rattle.std.specs.Prelude.{◌≡◌, ◌<◌, ◌++◌, MatchOption, IfSome, OnOk, OnErr, Ok, Err, [], ◌∷◌, length};
 ghost use Rattle.std.specs.Option.{option_map};
 ghost use Rattle.s57_types.specs.Subfield.{unsigned_of, text_of};
-ghost use Rattle.s57_types.specs.FieldRows.{attribute_forms, partner_forms, place_forms, foid_forms, foid_row, frid_row, attribute_row, partner_row};
-ghost use Rattle.s57_types.specs.FieldRows.{place_row, level_text};
+ghost use Rattle.s57_types.specs.FieldRows.{attribute_forms, partner_forms, foid_forms, foid_row, frid_row, attribute_row, partner_row, place_row, level_text};
 ghost use Rattle.field_spec.specs.declared.fault.FieldFault.TheVariants.{BadField};
 ghost use Rattle.field_spec.specs.Cutting.{cut_row};
-ghost use Rattle.field_spec.specs.Contents.{frid_content, foid_content, attribute_content, partner_content, place_content, names_a_vector, place_value};
+ghost use Rattle.field_spec.specs.Contents.{frid_content, foid_content, attribute_content, partner_content, place_content};
 ghost use Rattle.field_spec.specs.FieldBytes.{field_bytes, rows_bytes};
 ghost use Rattle.s57_fields.specs.Gives.{Gives};
-ghost use Rattle.s57_fields.specs.RowCutting.{take_row};
 
 use crate::cut::{FIELD_TERMINATOR, field_body, take_text, take_u8, take_u16, take_u32};
 use crate::refusal::FieldRefusal;
-use crate::rows::{FieldRow, read_many_rows, read_rows};
+use crate::rows::{FieldRow, NumberRow, read_many_rows, read_rows};
 use crate::spell::{Value, byte_bytes, long_bytes, put_row, short_bytes};
 use crate::text::{WIDE_LEVEL, is_plain_level_text, is_plain_text, owned_text, take_level_text};
 use crate::vector::{name_bytes, vector_kind};
@@ -141,16 +139,9 @@ fn cut_attribute(level: u8, bytes: &[u8]) -> Option<(u16, &[u8], &[u8])>
 }
 
 impl FieldRow for Attr {
-    ghost use Rattle.s57_types.specs.FieldRows.{attribute_forms, attribute_row};
-    ghost use Rattle.field_spec.specs.Contents.{any_row, attribute_value};
+    ghost use Rattle.s57_fields.specs.RowLayouts.{attribute_layout};
 
-    ghost forms = { attribute_forms };
-
-    ghost good = { any_row };
-
-    ghost value = { attribute_value };
-
-    ghost subfields = { λ level x. attribute_row level x };
+    ghost layout = { attribute_layout };
 
     fn take_front(
         alloc: Global,
@@ -239,16 +230,9 @@ fn cut_partner(bytes: &[u8]) -> Option<(Lnam, u8, &[u8], &[u8])>
 }
 
 impl FieldRow for Partner {
-    ghost use Rattle.s57_types.specs.FieldRows.{partner_forms, partner_row};
-    ghost use Rattle.field_spec.specs.Contents.{any_row, partner_value};
+    ghost use Rattle.s57_fields.specs.RowLayouts.{partner_layout};
 
-    ghost forms = { λ level. partner_forms };
-
-    ghost good = { any_row };
-
-    ghost value = { partner_value };
-
-    ghost subfields = { λ level x. partner_row x };
+    ghost layout = { λ level. partner_layout };
 
     fn take_front(
         alloc: Global,
@@ -297,57 +281,36 @@ pub fn write_ffpt(_alloc: Global, value: &Partners, out: &mut Vec<u8>) -> Result
     write_rows(0, value, out)
 }
 
-/// A pointer to a vector record as it was cut: the record's name, and ORNT, USAG and MASK.
-fn cut_place(bytes: &[u8]) -> Option<(Spot, &[u8])>
-    ensures cut { option_map (λ x. (x.0, true, x.1.now)) result ≡ take_row place_forms names_a_vector place_value bytes.now }
-    ensures shorter { IfSome result (λ x. length x.1.now < length bytes.now) }
-{
-    let (rcnm, rest) = take_u8(bytes)?;
-    let (id, rest) = take_u32(rest)?;
-    let (ornt, rest) = take_u8(rest)?;
-    let (usag, rest) = take_u8(rest)?;
-    let (mask, rest) = take_u8(rest)?;
-    let kind = vector_kind(rcnm)?;
-    let to = RecName { kind, id };
-    Some((
-        Spot {
-            to,
-            ornt,
-            usag,
-            mask,
-        },
-        rest,
-    ))
-}
+/// A pointer to a vector record: the record's name, and ORNT, USAG and MASK.
+impl NumberRow for Spot {
+    ghost use Rattle.s57_fields.specs.RowLayouts.{place_layout};
 
-impl FieldRow for Spot {
-    ghost use Rattle.s57_types.specs.FieldRows.{place_forms, place_row};
-    ghost use Rattle.field_spec.specs.Contents.{names_a_vector, place_value};
+    ghost numbers = { place_layout };
 
-    ghost forms = { λ level. place_forms };
-
-    ghost good = { names_a_vector };
-
-    ghost value = { place_value };
-
-    ghost subfields = { λ level x. place_row x };
-
-    fn take_front(
-        _alloc: Global,
-        _level: u8,
-        bytes: &[u8],
-    ) -> Result<Option<(Spot, bool, &[u8])>, AllocError> {
-        let Some((spot, rest)) = cut_place(bytes) else {
-            return Ok(None);
-        };
-        Ok(Some((spot, true, rest)))
+    fn cut(bytes: &[u8]) -> Option<(Spot, &[u8])> {
+        let (rcnm, rest) = take_u8(bytes)?;
+        let (id, rest) = take_u32(rest)?;
+        let (ornt, rest) = take_u8(rest)?;
+        let (usag, rest) = take_u8(rest)?;
+        let (mask, rest) = take_u8(rest)?;
+        let kind = vector_kind(rcnm)?;
+        let to = RecName { kind, id };
+        Some((
+            Spot {
+                to,
+                ornt,
+                usag,
+                mask,
+            },
+            rest,
+        ))
     }
 
-    fn least_size() -> usize {
+    fn least_bytes() -> usize {
         8
     }
 
-    fn put(&self, _level: u8, out: &mut Vec<u8>) -> Result<(), AllocError> {
+    fn append(&self, out: &mut Vec<u8>) -> Result<(), AllocError> {
         let [k, i0, i1, i2, i3] = name_bytes(self.to);
         let [ornt] = byte_bytes(self.ornt);
         let [usag] = byte_bytes(self.usag);

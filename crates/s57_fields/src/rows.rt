@@ -1,13 +1,12 @@
 //! Fields whose row repeats.
 
-ghost use Rattle.std.specs.Prelude.{◌≡◌, ◌+◌, ◌-◌, ◌/◌, ◌<◌, ◌≤◌, ◌++◌, [], Bool, List, ℕ, Some, drop, length, take, IfOk, IfSome, OnOk, OnErr};
+ghost use Rattle.std.specs.Prelude.{◌≡◌, ◌+◌, ◌-◌, ◌/◌, ◌<◌, ◌≤◌, ◌++◌, [], true, ℕ, Some, drop, length, take, IfOk, IfSome, OnOk, OnErr};
 ghost use Rattle.std.specs.Simd.{first_chunks};
 ghost use Rattle.std.specs.Option.{option_map};
-ghost use Rattle.s57_types.specs.Subfield.{Form, Subfield, row_bytes};
-ghost use Rattle.field_spec.specs.Contents.{rows_as};
 ghost use Rattle.s57_fields.specs.Appending.{KeepsFront};
 ghost use Rattle.s57_fields.specs.Gives.{Gives};
-ghost use Rattle.s57_fields.specs.RowCutting.{take_row, rows_from, with_front, content_of_rows};
+ghost use Rattle.s57_fields.specs.RowCutting.{take_row, rows_from, with_front, content_of_rows, field_content};
+ghost use Rattle.s57_fields.specs.RowLayouts.{RowLayout, row_spelling};
 
 use crate::cut::field_body_at;
 use crate::refusal::FieldRefusal;
@@ -16,17 +15,8 @@ use std::alloc::{AllocError, Global};
 
 /// A row of a field whose row repeats, at a lexical level of its texts.
 pub trait FieldRow: Drop + Sized {
-    /// The forms of its subfields.
-    ghost forms: { ℕ → List Form };
-
-    /// Which rows the field may have.
-    ghost good: { List Subfield → Bool };
-
-    /// The value of a row.
-    ghost value: { List Subfield → Self };
-
-    /// The subfields of a value, at a lexical level.
-    ghost subfields: { ℕ → Self → List Subfield };
+    /// How it is laid out at a lexical level.
+    ghost layout: { ℕ → RowLayout Self };
 
     /// The row with which bytes begin, whether its texts are plain, and the bytes after it.
     fn take_front(
@@ -34,17 +24,60 @@ pub trait FieldRow: Drop + Sized {
         level: u8,
         bytes: &[u8],
     ) -> Result<Option<(Self, bool, &[u8])>, AllocError>
-        ensures cut { IfOk result (λ front. option_map (λ x. (x.0, x.1, x.2.now)) front ≡ take_row (forms level) good value bytes.now) }
+        ensures cut { IfOk result (λ front. option_map (λ x. (x.0, x.1, x.2.now)) front ≡ take_row (layout level) bytes.now) }
         ensures shorter { IfOk result (λ front. IfSome front (λ x. length x.2.now < length bytes.now)) };
 
     /// How many bytes a row takes at least.
     fn least_size() -> usize
-        ensures { (level : ℕ) (row : Self) → result ≤ length (row_bytes (subfields level row)) };
+        ensures { (level : ℕ) (row : Self) → result ≤ length (row_spelling (layout level) row) };
 
     /// Appends the subfields of a row.
     fn put(&self, level: u8, out: &mut Vec<u8>) -> Result<(), AllocError>
-        ensures ok { OnOk result (out.new.items ≡ out.old.items ++ row_bytes (subfields level self.now)) }
+        ensures ok { OnOk result (out.new.items ≡ out.old.items ++ row_spelling (layout level) self.now) }
         ensures err { OnErr result (KeepsFront out.old.items out.new.items) };
+}
+
+/// A row without texts. It takes no memory, and is the same at each lexical level.
+pub trait NumberRow: Drop + Sized {
+    /// How its numbers are laid out.
+    ghost numbers: { RowLayout Self };
+
+    /// The row with which bytes begin, and the bytes after it.
+    fn cut(bytes: &[u8]) -> Option<(Self, &[u8])>
+        ensures cut { option_map (λ x. (x.0, true, x.1.now)) result ≡ take_row numbers bytes.now }
+        ensures shorter { IfSome result (λ x. length x.1.now < length bytes.now) };
+
+    /// How many bytes a row takes at least.
+    fn least_bytes() -> usize
+        ensures { (row : Self) → result ≤ length (row_spelling numbers row) };
+
+    /// Appends the numbers of a row.
+    fn append(&self, out: &mut Vec<u8>) -> Result<(), AllocError>
+        ensures ok { OnOk result (out.new.items ≡ out.old.items ++ row_spelling numbers self.now) }
+        ensures err { OnErr result (out.new.items ≡ out.old.items) };
+}
+
+impl<R: NumberRow> FieldRow for R {
+    ghost layout = { λ level. R.numbers };
+
+    fn take_front(
+        _alloc: Global,
+        _level: u8,
+        bytes: &[u8],
+    ) -> Result<Option<(R, bool, &[u8])>, AllocError> {
+        let Some((row, rest)) = R::cut(bytes) else {
+            return Ok(None);
+        };
+        Ok(Some((row, true, rest)))
+    }
+
+    fn least_size() -> usize {
+        R::least_bytes()
+    }
+
+    fn put(&self, _level: u8, out: &mut Vec<u8>) -> Result<(), AllocError> {
+        self.append(out)
+    }
 }
 
 /// The rows of a field.
@@ -54,7 +87,7 @@ pub fn read_rows<R: FieldRow>(
     level: u8,
     bytes: &[u8],
 ) -> Result<Items<R>, FieldRefusal>
-    ensures { Gives result (rows_as R.value level (R.forms level) R.good bytes.now) }
+    ensures { Gives result (field_content (R.layout level) level bytes.now) }
 {
     let Some(body) = field_body_at(level, bytes) else {
         return Err(FieldRefusal::BadField);
@@ -72,7 +105,7 @@ pub fn read_many_rows<R: FieldRow + Copy, const N: usize>(
     blank: R,
 ) -> Result<Items<R>, FieldRefusal>
     requires { (0 < N) × (N < 100) }
-    ensures { Gives result (rows_as R.value level (R.forms level) R.good bytes.now) }
+    ensures { Gives result (field_content (R.layout level) level bytes.now) }
 {
     let Some(body) = field_body_at(level, bytes) else {
         return Err(FieldRefusal::BadField);
@@ -89,7 +122,7 @@ fn row_of_chunk<R: FieldRow>(
     level: u8,
     chunk: &[u8],
 ) -> Result<Option<(R, bool)>, AllocError>
-    ensures { IfOk result (λ row. IfSome row (λ x. take_row (R.forms level) R.good R.value chunk.now ≡ Some (x.0, x.1, []))) }
+    ensures { IfOk result (λ row. IfSome row (λ x. take_row (R.layout level) chunk.now ≡ Some (x.0, x.1, []))) }
 {
     match R::take_front(alloc, level, chunk)? {
         Some((row, is_plain, [])) => Ok(Some((row, is_plain))),
@@ -109,7 +142,7 @@ fn written_rows<R: FieldRow, const N: usize>(
     requires chunks { chunks.now ≡ first_chunks N (length body.now / N) body.now }
     requires count { length rows.items ≡ length body.now / N }
     requires chunk_count { length chunks.now ≡ length body.now / N }
-    ensures { Gives result (content_of_rows (rows_from (R.forms level) R.good R.value (length body.now) body.now)) }
+    ensures { Gives result (content_of_rows (rows_from (R.layout level) (length body.now) body.now)) }
 {
     let mut all_plain = true;
     for place in 0..chunks.len() {
@@ -133,13 +166,12 @@ fn rows_behind<R: FieldRow>(
     count: usize,
     size: usize,
 ) -> Result<Items<R>, FieldRefusal>
-    requires walk { with_front (take count rows.items) all_plain
-        (rows_from (R.forms level) R.good R.value (length body.now - count) (drop size body.now)) ≡ rows_from (R.forms level) R.good R.value
-        (length body.now) body.now }
+    requires walk { with_front (take count rows.items) all_plain (rows_from (R.layout level) (length body.now - count) (drop size body.now)) ≡
+        rows_from (R.layout level) (length body.now) body.now }
     requires written { count ≤ length rows.items }
     requires room { count ≤ size }
     requires within { size ≤ length body.now }
-    ensures { Gives result (content_of_rows (rows_from (R.forms level) R.good R.value (length body.now) body.now)) }
+    ensures { Gives result (content_of_rows (rows_from (R.layout level) (length body.now) body.now)) }
 {
     rows.truncate(count);
     let (_, rest) = body.split_at(size);
@@ -156,10 +188,10 @@ fn other_rows<R: FieldRow>(
     mut all_plain: bool,
     mut rest: &[u8],
 ) -> Result<Items<R>, FieldRefusal>
-    requires walk { with_front rows all_plain (rows_from (R.forms level) R.good R.value (length body.now - length rows) rest.now) ≡
-        rows_from (R.forms level) R.good R.value (length body.now) body.now }
+    requires walk { with_front rows all_plain (rows_from (R.layout level) (length body.now - length rows) rest.now) ≡
+        rows_from (R.layout level) (length body.now) body.now }
     requires room { length rest.now + length rows ≤ length body.now }
-    ensures { Gives result (content_of_rows (rows_from (R.forms level) R.good R.value (length body.now) body.now)) }
+    ensures { Gives result (content_of_rows (rows_from (R.layout level) (length body.now) body.now)) }
 {
     while !rest.is_empty() {
         let Some((row, is_plain, after)) = R::take_front(alloc, level, rest)? else {

@@ -1,20 +1,19 @@
 //! The fields of a vector record (S-57 Part 3, 7.7.1).
 
-ghost use Rattle.std.specs.Prelude.{◌≡◌, ◌<◌, ◌++◌, MatchOption, IfSome, OnOk, OnErr, true, false, [], ◌∷◌, length};
+ghost use Rattle.std.specs.Prelude.{◌≡◌, ◌++◌, MatchOption, OnOk, OnErr, true, false, [], ◌∷◌};
 ghost use Rattle.std.specs.Option.{option_map};
 ghost use Rattle.s57_types.specs.Subfield.{row_bytes, unsigned_of};
-ghost use Rattle.s57_types.specs.FieldRows.{vrid_forms, end_forms, plane_forms, deep_forms, attribute_row, end_row, plane_row, deep_row, name_row, vrid_row};
+ghost use Rattle.s57_types.specs.FieldRows.{vrid_forms, attribute_row, end_row, plane_row, deep_row, name_row, vrid_row};
 ghost use Rattle.s57_types.specs.FieldRows.{rcnm_of as rcnm_number};
 ghost use Rattle.field_spec.specs.Cutting.{field_row};
 ghost use Rattle.field_spec.specs.Contents.{attribute_content, end_content, plane_content, deep_content, vrid_content, is_vector_rcnm, kind_of_rcnm};
-ghost use Rattle.field_spec.specs.Contents.{names_a_vector, any_row, end_value, plane_value, deep_value};
 ghost use Rattle.field_spec.specs.FieldBytes.{field_bytes, rows_bytes};
 ghost use Rattle.s57_fields.specs.Gives.{Gives};
-ghost use Rattle.s57_fields.specs.RowCutting.{take_row};
 
 use crate::cut::{FIELD_TERMINATOR, field_body, take_i32, take_u8, take_u16, take_u32};
+use crate::feature::{read_attf, write_attf};
 use crate::refusal::FieldRefusal;
-use crate::rows::{FieldRow, read_many_rows, read_rows};
+use crate::rows::{NumberRow, read_many_rows};
 use crate::spell::{byte_bytes, long_bytes, put_three_signed, put_two_signed, short_bytes};
 use crate::write::write_rows;
 use s57_types::{Attrs, Deep, End, Ends, Kind, Plane, RecName, Vrid};
@@ -94,77 +93,55 @@ pub fn write_vrid(_alloc: Global, value: &Vrid, out: &mut Vec<u8>) -> Result<(),
     out.extend_from_slice(&[k, i0, i1, i2, i3, r0, r1, value.ruin, FIELD_TERMINATOR])
 }
 
-/// The attributes of a vector record, the field ATTV.
-#[tactic(auto, unfolding(field_spec::specs::Contents::attribute_content))]
+/// The attributes of a vector record, the field ATTV. Its rows are those of ATTF.
 pub fn read_attv(alloc: Global, bytes: &[u8]) -> Result<Attrs, FieldRefusal>
     ensures { Gives result (attribute_content 0 bytes.now) }
 {
-    read_rows(alloc, 0, bytes)
+    read_attf(alloc, bytes)
 }
 
 /// Appends the attributes of a vector record, the field ATTV.
 ///
 /// An `Err` means out of memory, and leaves the bytes as they were.
-pub fn write_attv(_alloc: Global, value: &Attrs, out: &mut Vec<u8>) -> Result<(), AllocError>
+pub fn write_attv(alloc: Global, value: &Attrs, out: &mut Vec<u8>) -> Result<(), AllocError>
     ensures ok { OnOk result (out.new.items ≡ out.old.items ++ rows_bytes 0 (attribute_row 0) value.now) }
     ensures err { OnErr result (out.new.items ≡ out.old.items) }
 {
-    write_rows(0, value, out)
+    write_attf(alloc, value, out)
 }
 
-/// A pointer as it was cut: the record's name, and ORNT, USAG, TOPI and MASK.
-fn cut_end(bytes: &[u8]) -> Option<(End, &[u8])>
-    ensures cut { option_map (λ x. (x.0, true, x.1.now)) result ≡ take_row end_forms names_a_vector end_value bytes.now }
-    ensures shorter { IfSome result (λ x. length x.1.now < length bytes.now) }
-{
-    let (rcnm, rest) = take_u8(bytes)?;
-    let (id, rest) = take_u32(rest)?;
-    let (ornt, rest) = take_u8(rest)?;
-    let (usag, rest) = take_u8(rest)?;
-    let (topi, rest) = take_u8(rest)?;
-    let (mask, rest) = take_u8(rest)?;
-    let kind = vector_kind(rcnm)?;
-    let to = RecName { kind, id };
-    Some((
-        End {
-            to,
-            ornt,
-            usag,
-            topi,
-            mask,
-        },
-        rest,
-    ))
-}
+/// A pointer: the record's name, and ORNT, USAG, TOPI and MASK.
+impl NumberRow for End {
+    ghost use Rattle.s57_fields.specs.RowLayouts.{end_layout};
 
-impl FieldRow for End {
-    ghost use Rattle.s57_types.specs.FieldRows.{end_forms, end_row};
-    ghost use Rattle.field_spec.specs.Contents.{names_a_vector, end_value};
+    ghost numbers = { end_layout };
 
-    ghost forms = { λ level. end_forms };
-
-    ghost good = { names_a_vector };
-
-    ghost value = { end_value };
-
-    ghost subfields = { λ level x. end_row x };
-
-    fn take_front(
-        _alloc: Global,
-        _level: u8,
-        bytes: &[u8],
-    ) -> Result<Option<(End, bool, &[u8])>, AllocError> {
-        let Some((end, rest)) = cut_end(bytes) else {
-            return Ok(None);
-        };
-        Ok(Some((end, true, rest)))
+    fn cut(bytes: &[u8]) -> Option<(End, &[u8])> {
+        let (rcnm, rest) = take_u8(bytes)?;
+        let (id, rest) = take_u32(rest)?;
+        let (ornt, rest) = take_u8(rest)?;
+        let (usag, rest) = take_u8(rest)?;
+        let (topi, rest) = take_u8(rest)?;
+        let (mask, rest) = take_u8(rest)?;
+        let kind = vector_kind(rcnm)?;
+        let to = RecName { kind, id };
+        Some((
+            End {
+                to,
+                ornt,
+                usag,
+                topi,
+                mask,
+            },
+            rest,
+        ))
     }
 
-    fn least_size() -> usize {
+    fn least_bytes() -> usize {
         9
     }
 
-    fn put(&self, _level: u8, out: &mut Vec<u8>) -> Result<(), AllocError> {
+    fn append(&self, out: &mut Vec<u8>) -> Result<(), AllocError> {
         let [k, i0, i1, i2, i3] = name_bytes(self.to);
         let [ornt] = byte_bytes(self.ornt);
         let [usag] = byte_bytes(self.usag);
@@ -204,43 +181,22 @@ pub fn write_vrpt(_alloc: Global, value: &Ends, out: &mut Vec<u8>) -> Result<(),
     write_rows(0, value, out)
 }
 
-fn cut_plane(bytes: &[u8]) -> Option<((i32, i32), &[u8])>
-    ensures cut { option_map (λ x. (x.0, true, x.1.now)) result ≡ take_row plane_forms any_row plane_value bytes.now }
-    ensures shorter { IfSome result (λ x. length x.1.now < length bytes.now) }
-{
-    let (y, rest) = take_i32(bytes)?;
-    let (x, rest) = take_i32(rest)?;
-    Some(((y, x), rest))
-}
+impl NumberRow for (i32, i32) {
+    ghost use Rattle.s57_fields.specs.RowLayouts.{plane_layout};
 
-impl FieldRow for (i32, i32) {
-    ghost use Rattle.s57_types.specs.FieldRows.{plane_forms, plane_row};
-    ghost use Rattle.field_spec.specs.Contents.{any_row, plane_value};
+    ghost numbers = { plane_layout };
 
-    ghost forms = { λ level. plane_forms };
-
-    ghost good = { any_row };
-
-    ghost value = { plane_value };
-
-    ghost subfields = { λ level x. plane_row x };
-
-    fn take_front(
-        _alloc: Global,
-        _level: u8,
-        bytes: &[u8],
-    ) -> Result<Option<((i32, i32), bool, &[u8])>, AllocError> {
-        let Some((point, rest)) = cut_plane(bytes) else {
-            return Ok(None);
-        };
-        Ok(Some((point, true, rest)))
+    fn cut(bytes: &[u8]) -> Option<((i32, i32), &[u8])> {
+        let (y, rest) = take_i32(bytes)?;
+        let (x, rest) = take_i32(rest)?;
+        Some(((y, x), rest))
     }
 
-    fn least_size() -> usize {
+    fn least_bytes() -> usize {
         8
     }
 
-    fn put(&self, _level: u8, out: &mut Vec<u8>) -> Result<(), AllocError> {
+    fn append(&self, out: &mut Vec<u8>) -> Result<(), AllocError> {
         put_two_signed(self.0, self.1, out)
     }
 }
@@ -263,44 +219,23 @@ pub fn write_sg2d(_alloc: Global, value: &Plane, out: &mut Vec<u8>) -> Result<()
     write_rows(0, value, out)
 }
 
-fn cut_deep(bytes: &[u8]) -> Option<((i32, i32, i32), &[u8])>
-    ensures cut { option_map (λ x. (x.0, true, x.1.now)) result ≡ take_row deep_forms any_row deep_value bytes.now }
-    ensures shorter { IfSome result (λ x. length x.1.now < length bytes.now) }
-{
-    let (y, rest) = take_i32(bytes)?;
-    let (x, rest) = take_i32(rest)?;
-    let (depth, rest) = take_i32(rest)?;
-    Some(((y, x, depth), rest))
-}
+impl NumberRow for (i32, i32, i32) {
+    ghost use Rattle.s57_fields.specs.RowLayouts.{deep_layout};
 
-impl FieldRow for (i32, i32, i32) {
-    ghost use Rattle.s57_types.specs.FieldRows.{deep_forms, deep_row};
-    ghost use Rattle.field_spec.specs.Contents.{any_row, deep_value};
+    ghost numbers = { deep_layout };
 
-    ghost forms = { λ level. deep_forms };
-
-    ghost good = { any_row };
-
-    ghost value = { deep_value };
-
-    ghost subfields = { λ level x. deep_row x };
-
-    fn take_front(
-        _alloc: Global,
-        _level: u8,
-        bytes: &[u8],
-    ) -> Result<Option<((i32, i32, i32), bool, &[u8])>, AllocError> {
-        let Some((sounding, rest)) = cut_deep(bytes) else {
-            return Ok(None);
-        };
-        Ok(Some((sounding, true, rest)))
+    fn cut(bytes: &[u8]) -> Option<((i32, i32, i32), &[u8])> {
+        let (y, rest) = take_i32(bytes)?;
+        let (x, rest) = take_i32(rest)?;
+        let (depth, rest) = take_i32(rest)?;
+        Some(((y, x, depth), rest))
     }
 
-    fn least_size() -> usize {
+    fn least_bytes() -> usize {
         12
     }
 
-    fn put(&self, _level: u8, out: &mut Vec<u8>) -> Result<(), AllocError> {
+    fn append(&self, out: &mut Vec<u8>) -> Result<(), AllocError> {
         put_three_signed(self.0, self.1, self.2, out)
     }
 }

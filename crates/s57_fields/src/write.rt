@@ -56,7 +56,7 @@ fn put_terminator(level: u8, out: &mut Vec<u8>) -> Result<(), AllocError>
 
 /// Appends the rows of a field one after the other, then its terminator.
 fn put_rows<R: FieldRow>(level: u8, rows: &[R], out: &mut Vec<u8>) -> Result<(), AllocError>
-    ensures ok { OnOk result (out.new.items ≡ out.old.items ++ rows_bytes level (R.subfields level) rows.now) }
+    ensures ok { OnOk result (out.new.items ≡ out.old.items ++ rows_bytes level (R.layout level).subfields rows.now) }
     ensures err { OnErr result (KeepsFront out.old.items out.new.items) }
 {
     for row in rows {
@@ -71,7 +71,7 @@ pub fn write_rows<R: FieldRow>(
     rows: &Items<R>,
     out: &mut Vec<u8>,
 ) -> Result<(), AllocError>
-    ensures ok { OnOk result (out.new.items ≡ out.old.items ++ rows_bytes level (R.subfields level) rows.now) }
+    ensures ok { OnOk result (out.new.items ≡ out.old.items ++ rows_bytes level (R.layout level).subfields rows.now) }
     ensures err { OnErr result (out.new.items ≡ out.old.items) }
 {
     let before = out.len();

@@ -3,9 +3,9 @@ use Rattle.s57_fields.specs.RowCutting.{rows_from, with_front}
 use Rattle.s57_fields.proofs.rows.other_rows.Given as goal
 
 abbrev pub invariant-loop-rest : goal.invariant-loop-rest
-invariant-loop-rest g l = let r = g.R.FieldRow in record {
-  walk : with_front l.rows l.all_plain (rows_from (r.forms l.level) r.good r.value (length l.body - length l.rows) l.rest)
-      ≡ rows_from (r.forms l.level) r.good r.value (length l.body) l.body;
+invariant-loop-rest g l = let layout = g.R.FieldRow.layout l.level in record {
+  walk : with_front l.rows l.all_plain (rows_from layout (length l.body - length l.rows) l.rest)
+      ≡ rows_from layout (length l.body) l.body;
   room : length l.rest + length l.rows ≤ length l.body;
 }
 

@@ -5,7 +5,7 @@ use Rattle.s57_fields.proofs.RowWalk.{writes_on}
 use Rattle.s57_fields.proofs.rows.written_rows.Goals as goal
 
 pub loop-place-preserved : goal.loop-place-preserved
-loop-place-preserved g c = let r = g.R.FieldRow in let forms = r.forms c.args.level in let body = c.args.body.now in let l = c.loop-place in let n = g.row.N in
+loop-place-preserved g c = let layout = g.R.FieldRow.layout c.args.level in let body = c.args.body.now in let l = c.loop-place in let n = g.row.N in
     let test = c.loop-place-test.true in
     let count = l.invariant.count in
     let counted = c.requires.chunk_count in
@@ -15,9 +15,9 @@ loop-place-preserved g c = let r = g.R.FieldRow in let forms = r.forms c.args.le
     let chunk : at.result ≡ take n (drop (l.place * n) body) = at.is ∙ ap (λ chunks. get_or chunks l.place at.result) c.requires.chunks
     ∙ get_chunk n l.place (length body / n) body at.result placed in
     let filled = rw c.in-Some.is at c.in_ok-row.ensures in
-    let taken = chunk_row forms r.good r.value n l.place body c.in-Some.row c.in-Some.is_plain (ap (take_row forms r.good r.value) (sym chunk) ∙ filled) in
+    let taken = chunk_row layout n l.place body c.in-Some.row c.in-Some.is_plain (ap (take_row layout) (sym chunk) ∙ filled) in
     record {
-      walk = writes_on forms r.good r.value l.rows.items l.place l.all_plain (rows_from forms r.good r.value (length body) body)
+      walk = writes_on layout l.rows.items l.place l.all_plain (rows_from layout (length body) body)
           (length body) (drop (l.place * n) body) c.in-Some.row c.in-Some.is_plain (drop ((l.place + 1) * n) body)
           (omega (arith, placed, count)) room.0 room.1 taken l.invariant.walk;
       count = length-set l.rows.items l.place c.in-Some.row ∙ count;
