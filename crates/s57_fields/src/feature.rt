@@ -15,7 +15,7 @@ use crate::refusal::FieldRefusal;
 use crate::rows::{FieldRow, NumberRow, read_many_rows, read_rows};
 use crate::spell::{Value, byte_bytes, long_bytes, put_row, short_bytes};
 use crate::text::{WIDE_LEVEL, is_plain_level_text, is_plain_text, owned_text, take_level_text};
-use crate::vector::{name_bytes, vector_kind};
+use crate::vector::{pointer_bytes, vector_kind};
 use crate::write::write_rows;
 use s57_types::{Attr, Attrs, Frid, Kind, Lnam, Partner, Partners, Places, RecName, Spot};
 use std::alloc::{AllocError, Global};
@@ -311,9 +311,7 @@ impl NumberRow for Spot {
     }
 
     fn append(&self, out: &mut Vec<u8>) -> Result<(), AllocError> {
-        let [k, i0, i1, i2, i3] = name_bytes(self.to);
-        let [ornt] = byte_bytes(self.ornt);
-        let [usag] = byte_bytes(self.usag);
+        let [k, i0, i1, i2, i3, ornt, usag] = pointer_bytes(self.to, self.ornt, self.usag);
         let [mask] = byte_bytes(self.mask);
         out.extend_from_slice(&[k, i0, i1, i2, i3, ornt, usag, mask])
     }

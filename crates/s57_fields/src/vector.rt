@@ -45,11 +45,21 @@ pub fn rcnm_of(kind: Kind) -> u8
 }
 
 /// The bytes of a record's name in a pointer: RCNM and RCID.
-pub fn name_bytes(name: RecName) -> [u8; 5]
+fn name_bytes(name: RecName) -> [u8; 5]
     ensures { result ≡ row_bytes (name_row name) }
 {
     let [i0, i1, i2, i3] = long_bytes(name.id);
     [rcnm_of(name.kind), i0, i1, i2, i3]
+}
+
+/// The bytes with which a pointer to a vector record begins: the record's name, ORNT and USAG.
+pub fn pointer_bytes(to: RecName, ornt: u8, usag: u8) -> [u8; 7]
+    ensures { result ≡ row_bytes (name_row to ++ (unsigned_of 1 ornt ∷ unsigned_of 1 usag ∷ [])) }
+{
+    let [k, i0, i1, i2, i3] = name_bytes(to);
+    let [o] = byte_bytes(ornt);
+    let [u] = byte_bytes(usag);
+    [k, i0, i1, i2, i3, o, u]
 }
 
 /// The subfields of the identifier of a vector record: RCNM, RCID, RVER and RUIN.
@@ -142,9 +152,7 @@ impl NumberRow for End {
     }
 
     fn append(&self, out: &mut Vec<u8>) -> Result<(), AllocError> {
-        let [k, i0, i1, i2, i3] = name_bytes(self.to);
-        let [ornt] = byte_bytes(self.ornt);
-        let [usag] = byte_bytes(self.usag);
+        let [k, i0, i1, i2, i3, ornt, usag] = pointer_bytes(self.to, self.ornt, self.usag);
         let [topi] = byte_bytes(self.topi);
         let [mask] = byte_bytes(self.mask);
         out.extend_from_slice(&[k, i0, i1, i2, i3, ornt, usag, topi, mask])
