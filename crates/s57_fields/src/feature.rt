@@ -12,7 +12,7 @@ ghost use Rattle.s57_fields.specs.Gives.{Gives};
 
 use crate::cut::{FIELD_TERMINATOR, field_body, take_text, take_u8, take_u16, take_u32};
 use crate::refusal::FieldRefusal;
-use crate::rows::{FieldRow, NumberRow, read_many_rows, read_rows};
+use crate::rows::{FieldRow, NumberRow, Taken, read_many_rows, read_rows};
 use crate::spell::{Value, byte_bytes, long_bytes, put_row, short_bytes};
 use crate::text::{WIDE_LEVEL, is_plain_level_text, is_plain_text, owned_text, take_level_text};
 use crate::vector::{pointer_bytes, vector_kind};
@@ -143,11 +143,7 @@ impl FieldRow for Attr {
 
     ghost layout = { attribute_layout };
 
-    fn take_front(
-        alloc: Global,
-        level: u8,
-        bytes: &[u8],
-    ) -> Result<Option<(Attr, bool, &[u8])>, AllocError> {
+    fn take_front(alloc: Global, level: u8, bytes: &[u8]) -> Taken<'_, Attr> {
         let Some((code, text, rest)) = cut_attribute(level, bytes) else {
             return Ok(None);
         };
@@ -234,11 +230,7 @@ impl FieldRow for Partner {
 
     ghost layout = { λ level. partner_layout };
 
-    fn take_front(
-        alloc: Global,
-        _level: u8,
-        bytes: &[u8],
-    ) -> Result<Option<(Partner, bool, &[u8])>, AllocError> {
+    fn take_front(alloc: Global, _level: u8, bytes: &[u8]) -> Taken<'_, Partner> {
         let Some((to, rind, text, rest)) = cut_partner(bytes) else {
             return Ok(None);
         };

@@ -13,17 +13,16 @@ use crate::refusal::FieldRefusal;
 use s57_types::Items;
 use std::alloc::{AllocError, Global};
 
+/// The row with which bytes begin, whether its texts are plain, and the bytes after it. An `Err` means out of memory.
+pub type Taken<'a, R> = Result<Option<(R, bool, &'a [u8])>, AllocError>;
+
 /// A row of a field whose row repeats, at a lexical level of its texts.
 pub trait FieldRow: Drop + Sized {
     /// How it is laid out at a lexical level.
     ghost layout: { ℕ → RowLayout Self };
 
-    /// The row with which bytes begin, whether its texts are plain, and the bytes after it.
-    fn take_front(
-        alloc: Global,
-        level: u8,
-        bytes: &[u8],
-    ) -> Result<Option<(Self, bool, &[u8])>, AllocError>
+    /// Takes the row with which bytes begin.
+    fn take_front(alloc: Global, level: u8, bytes: &[u8]) -> Taken<'_, Self>
         ensures cut { IfOk result (λ front. option_map (λ x. (x.0, x.1, x.2.now)) front ≡ take_row (layout level) bytes.now) }
         ensures shorter { IfOk result (λ front. IfSome front (λ x. length x.2.now < length bytes.now)) };
 
@@ -60,11 +59,7 @@ pub trait NumberRow: Drop + Sized {
 impl<R: NumberRow> FieldRow for R {
     ghost layout = { λ level. R.numbers };
 
-    fn take_front(
-        _alloc: Global,
-        _level: u8,
-        bytes: &[u8],
-    ) -> Result<Option<(R, bool, &[u8])>, AllocError> {
+    fn take_front(_alloc: Global, _level: u8, bytes: &[u8]) -> Taken<'_, R> {
         let Some((row, rest)) = R::cut(bytes) else {
             return Ok(None);
         };
