@@ -10,8 +10,7 @@ ghost use Rattle.script_text.specs.Widths.{IsFeatureOfWidth, IsIdentityOfWidth};
 
 use crate::cut::next_part;
 use crate::items::items_of;
-use crate::name::next_name;
-use crate::value::{byte_of, identity_of, short_of};
+use crate::value::{byte_of, identity_of, next_name, short_of};
 use s57_types::{Feature, Lnam};
 use std::alloc::{AllocError, Global};
 

@@ -7,7 +7,6 @@ mod head;
 mod item;
 mod items;
 mod law;
-mod name;
 mod reading;
 mod refusal;
 mod script;

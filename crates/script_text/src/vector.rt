@@ -8,8 +8,7 @@ ghost use Rattle.script_text.specs.Widths.{IsVectorOfWidth};
 
 use crate::cut::next_part;
 use crate::items::items_of;
-use crate::name::next_name;
-use crate::value::short_of;
+use crate::value::{next_name, short_of};
 use s57_types::Vector;
 use std::alloc::{AllocError, Global};
 

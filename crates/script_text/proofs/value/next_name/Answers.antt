@@ -3,7 +3,7 @@ use Rattle.std.specs.Fmt.{decimal}
 use Rattle.text_spec.specs.CellText.{kind_word}
 use Rattle.script_text.proofs.Words.{free_kind}
 use Rattle.script_text.proofs.Frees.{free_number}
-use Rattle.script_text.proofs.name.next_name.Goals as goal
+use Rattle.script_text.proofs.value.next_name.Goals as goal
 
 pub returns-clause-found : goal.returns-clause-found
 returns-clause-found c = λ name rest width begins spelled.
