@@ -12,8 +12,7 @@ use Rattle.std.proofs.lemmas.Option.{slice_get_within, get_or_from_slice_get}
 use borrow.Author.Tests.{eqb-true}
 use Rattle.frame_spec.specs.RecordFrame.{Field}
 use Rattle.file_spec.specs.FieldTags.{is_tagged, tag_in, tags_of, tag_text, may_repeat}
-use Rattle.file_spec.specs.RecordFaults.{of_field}
-use Rattle.file_spec.specs.RecordReading.{content_fault, field_fault, fields_fault, record_type, type_of_leading}
+use Rattle.file_spec.specs.RecordReading.{fault_of_content, field_fault, fields_fault, record_type, type_of_leading}
 use Rattle.file_spec.specs.declared.fault.RecordFault.{RecordFault}
 use Rattle.file_spec.specs.declared.fault.RecordFault.TheVariants.{ForeignTag, RepeatedField, MissingField}
 use Rattle.file_spec.specs.declared.tag.FieldTag.{FieldTag}
@@ -144,7 +143,7 @@ repeated nall type before f tag is twice = rw (is, twice) refl
 
 pub content : (nall : ℕ) (type : RecordType) (before : List Field) (f : Field) (tag : FieldTag) → tag_in type f ≡ Some tag
     → (list_any (is_tagged tag) before && not (may_repeat tag)) ≡ false
-    → field_fault nall type before f ≡ option_map of_field (content_fault nall tag f.bytes)
+    → field_fault nall type before f ≡ fault_of_content nall tag f.bytes
 content nall type before f tag is once = rw (is, once) refl
 
 -- a fault of this field is the first from here on

@@ -1,9 +1,7 @@
 //! The values of the fields of a record.
 
 ghost use Rattle.std.specs.Prelude.{◌≡◌, ◌++◌, List, ℕ, [], None, OnOk, IfErr};
-ghost use Rattle.std.specs.Option.{option_map};
-ghost use Rattle.file_spec.specs.RecordFaults.{of_field};
-ghost use Rattle.file_spec.specs.RecordReading.{content_fault};
+ghost use Rattle.file_spec.specs.RecordReading.{content_fault, fault_of_content};
 ghost use Rattle.cell_read.specs.Gives.{IsFault};
 ghost use Rattle.cell_read.specs.Kept.{kept_with};
 ghost use Rattle.cell_read.specs.ValuesOf.{values_of, with_content};
@@ -99,7 +97,7 @@ pub fn read_content(
 ) -> Result<(), RecordRefusal>
     ensures good { OnOk result (content_fault nall tag bytes.now ≡ None) }
     ensures values { OnOk result (values.new ≡ with_content nall tag bytes.now values.old) }
-    ensures fault { IfErr result (λ e. IsFault e (option_map of_field (content_fault nall tag bytes.now))) }
+    ensures fault { IfErr result (λ e. IsFault e (fault_of_content nall tag bytes.now)) }
 {
     match tag {
         FieldTag::RecordNumber => return Ok(()),

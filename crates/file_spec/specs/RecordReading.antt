@@ -55,6 +55,10 @@ content_fault nall tags.Vrpt b = result_err (end_content b)
 content_fault nall tags.Sg2d b = result_err (plane_content b)
 content_fault nall tags.Sg3d b = result_err (deep_content b)
 
+-- the fault of a record that the content of one of its fields makes
+abbrev pub fault_of_content : ℕ → FieldTag → List ℕ → Option RecordFault
+fault_of_content nall tag b = option_map of_field (content_fault nall tag b)
+
 -- the fault of a field that stands behind others: its tag is none of the record's, it stands twice and may not, or its
 -- content has one
 abbrev pub field_fault : ℕ → RecordType → List Field → Field → Option RecordFault
@@ -62,8 +66,7 @@ field_fault nall type before field = of_tag (tag_in type field)
   where
     of_tag : Option FieldTag → Option RecordFault
     of_tag None = Some ForeignTag
-    of_tag (Some tag) = if list_any (is_tagged tag) before && not (may_repeat tag) then Some RepeatedField else option_map of_field
-        (content_fault nall tag field.bytes)
+    of_tag (Some tag) = if list_any (is_tagged tag) before && not (may_repeat tag) then Some RepeatedField else fault_of_content nall tag field.bytes
 
 -- the fault of the first field that has one, among fields behind others
 unfoldable pub fields_fault : ℕ → RecordType → List Field → List Field → Option RecordFault

@@ -139,10 +139,10 @@ abbrev end_numbers : End → List ℕ
 end_numbers e = e.to.id ∷ e.ornt ∷ e.usag ∷ e.topi ∷ e.mask ∷ []
 
 small_end : (e : End) → IsEndOfWidth e → AreSmall (end_numbers e)
-small_end e w =
-    small_cons e.to.id (e.ornt ∷ e.usag ∷ e.topi ∷ e.mask ∷ []) w.to (small_cons e.ornt (e.usag ∷ e.topi ∷ e.mask ∷ []) (omega (arith, w.ornt))
-    (small_cons e.usag (e.topi ∷ e.mask ∷ []) (omega (arith, w.usag))
-    (small_cons e.topi (e.mask ∷ []) (omega (arith, w.topi)) (small_cons e.mask [] (omega (arith, w.mask)) small_none))))
+small_end e w = let p = w.pointer in
+    small_cons e.to.id (e.ornt ∷ e.usag ∷ e.topi ∷ e.mask ∷ []) p.to (small_cons e.ornt (e.usag ∷ e.topi ∷ e.mask ∷ []) (omega (arith, p.ornt))
+    (small_cons e.usag (e.topi ∷ e.mask ∷ []) (omega (arith, p.usag))
+    (small_cons e.topi (e.mask ∷ []) (omega (arith, w.topi)) (small_cons e.mask [] (omega (arith, p.mask)) small_none))))
 
 pub alike_end : (e e' : End) → IsEndOfWidth e → IsEndOfWidth e' → end_item e ≡ end_item e' → e ≡ e'
 alike_end e e' w w' same =

@@ -9,9 +9,9 @@ use Rattle.s57_types.specs.declared.record.Partner.{Partner}
 use Rattle.s57_types.specs.declared.record.Feature.{Feature}
 use Rattle.text_spec.specs.EditLine.{attribute_item, partner_item, place_item}
 use Rattle.text_spec.specs.Lines.{spaced_words}
-use Rattle.script_text.specs.Items.{with_letter, AreFeatureItemsOf}
+use Rattle.script_text.specs.Items.{with_letter, AreItemsOf}
 use Rattle.script_text.specs.Widths.{IsFeatureOfWidth}
-use Rattle.script_text.specs.declared.feature.FeatureItems.{FeatureItems}
+use Rattle.script_text.specs.declared.items.RecordItems.{RecordItems}
 use Rattle.script_text.proofs.Frees.{feature_items, without_feature_items}
 use Rattle.script_text.proofs.Items.{each_begins, none_begins, four}
 
@@ -67,20 +67,20 @@ sorted_feature f =
     }
 
 -- the lists of items are those of the feature record
-pub record AreOf (items : FeatureItems) (f : Feature) : Type 0 where
-  pub attf : items.attf ≡ f.attf
+pub record AreOf (items : RecordItems) (f : Feature) : Type 0 where
+  pub attf : items.attrs ≡ f.attf
   pub natf : items.natf ≡ f.natf
   pub partners : items.partners ≡ f.partners
   pub places : items.places ≡ f.places
 
-pub feature_items_are : (f : Feature) (text : List ℕ) (items : FeatureItems) → IsFeatureOfWidth f → AreFeatureItemsOf text items
+pub feature_items_are : (f : Feature) (text : List ℕ) (items : RecordItems) → IsFeatureOfWidth f → AreItemsOf text items
     → text ≡ spaced_words (feature_items f) → AreOf items f
 feature_items_are f text items width of spelled =
     let words_are = of.are (feature_items f) (without_feature_items 32 f (omega arith) width) spelled in
     let sorted = subst (IsSorted f) words_are (sorted_feature f) in
     let lists = of.items_are in
     record {
-      attf = lists.attf.found f.attf width.attf sorted.attf;
+      attf = lists.attrs.found f.attf width.attf sorted.attf;
       natf = lists.natf.found f.natf width.natf sorted.natf;
       partners = lists.partners.found f.partners width.partners sorted.partners;
       places = lists.places.found f.places width.places sorted.places;

@@ -7,9 +7,9 @@ use Rattle.s57_types.specs.declared.record.End.{End}
 use Rattle.s57_types.specs.declared.record.Vector.{Vector}
 use Rattle.text_spec.specs.EditLine.{attribute_item, end_item, plane_item, deep_item}
 use Rattle.text_spec.specs.Lines.{spaced_words}
-use Rattle.script_text.specs.Items.{with_letter, AreVectorItemsOf}
+use Rattle.script_text.specs.Items.{with_letter, AreItemsOf}
 use Rattle.script_text.specs.Widths.{IsVectorOfWidth}
-use Rattle.script_text.specs.declared.vector.VectorItems.{VectorItems}
+use Rattle.script_text.specs.declared.items.RecordItems.{RecordItems}
 use Rattle.script_text.proofs.Frees.{vector_items, without_vector_items}
 use Rattle.script_text.proofs.Items.{each_begins, none_begins, four}
 
@@ -31,7 +31,7 @@ pub record IsSorted (v : Vector) (words : List (List ℕ)) : Type 0 where
   pub deep : with_letter 100 words ≡ map deep_item v.deep
 
 -- the lists of items are those of the vector record
-pub record AreOf (items : VectorItems) (v : Vector) : Type 0 where
+pub record AreOf (items : RecordItems) (v : Vector) : Type 0 where
   pub attrs : items.attrs ≡ v.attrs
   pub ends : items.ends ≡ v.ends
   pub plane : items.plane ≡ v.plane
@@ -60,7 +60,7 @@ sorted_vector v =
           (each_begins 100 deep_item (λ x. refl) v.deep);
     }
 
-pub vector_items_are : (v : Vector) (text : List ℕ) (items : VectorItems) → IsVectorOfWidth v → AreVectorItemsOf text items
+pub vector_items_are : (v : Vector) (text : List ℕ) (items : RecordItems) → IsVectorOfWidth v → AreItemsOf text items
     → text ≡ spaced_words (vector_items v) → AreOf items v
 vector_items_are v text items width of spelled =
     let lists = of.items_are in

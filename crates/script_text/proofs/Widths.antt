@@ -70,10 +70,11 @@ width_of_attribute a width = All-from_recursion IsOfWidth (attribute_row 0 a) (w
 end_of_width : (e : End) → All IsOfWidth (end_row e) → IsEndOfWidth e
 end_of_width e all =
     let parts = recursion_from_All IsOfWidth (end_row e) all in
-    record { to = parts.1.0; ornt = parts.1.1.0; usag = parts.1.1.1.0; topi = parts.1.1.1.1.0; mask = parts.1.1.1.1.1.0 }
+    record { pointer = record { to = parts.1.0; ornt = parts.1.1.0; usag = parts.1.1.1.0; mask = parts.1.1.1.1.1.0 }; topi = parts.1.1.1.1.0 }
 
 width_of_end : (e : End) → IsEndOfWidth e → All IsOfWidth (end_row e)
-width_of_end e width = All-from_recursion IsOfWidth (end_row e) (rcnm_fits e.to.kind, (width.to, (width.ornt, (width.usag, (width.topi, (width.mask, tt))))))
+width_of_end e width = let pointer = width.pointer in
+    All-from_recursion IsOfWidth (end_row e) (rcnm_fits e.to.kind, (pointer.to, (pointer.ornt, (pointer.usag, (width.topi, (pointer.mask, tt))))))
 
 point_of_width : (p : ℤ × ℤ) → All IsOfWidth (plane_row p) → IsPointOfWidth p
 point_of_width p all = let parts = recursion_from_All IsOfWidth (plane_row p) all in record { latitude = parts.0; longitude = parts.1.0 }

@@ -70,11 +70,11 @@ pub free_end : (mark : ℕ) (e : End) → mark < 33 → IsEndOfWidth e → IsFre
 free_end mark e small width =
     let number = λ (n : ℕ) (fits : n < 2 ^ 32). free_decimal mark n (λ d below here. omega arith) (omega arith) in
     free_cons 101 (λ here. omega arith) (free_part 61 (λ here. omega arith) (free_kind mark e.to.kind (omega arith))
-    (free_part 58 (λ here. omega arith) (number e.to.id width.to)
-    (free_part 58 (λ here. omega arith) (number e.ornt (omega (arith, width.ornt)))
-    (free_part 58 (λ here. omega arith) (number e.usag (omega (arith, width.usag)))
+    (free_part 58 (λ here. omega arith) (number e.to.id width.pointer.to)
+    (free_part 58 (λ here. omega arith) (number e.ornt (omega (arith, width.pointer.ornt)))
+    (free_part 58 (λ here. omega arith) (number e.usag (omega (arith, width.pointer.usag)))
     (free_part 58 (λ here. omega arith) (number e.topi (omega (arith, width.topi)))
-    (free_part 58 (λ here. omega arith) (number e.mask (omega (arith, width.mask))) (free_nothing mark)))))))
+    (free_part 58 (λ here. omega arith) (number e.mask (omega (arith, width.pointer.mask))) (free_nothing mark)))))))
 
 pub free_point : (mark : ℕ) (p : ℤ × ℤ) → mark < 33 → IsPointOfWidth p → IsFree mark (plane_item p)
 free_point mark p small width =

@@ -4,8 +4,7 @@ use Rattle.s57_types.specs.Subfield.{holds}
 use Rattle.text_spec.specs.EditLine.{attribute_item, end_item, plane_item, deep_item, partner_item, place_item}
 use Rattle.text_spec.specs.Lines.{spaced_words}
 use Rattle.script_text.specs.Widths.{IsAttributeOfWidth, IsEndOfWidth, IsPointOfWidth, IsSoundingOfWidth, IsPartnerOfWidth, IsPlaceOfWidth}
-use Rattle.script_text.specs.declared.vector.VectorItems.{VectorItems}
-use Rattle.script_text.specs.declared.feature.FeatureItems.{FeatureItems}
+use Rattle.script_text.specs.declared.items.RecordItems.{RecordItems}
 
 -- the words that begin with a letter
 abbrev pub begins : ℕ → List ℕ → Bool
@@ -25,15 +24,12 @@ abbrev pub IsListTaken : {X : Type 0} (letter : ℕ) (item : X → List ℕ) (Fi
 IsListTaken letter item Fits word earlier values = (words : List (List ℕ)) → IsListOf letter item Fits words earlier
     → IsListOf letter item Fits (words ++ word ∷ []) values
 
-pub record AreVectorItems (words : List (List ℕ)) (items : VectorItems) : Type 0 where
+pub record AreItems (words : List (List ℕ)) (items : RecordItems) : Type 0 where
   pub attrs : IsListOf 97 (attribute_item (codes "a")) IsAttributeOfWidth words items.attrs
+  pub natf : IsListOf 110 (attribute_item (codes "n")) IsAttributeOfWidth words items.natf
   pub ends : IsListOf 101 end_item IsEndOfWidth words items.ends
   pub plane : IsListOf 112 plane_item IsPointOfWidth words items.plane
   pub deep : IsListOf 100 deep_item IsSoundingOfWidth words items.deep
-
-pub record AreFeatureItems (words : List (List ℕ)) (items : FeatureItems) : Type 0 where
-  pub attf : IsListOf 97 (attribute_item (codes "a")) IsAttributeOfWidth words items.attf
-  pub natf : IsListOf 110 (attribute_item (codes "n")) IsAttributeOfWidth words items.natf
   pub partners : IsListOf 102 partner_item IsPartnerOfWidth words items.partners
   pub places : IsListOf 115 place_item IsPlaceOfWidth words items.places
 
@@ -41,12 +37,7 @@ pub record AreFeatureItems (words : List (List ℕ)) (items : FeatureItems) : Ty
 abbrev pub AreWordsOf : List ℕ → List (List ℕ) → Type 0
 AreWordsOf text words = (others : List (List ℕ)) → All (λ word. holds 32 word ≡ false) others → text ≡ spaced_words others → others ≡ words
 
-pub record AreVectorItemsOf (text : List ℕ) (items : VectorItems) : Type 0 where
+pub record AreItemsOf (text : List ℕ) (items : RecordItems) : Type 0 where
   pub words : List (List ℕ)
   pub are : AreWordsOf text words
-  pub items_are : AreVectorItems words items
-
-pub record AreFeatureItemsOf (text : List ℕ) (items : FeatureItems) : Type 0 where
-  pub words : List (List ℕ)
-  pub are : AreWordsOf text words
-  pub items_are : AreFeatureItems words items
+  pub items_are : AreItems words items

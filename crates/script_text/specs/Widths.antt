@@ -28,12 +28,16 @@ pub record IsAttributeOfWidth (a : Attr) : Type 0 where
   pub code : a.code < 2 ^ 16
   pub value : IsTextOfWidth a.value
 
+-- what both kinds of pointers to vector records have: the name, ORNT, USAG and MASK
+pub record IsPointerOfWidth (name : RecName) (orientation usage masking : ℕ) : Type 0 where
+  pub to : IsNameOfWidth name
+  pub ornt : orientation < 2 ^ 8
+  pub usag : usage < 2 ^ 8
+  pub mask : masking < 2 ^ 8
+
 pub record IsEndOfWidth (e : End) : Type 0 where
-  pub to : IsNameOfWidth e.to
-  pub ornt : e.ornt < 2 ^ 8
-  pub usag : e.usag < 2 ^ 8
+  pub pointer : IsPointerOfWidth e.to e.ornt e.usag e.mask
   pub topi : e.topi < 2 ^ 8
-  pub mask : e.mask < 2 ^ 8
 
 pub record IsPointOfWidth (p : ℤ × ℤ) : Type 0 where
   pub latitude : FitsSigned w32 p.0
@@ -49,11 +53,8 @@ pub record IsPartnerOfWidth (p : Partner) : Type 0 where
   pub rind : p.rind < 2 ^ 8
   pub comt : IsTextOfWidth p.comt
 
-pub record IsPlaceOfWidth (s : Spot) : Type 0 where
-  pub to : IsNameOfWidth s.to
-  pub ornt : s.ornt < 2 ^ 8
-  pub usag : s.usag < 2 ^ 8
-  pub mask : s.mask < 2 ^ 8
+abbrev pub IsPlaceOfWidth : Spot → Type 0
+IsPlaceOfWidth s = IsPointerOfWidth s.to s.ornt s.usag s.mask
 
 pub record IsVectorOfWidth (v : Vector) : Type 0 where
   pub name : IsNameOfWidth v.name

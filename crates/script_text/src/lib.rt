@@ -5,6 +5,7 @@ mod cut;
 mod feature;
 mod head;
 mod item;
+mod items;
 mod law;
 mod reading;
 mod refusal;

@@ -9,7 +9,6 @@ ghost use Rattle.s57_types.specs.declared.record.Spot.{Spot};
 ghost use Rattle.text_spec.specs.EditLine.{guard_has_line as guard_has_line_lem, has_line as has_line_lem, record_has_line as record_has_line_lem};
 ghost use Rattle.text_spec.specs.EditLine.{is_head as is_head_lem};
 ghost use Rattle.text_spec.specs.ScriptLines.{command_line};
-ghost use Rattle.text_spec.specs.declared.command.Command.{Command};
 ghost use Rattle.script_text.specs.Guess.{can_stand as can_stand_lem};
 
 use cell_spec::Edit;
@@ -108,29 +107,18 @@ pub fn push_line(alloc: Global, command: &Command, line: &mut Vec<u8>) -> Result
     ensures { OnOk result (line.new.items ≡ line.old.items ++ command_line command.now) }
 {
     match command {
-        Command::View => push_text(line, "view\n"),
-        Command::Commit => push_text(line, "commit\n"),
-        Command::Drop => push_text(line, "drop\n"),
-        Command::List(shown) => push_list(line, *shown),
-        Command::Push(edit) => write_edit(alloc, edit, line),
-        Command::Guard(name) => push_guard(line, *name),
+        Command::View => push_text(line, "view")?,
+        Command::Commit => push_text(line, "commit")?,
+        Command::Drop => push_text(line, "drop")?,
+        Command::List(shown) => {
+            push_text(line, "list")?;
+            push_number(line, *shown)?;
+        }
+        Command::Push(edit) => return write_edit(alloc, edit, line),
+        Command::Guard(name) => {
+            push_text(line, "guard")?;
+            push_name(line, *name)?;
+        }
     }
-}
-
-/// Appends the line that asks for so many findings.
-fn push_list(line: &mut Vec<u8>, shown: u32) -> Result<(), AllocError>
-    ensures { OnOk result (line.new.items ≡ line.old.items ++ command_line (Command.List shown)) }
-{
-    push_text(line, "list")?;
-    push_number(line, shown)?;
-    push_text(line, "\n")
-}
-
-/// Appends the line of a guard.
-fn push_guard(line: &mut Vec<u8>, name: RecName) -> Result<(), AllocError>
-    ensures { OnOk result (line.new.items ≡ line.old.items ++ command_line (Command.Guard name)) }
-{
-    push_text(line, "guard")?;
-    push_name(line, name)?;
     push_text(line, "\n")
 }

@@ -1,15 +1,18 @@
 //! The values that words stand for. A word that stands for none gives some value: whoever asks writes the value again and
 //! compares.
 
-ghost use Rattle.std.specs.Prelude.{◌≡◌, ◌↔◌, IsTrue, ℕ, ℤ, ◌<◌, ◌^◌, decimal, FitsSigned};
+ghost use Rattle.std.specs.Prelude.{◌≡◌, ◌↔◌, ◌++◌, ◌∷◌, IsTrue, List, ℕ, ℤ, ◌<◌, ◌^◌, decimal, FitsSigned};
 ghost use Rattle.std.specs.Fmt.{signed_decimal};
 ghost use Rattle.std.specs.Int.{w32};
 ghost use Rattle.s57_types.specs.declared.name.Kind.{Kind};
 ghost use Rattle.s57_types.specs.declared.name.Lnam.{Lnam};
 ghost use Rattle.s57_types.specs.declared.name.RecName.{RecName};
-ghost use Rattle.text_spec.specs.CellText.{kind_word};
+ghost use Rattle.text_spec.specs.CellText.{kind_word, name_words};
+ghost use Rattle.text_spec.specs.Lines.{spaced_words};
+ghost use Rattle.script_text.specs.Cuts.{IsFrom};
 ghost use Rattle.script_text.specs.Widths.{IsIdentityOfWidth, IsNameOfWidth};
 
+use crate::cut::next_part;
 use s57_types::{Kind, Lnam, RecName};
 use text_lines::{read_signed, read_unsigned};
 
@@ -61,6 +64,14 @@ pub fn kind_of(word: &[u8]) -> Kind
     }
 }
 
+/// The kind that the first word stands for.
+pub fn kind_of_words(words: &[u8]) -> Kind
+    ensures { (kind : Kind) (rest : List ℕ) → IsFrom 32 rest → words.now ≡ 32 ∷ (kind_word kind ++ rest) → result ≡ kind }
+{
+    let (kind, _) = next_part(b' ', words);
+    kind_of(kind)
+}
+
 pub fn name_of(kind: &[u8], id: &[u8]) -> RecName
     ensures { (name : RecName) → IsNameOfWidth name → kind.now ≡ kind_word name.kind → id.now ≡ decimal name.id → result ≡ name }
 {
@@ -68,6 +79,26 @@ pub fn name_of(kind: &[u8], id: &[u8]) -> RecName
         kind: kind_of(kind),
         id: number_of(id),
     }
+}
+
+/// The record name at the beginning of words, and what follows it.
+pub fn next_name(words: &[u8]) -> (RecName, &[u8])
+    ensures width { IsNameOfWidth result.0 }
+    ensures found { (name : RecName) (rest : List ℕ) → IsNameOfWidth name → IsFrom 32 rest
+        → words.now ≡ 32 ∷ (kind_word name.kind ++ (32 ∷ (decimal name.id ++ rest))) → (result.0 ≡ name) × (result.1.now ≡ rest) }
+{
+    let (kind, words) = next_part(b' ', words);
+    let (id, words) = next_part(b' ', words);
+    (name_of(kind, id), words)
+}
+
+/// The record name that words stand for.
+pub fn name_of_words(words: &[u8]) -> RecName
+    ensures width { IsNameOfWidth result }
+    ensures found { (name : RecName) → IsNameOfWidth name → words.now ≡ spaced_words (name_words name) → result ≡ name }
+{
+    let (name, _) = next_name(words);
+    name
 }
 
 /// The identifier of a feature object.

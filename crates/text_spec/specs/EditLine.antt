@@ -3,7 +3,7 @@ use Rattle.std.specs.Prelude.{ℕ, ℤ, ◌+◌, ◌/◌, ◌%◌, ◌==◌, ◌
 use Rattle.std.specs.Fmt.{decimal, signed_decimal}
 use Rattle.std.specs.List.{flat_map, list_all}
 use Rattle.s57_types.specs.declared.name.Kind.{Kind}
-use Rattle.s57_types.specs.declared.name.Kind.TheVariants.{Vi, Vc, Ve, Fe, Head as HeadKind}
+use Rattle.s57_types.specs.declared.name.Kind.TheVariants.{Head as HeadKind}
 use Rattle.s57_types.specs.declared.name.RecName.{RecName}
 use Rattle.s57_types.specs.declared.record.Attr.{Attr}
 use Rattle.s57_types.specs.declared.record.End.{End}
@@ -13,6 +13,7 @@ use Rattle.s57_types.specs.declared.record.Vector.{Vector}
 use Rattle.s57_types.specs.declared.record.Feature.{Feature}
 use Rattle.s57_types.specs.declared.record.Rec.{Rec}
 use Rattle.s57_types.specs.declared.head.HeadEdit.{HeadEdit}
+use Rattle.s57_types.specs.FieldRows.{rcnm_of}
 use Rattle.s57_types.specs.Fitness.{is_feature_kind}
 use Rattle.s57_types.specs.Heads.{head_name, level_number}
 use Rattle.s57_types.specs.declared.record.Rec.TheVariants.{V, F, H}
@@ -98,12 +99,9 @@ edit_line (Set r) = line (codes "set") (record_words r)
 edit_line (Del n) = line (codes "del") (name_words n)
 edit_line (Head e) = line (codes "set") (codes "head" ∷ head_words e)
 
+-- the kind of the head, by its record name RCNM
 abbrev pub is_head : Kind → Bool
-is_head Vi = false
-is_head Vc = false
-is_head Ve = false
-is_head Fe = false
-is_head HeadKind = true
+is_head kind = rcnm_of kind == rcnm_of HeadKind
 
 -- a record has a line where it is of the sort that its kind says, and none of its pointers names the head
 abbrev pub record_has_line : Rec → Bool

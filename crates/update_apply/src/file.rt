@@ -25,6 +25,16 @@ use s57_types::{Cell, Head, HeadEdit};
 use std::alloc::{AllocError, Global};
 use update_spec::UpdateFault;
 
+/// An update file, with the cell that it is read against.
+#[derive(Drop)]
+struct Update<'a> {
+    alloc: Global,
+    cell: &'a Cell,
+    /// A look into the cell.
+    look: &'a ListLook<'a>,
+    bytes: &'a [u8],
+}
+
 /// The refusal of a record whose frame has a fault.
 fn of_frame(fault: FrameFault) -> StepRefusal
     ensures { result ≡ Fault (Record (of_frame fault)) }
@@ -49,30 +59,28 @@ fn with_edit(earlier: Earlier, edit: Option<Edit>) -> Result<Earlier, AllocError
 
 /// Earlier edits with that of the record of a number, which begins at a place, and the record's length.
 fn read_next(
-    alloc: Global,
-    look: &ListLook<'_>,
-    nall: u8,
+    update: &Update<'_>,
     level: u8,
     number: u32,
-    bytes: &[u8],
     at: usize,
     earlier: Earlier,
 ) -> Result<(Earlier, usize), StepRefusal>
-    requires nall { nall ≡ look.now.head.nall }
-    requires before_end { at < length bytes.now }
-    ensures within { IfOk result (λ x. (0 < x.1) × (at + x.1 ≤ length bytes.now)) }
-    ensures step { IfOk result (λ x. edits_with look.now level number earlier (records_after bytes.now at false) ≡
-        edits_with look.now level (number + 1) x.0 (records_after bytes.now (at + x.1) false)) }
-    ensures fault { IfErr result (λ e. RefusesAt number at e (edits_with look.now level number earlier (records_after bytes.now at false))) }
+    requires look { update.now.look.now ≡ update.now.cell.now }
+    requires before_end { at < length update.now.bytes.now }
+    ensures within { IfOk result (λ x. (0 < x.1) × (at + x.1 ≤ length update.now.bytes.now)) }
+    ensures step { IfOk result (λ x. edits_with update.now.look.now level number earlier (records_after update.now.bytes.now at false) ≡
+        edits_with update.now.look.now level (number + 1) x.0 (records_after update.now.bytes.now (at + x.1) false)) }
+    ensures fault { IfErr result (λ e. RefusesAt number at e
+        (edits_with update.now.look.now level number earlier (records_after update.now.bytes.now at false))) }
 {
-    let frame = match next_record(bytes, at, false) {
+    let frame = match next_record(update.bytes, at, false) {
         Ok(frame) => frame,
         Err(fault) => return Err(of_frame(fault)),
     };
     let case = Case {
-        alloc,
-        look,
-        nall,
+        alloc: update.alloc,
+        look: update.look,
+        nall: update.cell.head.nall,
         level,
         frame: &frame,
     };
@@ -85,24 +93,17 @@ fn read_next(
 }
 
 /// The edits of the records from a place on, which are those from number 3 on.
-fn read_following(
-    alloc: Global,
-    look: &ListLook<'_>,
-    nall: u8,
-    level: u8,
-    bytes: &[u8],
-    start: usize,
-) -> Result<Earlier, UpdateRefusal>
-    requires nall { nall ≡ look.now.head.nall }
-    requires within { start ≤ length bytes.now }
-    requires small { length bytes.now ≤ 16777216 }
-    ensures { GivesFile result (edits_with look.now level 3 [] (records_after bytes.now start false)) }
+fn read_following(update: &Update<'_>, level: u8, start: usize) -> Result<Earlier, UpdateRefusal>
+    requires look { update.now.look.now ≡ update.now.cell.now }
+    requires within { start ≤ length update.now.bytes.now }
+    requires small { length update.now.bytes.now ≤ 16777216 }
+    ensures { GivesFile result (edits_with update.now.look.now level 3 [] (records_after update.now.bytes.now start false)) }
 {
-    let mut earlier = Earlier::none(alloc);
+    let mut earlier = Earlier::none(update.alloc);
     let mut at = start;
     let mut number: u32 = 3;
-    while at < bytes.len() {
-        match read_next(alloc, look, nall, level, number, bytes, at, earlier) {
+    while at < update.bytes.len() {
+        match read_next(update, level, number, at, earlier) {
             Ok((more, length)) => {
                 earlier = more;
                 at += length;
@@ -137,57 +138,43 @@ fn identification_at(
 
 /// The edits of the records behind the identification, which begin at a place, and that of the head.
 fn read_behind(
-    alloc: Global,
-    cell: &Cell,
-    look: &ListLook<'_>,
+    update: &Update<'_>,
     edit: HeadEdit,
     level: u8,
-    bytes: &[u8],
     at: usize,
 ) -> Result<Earlier, UpdateRefusal>
-    requires look { look.now ≡ cell.now }
-    requires within { at ≤ length bytes.now }
-    requires small { length bytes.now ≤ 16777216 }
-    ensures { GivesFile result (edits_behind cell.now (edit, level) (records_after bytes.now at false)) }
+    requires look { update.now.look.now ≡ update.now.cell.now }
+    requires within { at ≤ length update.now.bytes.now }
+    requires small { length update.now.bytes.now ≤ 16777216 }
+    ensures { GivesFile result (edits_behind update.now.cell.now (edit, level) (records_after update.now.bytes.now at false)) }
 {
-    match read_following(alloc, look, cell.head.nall, level, bytes, at) {
+    match read_following(update, level, at) {
         Ok(earlier) => Ok(earlier.with(Edit::Head(edit))?),
         Err(refusal) => Err(refusal),
     }
 }
 
 /// The edits of the data records, which begin at a place.
-fn read_data(
-    alloc: Global,
-    cell: &Cell,
-    look: &ListLook<'_>,
-    bytes: &[u8],
-    at: usize,
-) -> Result<Earlier, UpdateRefusal>
-    requires look { look.now ≡ cell.now }
-    requires within { at ≤ length bytes.now }
-    requires small { length bytes.now ≤ 16777216 }
-    ensures { GivesFile result (edits_of_data cell.now (length bytes.now) (records_after bytes.now at false)) }
+fn read_data(update: &Update<'_>, at: usize) -> Result<Earlier, UpdateRefusal>
+    requires look { update.now.look.now ≡ update.now.cell.now }
+    requires within { at ≤ length update.now.bytes.now }
+    requires small { length update.now.bytes.now ≤ 16777216 }
+    ensures { GivesFile result (edits_of_data update.now.cell.now (length update.now.bytes.now) (records_after update.now.bytes.now at false)) }
 {
-    match identification_at(alloc, &cell.head, bytes, at) {
-        Ok(((edit, level), next)) => read_behind(alloc, cell, look, edit, level, bytes, next),
+    match identification_at(update.alloc, &update.cell.head, update.bytes, at) {
+        Ok(((edit, level), next)) => read_behind(update, edit, level, next),
         Err(refusal) => Err(refusal.at(2, at as u32)),
     }
 }
 
 /// The edits of an update file of at most 16,777,216 bytes, or its first fault.
-fn read_edits(
-    alloc: Global,
-    cell: &Cell,
-    look: &ListLook<'_>,
-    bytes: &[u8],
-) -> Result<Earlier, UpdateRefusal>
-    requires look { look.now ≡ cell.now }
-    requires small { length bytes.now ≤ 16777216 }
-    ensures { GivesFile result (edits_of_update cell.now bytes.now) }
+fn read_edits(update: &Update<'_>) -> Result<Earlier, UpdateRefusal>
+    requires look { update.now.look.now ≡ update.now.cell.now }
+    requires small { length update.now.bytes.now ≤ 16777216 }
+    ensures { GivesFile result (edits_of_update update.now.cell.now update.now.bytes.now) }
 {
-    match next_record(bytes, 0, true) {
-        Ok(descriptive) => read_data(alloc, cell, look, bytes, descriptive.length()),
+    match next_record(update.bytes, 0, true) {
+        Ok(descriptive) => read_data(update, descriptive.length()),
         Err(fault) => Err(of_frame(fault).at(1, 0)),
     }
 }
@@ -222,7 +209,13 @@ pub fn update_edits(alloc: Global, cell: &Cell, bytes: &[u8]) -> Result<EditSet,
 {
     writable_cells_are_readable();
     let look = ListLook::make(alloc, cell)?;
-    match read_edits(alloc, cell, &look, bytes) {
+    let update = Update {
+        alloc,
+        cell,
+        look: &look,
+        bytes,
+    };
+    match read_edits(&update) {
         Ok(edits) => set_of(alloc, cell, bytes, edits.as_slice()),
         Err(refusal) => Err(refusal),
     }

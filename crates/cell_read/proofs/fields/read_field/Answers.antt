@@ -2,7 +2,7 @@ use Rattle.std.proofs.Common.{◌≡◌, ◌+◌, ◌∷◌, [], ◌++◌, take,
 use Rattle.std.specs.Option.{option_map}
 use Rattle.frame_spec.specs.RecordFrame.{Field}
 use Rattle.file_spec.specs.RecordFaults.{of_field}
-use Rattle.file_spec.specs.RecordReading.{content_fault}
+use Rattle.file_spec.specs.RecordReading.{fault_of_content}
 use Rattle.file_spec.specs.declared.fault.RecordFault.TheVariants.{ForeignTag, RepeatedField}
 use Rattle.cell_read.specs.ValuesOf.{values_of, fault_from}
 use Rattle.cell_read.proofs.FieldSteps.{take_at, tag_is, foreign, repeated, content, fault_here, fault_after, ok_then, fault_then}
@@ -42,7 +42,7 @@ returns-clause-good c = let fields = c.args.frame.now.fields in let k = c.args.k
 pub returns-clause-fault : goal.returns-clause-fault
 returns-clause-fault c = let fields = c.args.frame.now.fields in let k = c.args.k in let nall = c.args.nall in let tag = c.in-Some.tag in
     let field : Field = record { tag = c.field.result.0; bytes = c.field.result.1.now } in
-    fault_then c.read_content.result (option_map of_field (content_fault nall tag field.bytes))
+    fault_then c.read_content.result (fault_of_content nall tag field.bytes)
     (fault_from nall c.args.kind fields k) c.read_content.ensures.fault (λ fault is.
     fault_here nall c.args.kind fields k field fault c.field.ensures
     (content nall c.args.kind (take k fields) field tag (sym (c.in-Some.ensures field.bytes)) (sym c.if-stands_twice.ensures) ∙ is))

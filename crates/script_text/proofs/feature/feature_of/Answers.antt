@@ -2,7 +2,7 @@ use Rattle.std.proofs.Common.{◌≡◌, ◌∷◌, ◌++◌, refl, arith}
 use Rattle.std.specs.Fmt.{decimal}
 use Rattle.text_spec.specs.CellText.{kind_word}
 use Rattle.text_spec.specs.Lines.{spaced_words}
-use Rattle.script_text.proofs.Words.{free_kind, from_parts}
+use Rattle.script_text.proofs.Words.{from_parts}
 use Rattle.script_text.proofs.Frees.{feature_items, free_number}
 use Rattle.script_text.proofs.Features.{feature_items_are, same_feature}
 use Rattle.script_text.proofs.feature.feature_of.Goals as goal
@@ -14,21 +14,20 @@ returns-clause-found c = λ feature width spelled.
     let objl = 32 ∷ (decimal feature.objl ++ foid) in
     let grup = 32 ∷ (decimal feature.grup ++ objl) in
     let prim = 32 ∷ (decimal feature.prim ++ grup) in
-    let rver = 32 ∷ (decimal feature.rver ++ prim) in let id = 32 ∷ (decimal feature.name.id ++ rver) in
-    let text : c.args.words.now ≡ 32 ∷ (kind_word feature.name.kind ++ id) = spelled in
-    let one = c.next_part.ensures.part 32 (kind_word feature.name.kind) id (free_kind 32 feature.name.kind (omega arith)).free refl text in
-    let two = c.next_part-2.ensures.part 32 (decimal feature.name.id) rver (free_number 32 feature.name.id (omega arith) width.name).free refl one.1 in
-    let three = c.next_part-3.ensures.part 32 (decimal feature.rver) prim
-    (free_number 32 feature.rver (omega arith) (omega (arith, width.rver))).free refl two.1 in
-    let four = c.next_part-4.ensures.part 32 (decimal feature.prim) grup
-    (free_number 32 feature.prim (omega arith) (omega (arith, width.prim))).free refl three.1 in
-    let five = c.next_part-5.ensures.part 32 (decimal feature.grup) objl
-    (free_number 32 feature.grup (omega arith) (omega (arith, width.grup))).free refl four.1 in
-    let six = c.next_part-6.ensures.part 32 (decimal feature.objl) foid
-    (free_number 32 feature.objl (omega arith) (omega (arith, width.objl))).free refl five.1 in
-    let identity = c.identity_of_words.ensures.found feature.foid items width.foid (from_parts 32 (feature_items feature)) six.1 in
+    let rver = 32 ∷ (decimal feature.rver ++ prim) in
+    let text : c.args.words.now ≡ 32 ∷ (kind_word feature.name.kind ++ (32 ∷ (decimal feature.name.id ++ rver))) = spelled in
+    let name = c.next_name.ensures.found feature.name rver width.name refl text in
+    let one = c.next_part.ensures.part 32 (decimal feature.rver) prim
+    (free_number 32 feature.rver (omega arith) (omega (arith, width.rver))).free refl name.1 in
+    let two = c.next_part-2.ensures.part 32 (decimal feature.prim) grup
+    (free_number 32 feature.prim (omega arith) (omega (arith, width.prim))).free refl one.1 in
+    let three = c.next_part-3.ensures.part 32 (decimal feature.grup) objl
+    (free_number 32 feature.grup (omega arith) (omega (arith, width.grup))).free refl two.1 in
+    let four = c.next_part-4.ensures.part 32 (decimal feature.objl) foid
+    (free_number 32 feature.objl (omega arith) (omega (arith, width.objl))).free refl three.1 in
+    let identity = c.identity_of_words.ensures.found feature.foid items width.foid (from_parts 32 (feature_items feature)) four.1 in
     let lists = feature_items_are feature _ _ width c.in_ok-items.ensures identity.1 in
-    same_feature _ _ _ _ _ _ _ _ _ _ feature (c.name_of.ensures feature.name width.name one.0 two.0) (c.byte_of.ensures feature.prim width.prim four.0)
-    (c.byte_of-2.ensures feature.grup width.grup five.0) (c.short_of.ensures feature.objl width.objl six.0)
-    (c.short_of-2.ensures feature.rver width.rver three.0)
+    same_feature _ _ _ _ _ _ _ _ _ _ feature name.0 (c.byte_of.ensures feature.prim width.prim two.0)
+    (c.byte_of-2.ensures feature.grup width.grup three.0) (c.short_of.ensures feature.objl width.objl four.0)
+    (c.short_of-2.ensures feature.rver width.rver one.0)
     identity.0 lists.attf lists.natf lists.partners lists.places

@@ -9,7 +9,7 @@ use Rattle.update_apply.proofs.Steps.{fault_stays, refuses_at}
 use Rattle.update_apply.proofs.file.read_edits.Goals as goal
 
 pub returns-in-Ok : goal.returns-in-Ok
-returns-in-Ok c = let b = c.args.bytes.now in let frame = c.in-Ok.descriptive in let end = length b in let cell = c.args.cell.now in
+returns-in-Ok c = let b = c.args.update.now.bytes.now in let frame = c.in-Ok.descriptive in let end = length b in let cell = c.args.update.now.cell.now in
     let behind : 0 + frame.length ≡ c.length.result = omega (arith, c.length.ensures) in
     let parts : edits_of_update cell b ≡ edits_of_data cell end (records_after b c.length.result false) =
     update_parts cell end (records_after b 0 true)
@@ -18,8 +18,8 @@ returns-in-Ok c = let b = c.args.bytes.now in let frame = c.in-Ok.descriptive in
     subst (λ x. GivesFile c.read_data.result x) (sym parts) c.read_data.ensures
 
 pub returns-in-Err : goal.returns-in-Err
-returns-in-Err c = let b = c.args.bytes.now in let end = length b in let e = c.of_frame.result in let file = records_after b 0 true in
-    let cell = c.args.cell.now in
+returns-in-Err c = let b = c.args.update.now.bytes.now in let end = length b in let e = c.of_frame.result in let file = records_after b 0 true in
+    let cell = c.args.update.now.cell.now in
     let start : 0 ≤ end = omega arith in
     let first : RefusesAt 1 0 e (told_by_next 1 end Ok file) =
     next-frame_fault 1 Ok b 0 true c.in-Err.fault e c.of_frame.ensures start (sym c.in-Err.ensures.exact) in

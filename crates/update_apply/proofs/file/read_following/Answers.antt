@@ -3,5 +3,6 @@ use Rattle.update_apply.proofs.FileSteps.{edits-end}
 use Rattle.update_apply.proofs.file.read_following.Goals as goal
 
 pub returns : goal.returns
-returns c = let past : length c.args.bytes.now ≤ c.loop-at.at = omega arith in
-    sym c.loop-at.invariant.walk ∙ edits-end c.args.look.now c.args.level c.loop-at.number c.loop-at.earlier c.args.bytes.now c.loop-at.at past
+returns c = let bytes = c.args.update.now.bytes.now in let past : length bytes ≤ c.loop-at.at = omega arith in
+    sym c.loop-at.invariant.walk
+    ∙ edits-end c.args.update.now.look.now c.args.level c.loop-at.number c.loop-at.earlier bytes c.loop-at.at past

@@ -5,11 +5,11 @@ use Rattle.update_apply.proofs.file.read_following.Given as goal
 
 abbrev pub invariant-loop-at : goal.invariant-loop-at
 invariant-loop-at l = record {
-  within : l.at ≤ length l.bytes;
+  within : l.at ≤ length l.update.bytes.now;
   counted : l.number ≤ l.at + 3;
-  walk : edits_with l.look l.level l.number l.earlier (records_after l.bytes l.at false) ≡ edits_with l.look l.level 3 []
-      (records_after l.bytes l.start false);
+  walk : edits_with l.update.look.now l.level l.number l.earlier (records_after l.update.bytes.now l.at false)
+      ≡ edits_with l.update.look.now l.level 3 [] (records_after l.update.bytes.now l.start false);
 }
 
 abbrev pub decreases-loop-at : goal.decreases-loop-at
-decreases-loop-at l = length l.bytes - l.at
+decreases-loop-at l = length l.update.bytes.now - l.at

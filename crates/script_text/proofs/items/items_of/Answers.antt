@@ -1,18 +1,21 @@
 use Rattle.std.proofs.Common.{◌++◌, ◌∷◌, [], codes, sym}
-use Rattle.text_spec.specs.EditLine.{attribute_item, partner_item, place_item}
-use Rattle.script_text.specs.Widths.{IsAttributeOfWidth, IsPartnerOfWidth, IsPlaceOfWidth}
+use Rattle.text_spec.specs.EditLine.{attribute_item, deep_item, end_item, partner_item, place_item, plane_item}
+use Rattle.script_text.specs.Widths.{IsAttributeOfWidth, IsEndOfWidth, IsPartnerOfWidth, IsPlaceOfWidth, IsPointOfWidth, IsSoundingOfWidth}
 use Rattle.script_text.proofs.Items.{none, cut_none, cut_step_if, cut_end_if}
-use Rattle.script_text.proofs.feature.items_of.Goals as goal
+use Rattle.script_text.proofs.items.items_of.Goals as goal
 
 pub loop-rest-init : goal.loop-rest-init
 loop-rest-init c = (
   [],
   cut_none c.args.text.now,
   record {
-    attf = none 97 (attribute_item (codes "a")) IsAttributeOfWidth _ c.make.ensures;
+    attrs = none 97 (attribute_item (codes "a")) IsAttributeOfWidth _ c.make.ensures;
     natf = none 110 (attribute_item (codes "n")) IsAttributeOfWidth _ c.make-2.ensures;
-    partners = none 102 partner_item IsPartnerOfWidth _ c.make-3.ensures;
-    places = none 115 place_item IsPlaceOfWidth _ c.make-4.ensures;
+    ends = none 101 end_item IsEndOfWidth _ c.make-3.ensures;
+    plane = none 112 plane_item IsPointOfWidth _ c.make-4.ensures;
+    deep = none 100 deep_item IsSoundingOfWidth _ c.make-5.ensures;
+    partners = none 102 partner_item IsPartnerOfWidth _ c.make-6.ensures;
+    places = none 115 place_item IsPlaceOfWidth _ c.make-7.ensures;
   },
 )
 

@@ -1,7 +1,7 @@
 use Rattle.std.proofs.Common.{arith}
 use Rattle.text_spec.specs.CellText.{kind_word}
 use Rattle.script_text.proofs.Words.{free_kind}
-use Rattle.script_text.proofs.vector.kind_of_words.Goals as goal
+use Rattle.script_text.proofs.value.kind_of_words.Goals as goal
 
 pub returns : goal.returns
 returns c = λ kind rest begins spelled.
