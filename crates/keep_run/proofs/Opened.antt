@@ -15,6 +15,8 @@ use Rattle.book_journal.specs.Keeping.{IsAsBefore}
 use Rattle.book_journal.specs.Opening.{IsOpenRefusal, LeavesBytes}
 use Rattle.book_journal.specs.Standing.{IsStill}
 use Rattle.book_journal.specs.declared.journal.Journal.{Journal}
+use Rattle.book_journal.specs.declared.refusal.KeepRefusal.{KeepRefusal}
+use Rattle.book_journal.specs.declared.refusal.KeepRefusal.TheVariants as keep_refusal
 use Rattle.book_journal.specs.declared.refusal.OpenRefusal.{OpenRefusal}
 use Rattle.book_journal.specs.declared.refusal.OpenRefusal.TheVariants.{BadJournal, DiskFault, JournalFull, FindingsFull, NoMemory}
 use Rattle.book_journal.proofs.Told.{if_some}
@@ -22,8 +24,6 @@ use Rattle.keep_run.specs.Keeps.{IsKeepEnd, IsKeptImage, IsKeptOn, IsKeptRun, Is
 use Rattle.keep_run.specs.Runs.{IsKeptTo}
 use Rattle.keep_run.specs.Stops.{IsStop}
 use Rattle.keep_run.specs.declared.report.Kept.{Kept}
-use Rattle.keep_run.specs.declared.stop.Stop.{Stop}
-use Rattle.keep_run.specs.declared.stop.Stop.TheVariants as stop
 
 -- ---- a journal that isn't opened
 module _ (c : Cell) (before now : Option (List ℕ)) (faults faults_now : ℕ) (few : finding_total c ≤ finding_limit) where
@@ -44,14 +44,17 @@ module _ (c : Cell) (before now : Option (List ℕ)) (faults faults_now : ℕ) (
   open_ends NoMemory is left = tt
 
 -- ---- a script that doesn't go on
-pub stop_ends : (c : Cell) (before now : Option (List ℕ)) (faults mid faults_now : ℕ) (why : Stop) → faults ≤ mid → IsStop mid faults_now why
+pub stop_ends : (c : Cell) (before now : Option (List ℕ)) (faults mid faults_now : ℕ) (why : KeepRefusal) → faults ≤ mid → IsStop mid faults_now why
     → IsKeepEnd c before now faults faults_now (stop_status why)
-stop_ends c before now faults mid faults_now stop.DiskFault le is = rose_earlier faults mid faults_now le is
-stop_ends c before now faults mid faults_now stop.NoMemory le is = tt
+stop_ends c before now faults mid faults_now keep_refusal.DiskFault le is = rose_earlier faults mid faults_now le is
+stop_ends c before now faults mid faults_now keep_refusal.NoMemory le is = tt
+stop_ends c before now faults mid faults_now keep_refusal.Broken le is = absurd is
+stop_ends c before now faults mid faults_now (keep_refusal.EntryTooLong bytes) le is = absurd is
+stop_ends c before now faults mid faults_now keep_refusal.LogFull le is = absurd is
 
 -- ---- a script that was run
 pub kept_on : {D : Type 0} (content : D → Option (List ℕ)) (images : D → List ℕ → Type 0) (c : Cell) (commits : List AcceptedCommit) (script : List Command)
-    (journal : Journal D) (result : Result Kept Stop) → IfOk result (IsKeptRun c commits script journal.book) → IsStill content images journal
+    (journal : Journal D) (result : Result Kept KeepRefusal) → IfOk result (IsKeptRun c commits script journal.book) → IsStill content images journal
     → OnOk result (journal.broken ≡ false)
     → IfOk result (IsKeptOn c commits script (content journal.disk.now) (images journal.disk.now))
 kept_on content images c commits script journal (Ok kept) run still whole = record {

@@ -10,14 +10,14 @@ use Rattle.commit_book.specs.Books.{BookState, history_of}
 use Rattle.crash_disk.specs.Disk.{Only}
 use Rattle.book_journal.specs.Journals.{IsDamagedAt, IsJournalOf}
 use Rattle.book_journal.specs.Keeping.{IsAsBefore, commit_limit}
+use Rattle.book_journal.specs.declared.refusal.KeepRefusal.{KeepRefusal}
+use Rattle.book_journal.specs.declared.refusal.KeepRefusal.TheVariants as keep_refusal
 use Rattle.book_journal.specs.declared.refusal.OpenRefusal.{OpenRefusal}
 use Rattle.book_journal.specs.declared.refusal.OpenRefusal.TheVariants as open_refusal
 use Rattle.report_text.specs.declared.status.Status.{Status}
 use Rattle.report_text.specs.declared.status.Status.TheVariants.{BadJournal, DiskFault, JournalFull, NoMemory}
 use Rattle.keep_run.specs.Runs.{IsKeptTo, kept_history, kept_text}
 use Rattle.keep_run.specs.declared.report.Kept.{Kept}
-use Rattle.keep_run.specs.declared.stop.Stop.{Stop}
-use Rattle.keep_run.specs.declared.stop.Stop.TheVariants as stop
 
 -- why a journal isn't opened, where its cell has not too many findings
 abbrev pub IsOpenEnd : OpenRefusal → Type 0
@@ -31,9 +31,9 @@ status_of (open_refusal.JournalFull count) = JournalFull count
 status_of open_refusal.FindingsFull = NoMemory
 status_of open_refusal.NoMemory = NoMemory
 
-abbrev pub stop_status : Stop → Status
-stop_status stop.DiskFault = DiskFault
-stop_status stop.NoMemory = NoMemory
+abbrev pub stop_status : KeepRefusal → Status
+stop_status keep_refusal.DiskFault = DiskFault
+stop_status other = NoMemory
 
 -- the text of a script that was run over the commits of a journal, and the file of the cell that it left, which is read back
 pub record IsKeptRun (c : Cell) (commits : List AcceptedCommit) (script : List Command) (book : BookState) (kept : Kept) : Type 0 where

@@ -7,12 +7,12 @@ ghost use Rattle.commit_book.specs.Books.{entry_limit, history_of};
 ghost use Rattle.crash_disk.specs.Disk.{LeavesOnly};
 ghost use Rattle.history_spec.specs.Steps.{commit as commit_event, faulty, view};
 ghost use Rattle.keep_run.specs.Sessions.{IsAround, IsEntered, offered};
-ghost use Rattle.keep_run.specs.Stops.{IsStop};
+ghost use Rattle.keep_run.specs.Stops.{IsReplyOf, IsStop};
 
 use crate::session::Session;
-use crate::stop::{Stop, reply_of, stop_of};
-use book_journal::Journal;
+use book_journal::{Journal, KeepRefusal};
 use chain_topo::Steps;
+use commit_book::{BookRefusal, Told};
 use crash_disk::Disk;
 use edit_sets::{EditSet, FormFault, FormRefusal};
 use history_spec::Reply;
@@ -24,8 +24,21 @@ use std::thread::Threads;
 /// The number of the one desk.
 const DESK: u32 = 1;
 
+/// The answer of a log that isn't full.
+fn reply_of(told: Result<Told, BookRefusal>) -> Result<Reply, KeepRefusal>
+    requires { IfErr told (λ why. why ≡ BookRefusal.NoMemory) }
+    ensures ok { IfOk result (IsReplyOf told) }
+    ensures err { IfErr result (λ why. why ≡ KeepRefusal.NoMemory) }
+{
+    match told {
+        Ok(told) => Ok(told.reply),
+        Err(BookRefusal::NoMemory) => Err(KeepRefusal::NoMemory),
+        Err(BookRefusal::LogFull) => unreachable!(),
+    }
+}
+
 /// Asks for the newest state. The disk isn't asked.
-pub(crate) fn see<D: Disk>(alloc: Global, journal: &mut Journal<'_, D>) -> Result<Reply, Stop>
+pub(crate) fn see<D: Disk>(alloc: Global, journal: &mut Journal<'_, D>) -> Result<Reply, KeepRefusal>
     requires still { IsStill D.content D.images journal.old }
     requires room { length journal.old.book.entries < entry_limit }
     ensures still { IsStill D.content D.images journal.new }
@@ -33,7 +46,7 @@ pub(crate) fn see<D: Disk>(alloc: Global, journal: &mut Journal<'_, D>) -> Resul
     ensures disk { journal.new.disk.now ≡ journal.old.disk.now }
     ensures broken { journal.new.broken ≡ journal.old.broken }
     ensures ok { IfOk result (IsEntered journal.old.book view journal.new.book) }
-    ensures err { IfErr result (λ stop. stop ≡ Stop.NoMemory) }
+    ensures err { IfErr result (λ why. why ≡ KeepRefusal.NoMemory) }
 {
     let base = journal.book().commits();
     reply_of(journal.view(alloc, DESK, base))
@@ -44,7 +57,7 @@ fn tell_fault<D: Disk>(
     alloc: Global,
     journal: &mut Journal<'_, D>,
     fault: FormFault,
-) -> Result<Reply, Stop>
+) -> Result<Reply, KeepRefusal>
     requires still { IsStill D.content D.images journal.old }
     requires room { length journal.old.book.entries < entry_limit }
     ensures still { IsStill D.content D.images journal.new }
@@ -52,7 +65,7 @@ fn tell_fault<D: Disk>(
     ensures disk { journal.new.disk.now ≡ journal.old.disk.now }
     ensures broken { journal.new.broken ≡ journal.old.broken }
     ensures ok { IfOk result (IsEntered journal.old.book (faulty fault) journal.new.book) }
-    ensures err { IfErr result (λ stop. stop ≡ Stop.NoMemory) }
+    ensures err { IfErr result (λ why. why ≡ KeepRefusal.NoMemory) }
 {
     reply_of(journal.faulty(alloc, DESK, fault))
 }
@@ -64,7 +77,7 @@ fn keep_set<R: Threads + Sync, L: Ledger, D: Disk>(
     journal: &mut Journal<'_, D>,
     set: EditSet,
     steps: &mut Steps<L>,
-) -> Result<Reply, Stop>
+) -> Result<Reply, KeepRefusal>
     requires still { IsStill D.content D.images journal.old }
     requires whole { journal.old.broken ≡ false }
     requires room { length journal.old.book.entries < entry_limit }
@@ -88,7 +101,7 @@ fn keep_set<R: Threads + Sync, L: Ledger, D: Disk>(
     let prepared = prepare(rt, alloc, book.bench(), book.commits(), set)?;
     match journal.commit(alloc, DESK, &prepared, steps) {
         Ok(told) => Ok(told.reply),
-        Err(why) => Err(stop_of(why)),
+        Err(why) => Err(why),
     }
 }
 
@@ -99,7 +112,7 @@ pub(crate) fn commit<R: Threads + Sync, L: Ledger, D: Disk>(
     journal: &mut Journal<'_, D>,
     session: &Session,
     steps: &mut Steps<L>,
-) -> Result<Reply, Stop>
+) -> Result<Reply, KeepRefusal>
     requires still { IsStill D.content D.images journal.old }
     requires whole { journal.old.broken ≡ false }
     requires room { length journal.old.book.entries < entry_limit }
@@ -122,6 +135,6 @@ pub(crate) fn commit<R: Threads + Sync, L: Ledger, D: Disk>(
     match EditSet::make(alloc, &session.edits, &session.guards, nall) {
         Ok(set) => keep_set(rt, alloc, journal, set, steps),
         Err(FormRefusal::Fault(fault)) => tell_fault(alloc, journal, fault),
-        Err(FormRefusal::NoMemory) => Err(Stop::NoMemory),
+        Err(FormRefusal::NoMemory) => Err(KeepRefusal::NoMemory),
     }
 }

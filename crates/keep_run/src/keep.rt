@@ -11,12 +11,11 @@ ghost use Rattle.history_spec.specs.Steps.{finding_limit};
 ghost use Rattle.rule_spec.specs.Findings.{finding_total};
 ghost use Rattle.keep_run.specs.Keeps.{IsKeepEnd, IsKept, IsKeptImage, IsKeptOn, IsKeptRun, IsOpenEnd, status_of as status_of_lem, stop_status};
 ghost use Rattle.keep_run.specs.Runs.{IsKeptTo};
-ghost use Rattle.keep_run.specs.Stops.{IsStop};
+ghost use Rattle.keep_run.specs.Stops.{IsStop, IsStopOf};
 
 use crate::report::{Kept, report};
 use crate::serve::run_script;
-use crate::stop::Stop;
-use book_journal::{Journal, OpenRefusal, open_book};
+use book_journal::{Journal, KeepRefusal, OpenRefusal, open_book};
 use chain_topo::Steps;
 use commit_book::Book;
 use crash_disk::Disk;
@@ -42,13 +41,17 @@ fn status_of(why: OpenRefusal) -> Status
     }
 }
 
-/// The status of a session that doesn't go on.
-fn status_of_stop(stop: Stop) -> Status
-    ensures { result ≡ stop_status stop }
+/// The status of a session that doesn't go on. Its journal is whole, no text of its edits is too long, and its log isn't full.
+fn status_of_stop(why: KeepRefusal) -> Status
+    requires { IsStopOf why }
+    ensures { result ≡ stop_status why }
 {
-    match stop {
-        Stop::DiskFault => Status::DiskFault,
-        Stop::NoMemory => Status::NoMemory,
+    match why {
+        KeepRefusal::DiskFault => Status::DiskFault,
+        KeepRefusal::NoMemory => Status::NoMemory,
+        KeepRefusal::Broken | KeepRefusal::EntryTooLong(_) | KeepRefusal::LogFull => {
+            unreachable!()
+        }
     }
 }
 
@@ -61,7 +64,7 @@ fn run_and_tell<R: Threads + Sync, L: Ledger, D: Disk>(
     journal: &mut Journal<'_, D>,
     script: &Script,
     steps: &mut Steps<L>,
-) -> Result<Kept, Stop>
+) -> Result<Kept, KeepRefusal>
     requires still { IsStill D.content D.images journal.old }
     requires whole { journal.old.broken ≡ false }
     requires entries { length journal.old.book.entries ≡ length (history_of journal.old.book).commits }
@@ -90,7 +93,7 @@ fn run_kept<R: Threads + Sync, L: Ledger, D: Disk>(
     journal: &mut Journal<'_, D>,
     script: &Script,
     steps: &mut Steps<L>,
-) -> Result<Kept, Stop>
+) -> Result<Kept, KeepRefusal>
     requires still { IsStill D.content D.images journal.old }
     requires whole { journal.old.broken ≡ false }
     requires entries { length journal.old.book.entries ≡ length (history_of journal.old.book).commits }
@@ -118,7 +121,7 @@ fn run_over<R: Threads + Sync, L: Ledger, D: Disk>(
     end: u64,
     script: &Script,
     steps: &mut Steps<L>,
-) -> Result<Kept, Stop>
+) -> Result<Kept, KeepRefusal>
     requires room { end < 2 ^ 63 }
     requires standing { IfSome (D.content disk.old) (IsStanding book.opening (history_of book).commits end (D.images disk.old)) }
     requires entries { length book.entries ≡ length (history_of book).commits }
@@ -168,6 +171,6 @@ pub(crate) fn keep<R: Threads + Sync, L: Ledger, D: Disk>(
     };
     match run_over(rt, alloc, disk, book, end, script, &mut steps) {
         Ok(kept) => Ok(kept),
-        Err(stop) => Err(status_of_stop(stop)),
+        Err(why) => Err(status_of_stop(why)),
     }
 }

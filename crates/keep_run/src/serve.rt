@@ -12,8 +12,7 @@ ghost use Rattle.keep_run.specs.Stops.{IsStop};
 
 use crate::ask::{commit, see};
 use crate::session::Session;
-use crate::stop::Stop;
-use book_journal::Journal;
+use book_journal::{Journal, KeepRefusal};
 use chain_topo::Steps;
 use crash_disk::Disk;
 use report_text::Transcript;
@@ -31,7 +30,7 @@ fn serve<R: Threads + Sync, L: Ledger, D: Disk>(
     session: &mut Session,
     command: &Command,
     steps: &mut Steps<L>,
-) -> Result<(), Stop>
+) -> Result<(), KeepRefusal>
     requires still { IsStill D.content D.images journal.old }
     requires whole { journal.old.broken ≡ false }
     requires room { length journal.old.book.entries < entry_limit }
@@ -81,7 +80,7 @@ fn serve_all<R: Threads + Sync, L: Ledger, D: Disk>(
     session: &mut Session,
     script: &Script,
     steps: &mut Steps<L>,
-) -> Result<(), Stop>
+) -> Result<(), KeepRefusal>
     requires still { IsStill D.content D.images journal.old }
     requires whole { journal.old.broken ≡ false }
     requires begun { IsRunTo journal.old.book.opening (history_of journal.old.book).commits script.now script.now journal.old.book
@@ -112,7 +111,7 @@ pub(crate) fn run_script<R: Threads + Sync, L: Ledger, D: Disk>(
     journal: &mut Journal<'_, D>,
     script: &Script,
     steps: &mut Steps<L>,
-) -> Result<Transcript, Stop>
+) -> Result<Transcript, KeepRefusal>
     requires still { IsStill D.content D.images journal.old }
     requires whole { journal.old.broken ≡ false }
     requires entries { length journal.old.book.entries ≡ length (history_of journal.old.book).commits }
@@ -132,6 +131,6 @@ pub(crate) fn run_script<R: Threads + Sync, L: Ledger, D: Disk>(
     let mut session = Session::make(alloc);
     match serve_all(rt, alloc, journal, &mut session, script, steps) {
         Ok(()) => Ok(session.into_transcript()),
-        Err(stop) => Err(stop),
+        Err(why) => Err(why),
     }
 }
