@@ -20,7 +20,7 @@ use Rattle.call_files.proofs.DoneWork.{of_told}
 use Rattle.call_files.proofs.GoodFiles.{cell_is, script_is}
 use Rattle.call_files.proofs.OneAnswer.{IsOne, ok_not_err, one_cell, one_script, one_then}
 use Rattle.keep_run.specs.Causes.{AreGiven, InputIs, IsAskedIn, IsAskedOf, IsCauseIn, IsCauseOf, IsExpectedIn, IsExpectedOf, IsInputEnd, IsReadBackIn}
-use Rattle.keep_run.specs.Causes.{IsRunOf, IsUntouched, JournalIs, KeepIs, kept_task}
+use Rattle.keep_run.specs.Causes.{IsRunOf, JournalIs, KeepIs, kept_task}
 use Rattle.keep_run.specs.Complete.{IsGood, IsGoodIn}
 use Rattle.keep_run.specs.Runs.{kept_history}
 use Rattle.keep_run.specs.Words.{KeepForm}
@@ -146,6 +146,10 @@ module _ (before after : Outside) (content now : Option (List ℕ)) (faults faul
     no_cut task (inl text) = smooth.puts text.rose
     no_cut task (inr out) = smooth.writes out.rose
 
+    journal_ends_it : (form : KeepForm) (c : Cell) (script : List Command) (status : Status) → AreGiven form before.files c script
+        → JournalIs c file (Err status) → KeepIs form files file (Err status)
+    journal_ends_it form c script status given bad = inl ((c, script), given_is form c script given, inr (status, bad, refl))
+
     expected_of : (form : KeepForm) (status : Status) → IsCauseOf form before after content now faults faults_now images status
         → IsExpectedOf form files file status ⊎ (status ≡ NoMemory)
     expected_of form Done cause = inl (
@@ -170,21 +174,11 @@ module _ (before after : Outside) (content now : Option (List ℕ)) (faults faul
     expected_of form (BadUpdate fault) cause = absurd cause.1
     expected_of form (Refused refusal) cause = absurd cause.1
     expected_of form (BadJournal place) cause =
-        let end = cause.1 in inl (inl (
-          (end.start, end.script),
-          given_is form end.start end.script end.given,
-          inr
-              (BadJournal place, at_bytes _ end.ends, refl),
-        ))
+        let end = cause.1 in inl (journal_ends_it form end.start end.script (BadJournal place) end.given (at_bytes _ end.ends))
     expected_of form DiskFault cause = absurd (calm cause.1.rose)
     expected_of form (OpRefused why) cause = absurd cause.1
     expected_of form (JournalFull count) cause =
-        let end = cause.1 in inl (inl (
-          (end.start, end.script),
-          given_is form end.start end.script end.given,
-          inr
-              (JournalFull count, at_bytes _ end.ends, refl),
-        ))
+        let end = cause.1 in inl (journal_ends_it form end.start end.script (JournalFull count) end.given (at_bytes _ end.ends))
 
     pub expected : (form : Option KeepForm) (status : Status) → IsCauseIn form before after content now faults faults_now images status
         → IsExpectedIn form files file status ⊎ (status ≡ NoMemory)
@@ -314,24 +308,3 @@ pub completed : HasOneReading → (form : Option KeepForm) (files : Files) (file
 completed one None files file status good is = absurd good
 completed one (Some form) files file status good (inl is) = inl (done_if one form files file good status is)
 completed one (Some form) files file status good (inr none) = inr none
-
--- ---- the disk
-pub done_touches : (task : Task) (before after : Outside) (status : Status) → IsDoneWork task before after status → IsUntouched status → ⊥
-done_touches task before after Done done un = un
-done_touches task before after Usage done un = done
-done_touches task before after (Absent name) done un = done
-done_touches task before after (BadCell fault) done un = done
-done_touches task before after (BadScript session line code) done un = done
-done_touches task before after (ReadFault name) done un = done
-done_touches task before after WriteFault done un = un
-done_touches task before after (TooLarge name) done un = done
-done_touches task before after NoMemory done un = done
-done_touches task before after (BadOrder place) done un = done
-done_touches task before after (Stuck desk serial) done un = done
-done_touches task before after TooManyFindings done un = done
-done_touches task before after (BadUpdate fault) done un = done
-done_touches task before after (Refused refusal) done un = done
-done_touches task before after (BadJournal place) done un = done
-done_touches task before after DiskFault done un = done
-done_touches task before after (OpRefused cause) done un = done
-done_touches task before after (JournalFull count) done un = done
