@@ -76,7 +76,7 @@ module _ (form : KeepForm) (files : Option Files) (reads : ℕ) (content now : O
 
   module _ (start : Cell) (script : List Command) (given : AreGiven form files start script) where
     -- the journal or the disk ends the call
-    keep_ends : (reads_now : ℕ) (status : Status) → IsKeepEnd start content now faults faults_now status
+    pub keep_ends : (reads_now : ℕ) (status : Status) → IsKeepEnd start content now faults faults_now status
         → IsAskedOf form files reads reads_now content now faults faults_now images (Err status)
     keep_ends reads_now (BadJournal place) is = record { start = start; script = script; given = given; ends = is.0; same = is.1 }
     keep_ends reads_now DiskFault is = record { start = start; script = script; given = given; rose = is }
@@ -98,7 +98,7 @@ module _ (form : KeepForm) (files : Option Files) (reads : ℕ) (content now : O
     keep_ends reads_now (OpRefused cause) is = absurd is
 
     -- the script was run
-    kept_done : (reads_now : ℕ) (kept : Kept) (work : Work) → IsKept start script content now images kept
+    pub kept_done : (reads_now : ℕ) (kept : Kept) (work : Work) → IsKept start script content now images kept
         → task_of work ≡ record { text = kept.text.items; file = Some (form.out, kept.bytes.items) }
         → IsAskedOf form files reads reads_now content now faults faults_now images (Ok work)
     kept_done reads_now kept work is task = record {
@@ -125,7 +125,7 @@ module _ (form : KeepForm) (files : Option Files) (reads : ℕ) (content now : O
         subst (λ (s : Status). IsAskedOf form files reads reads_now content now faults faults_now images (Err s)) (sym is) (keep_ends reads_now why end)
 
 -- a status at which the journal or the disk ends the call isn't one at which the disk isn't asked
-touched : (c : Cell) (content now : Option (List ℕ)) (faults faults_now : ℕ) (status : Status) → IsKeepEnd c content now faults faults_now status
+pub touched : (c : Cell) (content now : Option (List ℕ)) (faults faults_now : ℕ) (status : Status) → IsKeepEnd c content now faults faults_now status
     → IsUntouched status → ⊥
 touched c content now faults faults_now (BadJournal place) is un = un
 touched c content now faults faults_now DiskFault is un = un

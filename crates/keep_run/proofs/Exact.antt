@@ -20,7 +20,7 @@ use Rattle.call_files.proofs.DoneWork.{of_told}
 use Rattle.call_files.proofs.GoodFiles.{cell_is, script_is}
 use Rattle.call_files.proofs.OneAnswer.{IsOne, ok_not_err, one_cell, one_script, one_then}
 use Rattle.keep_run.specs.Causes.{AreGiven, InputIs, IsAskedIn, IsAskedOf, IsCauseIn, IsCauseOf, IsExpectedIn, IsExpectedOf, IsInputEnd, IsReadBackIn}
-use Rattle.keep_run.specs.Causes.{IsRunOf, JournalIs, KeepIs, kept_task}
+use Rattle.keep_run.specs.Causes.{IsRunOf, IsUntouched, JournalIs, KeepIs, kept_task}
 use Rattle.keep_run.specs.Complete.{IsGood, IsGoodIn}
 use Rattle.keep_run.specs.Runs.{kept_history}
 use Rattle.keep_run.specs.Words.{KeepForm}
@@ -308,3 +308,24 @@ pub completed : HasOneReading → (form : Option KeepForm) (files : Files) (file
 completed one None files file status good is = absurd good
 completed one (Some form) files file status good (inl is) = inl (done_if one form files file good status is)
 completed one (Some form) files file status good (inr none) = inr none
+
+-- ---- the disk
+pub done_touches : (task : Task) (before after : Outside) (status : Status) → IsDoneWork task before after status → IsUntouched status → ⊥
+done_touches task before after Done done un = un
+done_touches task before after Usage done un = done
+done_touches task before after (Absent name) done un = done
+done_touches task before after (BadCell fault) done un = done
+done_touches task before after (BadScript session line code) done un = done
+done_touches task before after (ReadFault name) done un = done
+done_touches task before after WriteFault done un = un
+done_touches task before after (TooLarge name) done un = done
+done_touches task before after NoMemory done un = done
+done_touches task before after (BadOrder place) done un = done
+done_touches task before after (Stuck desk serial) done un = done
+done_touches task before after TooManyFindings done un = done
+done_touches task before after (BadUpdate fault) done un = done
+done_touches task before after (Refused refusal) done un = done
+done_touches task before after (BadJournal place) done un = done
+done_touches task before after DiskFault done un = done
+done_touches task before after (OpRefused cause) done un = done
+done_touches task before after (JournalFull count) done un = done

@@ -2,6 +2,7 @@
 use Rattle.std.proofs.Common.{◌≡◌, inl, inr, false, ℕ, ◌≤◌, List, Option, None, Some, Result, Ok, Err, IfOk, OnOk, refl, subst, arith}
 use Rattle.std.specs.Prelude.{IfSome, IsSome}
 use Rattle.std.proofs.lemmas.Bool.{false≢true}
+use Rattle.call_files.proofs.Answered.{rose_earlier}
 use Rattle.s57_types.specs.declared.cell.Cell.{Cell}
 use Rattle.rule_spec.specs.Findings.{finding_total}
 use Rattle.text_spec.specs.declared.command.Command.{Command}
@@ -15,11 +16,13 @@ use Rattle.book_journal.specs.Opening.{IsOpenRefusal, LeavesBytes}
 use Rattle.book_journal.specs.Standing.{IsStill}
 use Rattle.book_journal.specs.declared.journal.Journal.{Journal}
 use Rattle.book_journal.specs.declared.refusal.KeepRefusal.{KeepRefusal}
+use Rattle.book_journal.specs.declared.refusal.KeepRefusal.TheVariants as keep_refusal
 use Rattle.book_journal.specs.declared.refusal.OpenRefusal.{OpenRefusal}
 use Rattle.book_journal.specs.declared.refusal.OpenRefusal.TheVariants.{BadJournal, DiskFault, JournalFull, FindingsFull, NoMemory}
 use Rattle.book_journal.proofs.Told.{if_some}
-use Rattle.keep_run.specs.Keeps.{IsKeepEnd, IsKeptImage, IsKeptOn, IsKeptRun, IsOpenEnd, status_of}
+use Rattle.keep_run.specs.Keeps.{IsKeepEnd, IsKeptImage, IsKeptOn, IsKeptRun, IsOpenEnd, status_of, stop_status}
 use Rattle.keep_run.specs.Runs.{IsKeptTo}
+use Rattle.keep_run.specs.Stops.{IsStop, IsStopOf}
 use Rattle.keep_run.specs.declared.report.Kept.{Kept}
 
 -- ---- a journal that isn't opened
@@ -39,6 +42,22 @@ module _ (c : Cell) (before now : Option (List ℕ)) (faults faults_now : ℕ) (
       (if_some _ _ before is (λ file told long. record { commits = long.0; journal = long.1; more = long.2; count_is = long.3 }), left)
   open_ends FindingsFull is left = tt
   open_ends NoMemory is left = tt
+
+-- ---- a script that doesn't go on
+pub stop_is : (mid faults_now : ℕ) (why : KeepRefusal) → IsStop mid faults_now why → IsStopOf why
+stop_is mid faults_now keep_refusal.DiskFault is = tt
+stop_is mid faults_now keep_refusal.NoMemory is = tt
+stop_is mid faults_now keep_refusal.Broken is = is
+stop_is mid faults_now (keep_refusal.EntryTooLong bytes) is = is
+stop_is mid faults_now keep_refusal.LogFull is = is
+
+pub stop_ends : (c : Cell) (before now : Option (List ℕ)) (faults mid faults_now : ℕ) (why : KeepRefusal) → faults ≤ mid → IsStop mid faults_now why
+    → IsKeepEnd c before now faults faults_now (stop_status why)
+stop_ends c before now faults mid faults_now keep_refusal.DiskFault le is = rose_earlier faults mid faults_now le is
+stop_ends c before now faults mid faults_now keep_refusal.NoMemory le is = tt
+stop_ends c before now faults mid faults_now keep_refusal.Broken le is = absurd is
+stop_ends c before now faults mid faults_now (keep_refusal.EntryTooLong bytes) le is = absurd is
+stop_ends c before now faults mid faults_now keep_refusal.LogFull le is = absurd is
 
 -- ---- a script that was run
 pub kept_on : {D : Type 0} (content : D → Option (List ℕ)) (images : D → List ℕ → Type 0) (c : Cell) (commits : List AcceptedCommit) (script : List Command)
