@@ -14,7 +14,8 @@ ghost use Rattle.keep_run.specs.Runs.{IsKeptTo};
 ghost use Rattle.keep_run.specs.Stops.{IsStop, IsStopOf};
 
 use crate::report::{Kept, report};
-use crate::serve::run_script;
+use crate::serve::serve;
+use crate::session::Session;
 use book_journal::{Journal, KeepRefusal, OpenRefusal, open_book};
 use chain_topo::Steps;
 use commit_book::Book;
@@ -82,7 +83,11 @@ fn run_and_tell<R: Threads + Sync, L: Ledger, D: Disk>(
     ensures no_fall { D.faults journal.old.disk.now ≤ D.faults journal.new.disk.now }
 {
     let count = journal.book().commits();
-    let transcript = run_script(rt, alloc, journal, script, steps)?;
+    let mut session = Session::make(alloc);
+    for command in script.commands() {
+        serve(rt, alloc, journal, &mut session, command, steps)?;
+    }
+    let transcript = session.into_transcript();
     Ok(report(alloc, count, &transcript, journal.book())?)
 }
 

@@ -1,24 +1,31 @@
-use Rattle.std.proofs.Common.{List, refl, subst, sym, ◌∙◌, arith}
+use Rattle.std.proofs.Common.{List, ℕ, refl, subst, sym, ◌∙◌, arith}
 use Rattle.text_spec.specs.declared.command.Command.{Command}
+use Rattle.history_spec.specs.Served.{Draft, no_draft}
 use Rattle.commit_book.specs.Books.{history_of}
 use Rattle.keep_run.specs.Sessions.{IsRunTo, draft_of}
+use Rattle.keep_run.proofs.Going.{not_yet}
 use Rattle.keep_run.proofs.Looping.{at_start, ended, next_done, so_far}
-use Rattle.keep_run.proofs.serve.serve_all.Goals as goal
+use Rattle.keep_run.proofs.keep.run_and_tell.Goals as goal
 
 pub loop-command-init : goal.loop-command-init
 loop-command-init g c =
     let journal = c.args.journal.now in
-    let session = c.args.session.now in
+    let book = journal.book in
+    let commits = (history_of book).commits in
+    let session = c.make-session.result in
     let script = c.args.script.now in
+    let begun = subst (λ (d : Draft). IsRunTo book.opening commits script script book d session.transcript) (sym c.make-session.ensures.draft)
+    (subst (λ (l : List ℕ). IsRunTo book.opening commits script script book no_draft l) (sym c.make-session.ensures.lines)
+    (not_yet book script c.requires.entries c.requires.few c.requires.within)) in
     record {
       still = c.requires.still;
       same_reference = refl;
       whole = c.requires.whole;
       stays_told = λ told. told;
-      run = subst (λ (rest : List Command). IsRunTo journal.book.opening (history_of journal.book).commits script rest journal.book (draft_of session)
-          session.transcript) (sym c.commands-command-items.ensures) c.requires.begun;
+      run = subst (λ (rest : List Command). IsRunTo book.opening commits script rest book (draft_of session) session.transcript)
+          (sym c.commands-command-items.ensures) begun;
       moments = at_start g.D.Disk.content g.D.Disk.images g.D.Disk.moment g.D.Disk.left_since journal script (draft_of session) session.transcript
-          c.requires.begun c.requires.still c.requires.whole (g.met.D.Disk.only_now journal.disk.now);
+          begun c.requires.still c.requires.whole (g.met.D.Disk.only_now journal.disk.now);
       no_fall = omega arith;
     }
 
@@ -58,5 +65,14 @@ loop-command-preserved g c =
 pub returns-clause-ok : goal.returns-clause-ok
 returns-clause-ok g c =
     let old = c.args.journal.now in
-    ended old.book.opening (history_of old.book).commits c.args.script.now c.commands-command-items.result.now c.loop-command.command-index
-    c.loop-command.journal.book c.loop-command.session c.loop-command-test.false c.loop-command.invariant.run
+    let run = ended old.book.opening (history_of old.book).commits c.args.script.now c.commands-command-items.result.now c.loop-command.command-index
+    c.loop-command.journal.book c.loop-command.session c.loop-command-test.false c.loop-command.invariant.run in
+    let cell_is = run.cell_is in
+    let lines_are = run.lines_are in
+    record {
+      opening = run.opening;
+      commits_are = run.commits_are;
+      text_is = grind (arith, cell_is, lines_are);
+      bytes_are = grind (arith, cell_is);
+      read_back = grind (arith, cell_is);
+    }
