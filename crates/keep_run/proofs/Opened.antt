@@ -1,5 +1,5 @@
 -- A journal that is opened and kept: what ends it, what it gives, and what a crash leaves meanwhile.
-use Rattle.std.proofs.Common.{◌≡◌, inl, inr, false, ℕ, ◌≤◌, List, Option, None, Some, Result, Ok, Err, IfOk, OnOk, refl, subst, arith}
+use Rattle.std.proofs.Common.{◌≡◌, inl, inr, false, ℕ, ◌≤◌, List, Option, None, Some, refl, subst, arith}
 use Rattle.std.specs.Prelude.{IfSome, IsSome}
 use Rattle.std.proofs.lemmas.Bool.{false≢true}
 use Rattle.call_files.proofs.Answered.{rose_earlier}
@@ -20,10 +20,9 @@ use Rattle.book_journal.specs.declared.refusal.KeepRefusal.TheVariants as keep_r
 use Rattle.book_journal.specs.declared.refusal.OpenRefusal.{OpenRefusal}
 use Rattle.book_journal.specs.declared.refusal.OpenRefusal.TheVariants.{BadJournal, DiskFault, JournalFull, FindingsFull, NoMemory}
 use Rattle.book_journal.proofs.Told.{if_some}
-use Rattle.keep_run.specs.Keeps.{IsKeepEnd, IsKeptImage, IsKeptOn, IsKeptRun, IsOpenEnd, status_of, stop_status}
+use Rattle.keep_run.specs.Keeps.{IsKeepEnd, IsKeptImage, IsLeftWith, IsOpenEnd, status_of, stop_status}
 use Rattle.keep_run.specs.Runs.{IsKeptTo}
 use Rattle.keep_run.specs.Stops.{IsStop, IsStopOf}
-use Rattle.keep_run.specs.declared.report.Kept.{Kept}
 
 -- ---- a journal that isn't opened
 module _ (c : Cell) (before now : Option (List ℕ)) (faults faults_now : ℕ) (few : finding_total c ≤ finding_limit) where
@@ -60,21 +59,15 @@ stop_ends c before now faults mid faults_now (keep_refusal.EntryTooLong bytes) l
 stop_ends c before now faults mid faults_now keep_refusal.LogFull le is = absurd is
 
 -- ---- a script that was run
-pub kept_on : {D : Type 0} (content : D → Option (List ℕ)) (images : D → List ℕ → Type 0) (c : Cell) (commits : List AcceptedCommit) (script : List Command)
-    (journal : Journal D) (result : Result Kept KeepRefusal) → IfOk result (IsKeptRun c commits script journal.book) → IsStill content images journal
-    → OnOk result (journal.broken ≡ false)
-    → IfOk result (IsKeptOn c commits script (content journal.disk.now) (images journal.disk.now))
-kept_on content images c commits script journal (Ok kept) run still whole = record {
-  text_is = run.text_is;
-  bytes_are = run.bytes_are;
-  read_back = run.read_back;
-  left = if_some _ _ (content journal.disk.now) (still.standing whole) (λ file told standing. (
-    inr (subst (λ (l : List AcceptedCommit). IsListOf c file l) run.commits_are
-        (subst (λ (d : Cell). IsListOf d file (history_of journal.book).commits) run.opening standing.list)),
-    standing.kept,
-  ));
-}
-kept_on content images c commits script journal (Err why) run still whole = tt
+pub left_on : {D : Type 0} (content : D → Option (List ℕ)) (images : D → List ℕ → Type 0) (c : Cell) (commits : List AcceptedCommit) (journal : Journal D)
+    → journal.book.opening ≡ c → (history_of journal.book).commits ≡ commits → IsStill content images journal → journal.broken ≡ false
+    → IsLeftWith c commits (content journal.disk.now) (images journal.disk.now)
+left_on content images c commits journal opening commits_are still whole =
+    if_some _ _ (content journal.disk.now) (still.standing whole) (λ file told standing. (
+      inr (subst (λ (l : List AcceptedCommit). IsListOf c file l) commits_are
+          (subst (λ (d : Cell). IsListOf d file (history_of journal.book).commits) opening standing.list)),
+      standing.kept,
+    ))
 
 -- ---- what a crash leaves
 module _ {D : Type 0} (moment : D → ℕ) (left_since : D → ℕ → List ℕ → Type 0) (content : D → Option (List ℕ)) (images : D → List ℕ → Type 0) (c : Cell)
