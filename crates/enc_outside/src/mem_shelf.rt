@@ -5,6 +5,7 @@ ghost use Rattle.enc_outside.specs.Files.{Writes, AppendsTo, SameFiles};
 ghost use Rattle.enc_outside.specs.MemFiles.{files_of};
 ghost use Rattle.enc_outside.specs.Shelf.{TellsFile, FitsGot};
 
+use crate::calls::Calls;
 use crate::shelf::{Failed, Got, Shelf};
 use std::alloc::{AllocError, Global};
 use std::collections::BTreeMap;
@@ -61,17 +62,16 @@ pub(crate) fn read_content(content: &[u8], at: usize, into: &mut [u8]) -> Got
 pub struct MemShelf {
     alloc: Global,
     files: BTreeMap<String, Vec<u8>>,
-    calls: u64,
-    failing: u64,
+    calls: Calls,
     read_faults: u64,
     write_faults: u64,
 }
 
 impl MemShelf {
-    ghost use Rattle.std.specs.Prelude.{◌≡◌, ◌+◌, None, OnOk, OnErr, IsTrue, ◌↔◌};
+    ghost use Rattle.std.specs.Prelude.{◌≡◌, None, OnOk, OnErr};
     ghost use Rattle.std.specs.Option.{option_copied};
     ghost use Rattle.enc_outside.specs.Files.{Writes, SameFiles};
-    ghost use Rattle.enc_outside.specs.MemShelf.{mem_files, next_call, failing_call, failed_reads, failed_writes, IsFailing, IsNext};
+    ghost use Rattle.enc_outside.specs.MemShelf.{mem_files, next_call, failing_call, failed_reads, failed_writes};
 
     /// A store without files, of which no call fails.
     pub fn make(alloc: Global) -> MemShelf
@@ -84,8 +84,10 @@ impl MemShelf {
         MemShelf {
             alloc,
             files: BTreeMap::new(alloc),
-            calls: 0,
-            failing: 0,
+            calls: Calls {
+                done: 0,
+                failing: 0,
+            },
             read_faults: 0,
             write_faults: 0,
         }
@@ -114,7 +116,7 @@ impl MemShelf {
         ensures read_faults { failed_reads self.new ≡ failed_reads self.old }
         ensures write_faults { failed_writes self.new ≡ failed_writes self.old }
     {
-        self.failing = call;
+        self.calls.failing = call;
     }
 
     /// The content of a file.
@@ -132,17 +134,6 @@ impl MemShelf {
         ensures { files_of result.1 ≡ mem_files self }
     {
         (self.alloc, self.files)
-    }
-
-    /// Counts a call, and says whether it is to fail.
-    fn count_call(&mut self) -> bool
-        ensures stays { self.new ≡ record self.old { calls = self.new.calls } }
-        ensures fails { IsTrue result ↔ IsFailing self.old }
-        ensures next { IsNext self.old self.new }
-    {
-        let failing = self.calls < u64::MAX && self.calls + 1 == self.failing;
-        self.calls = self.calls.saturating_add(1);
-        failing
     }
 }
 
@@ -172,7 +163,7 @@ impl Shelf for MemShelf {
         ensures set { IsErr result ↔ IsFailing self.old }
         ensures next { IsNext self.old self.new }
     {
-        if self.count_call() {
+        if self.calls.count() {
             self.read_faults = self.read_faults.saturating_add(1);
             return Err(Failed);
         }
@@ -191,7 +182,7 @@ impl Shelf for MemShelf {
         ensures set { IsFailing self.old → IsErr result }
         ensures next { IsNext self.old self.new }
     {
-        if !self.count_call()
+        if !self.calls.count()
             && put_file(self.alloc, &mut self.files, name, Vec::new(self.alloc)).is_ok()
         {
             return Ok(());
@@ -212,7 +203,7 @@ impl Shelf for MemShelf {
         ensures set { IsFailing self.old → IsErr result }
         ensures next { IsNext self.old self.new }
     {
-        if !self.count_call() && append_file(&mut self.files, name, bytes).is_ok() {
+        if !self.calls.count() && append_file(&mut self.files, name, bytes).is_ok() {
             return Ok(bytes.len());
         }
         self.write_faults = self.write_faults.saturating_add(1);

@@ -2,6 +2,7 @@
 
 ghost use Rattle.std.specs.Prelude.{◌≡◌, ◌+◌, ◌<◌, ◌++◌, [], Some, length, take, OnOk, OnErr};
 
+use crate::calls::Calls;
 use crate::shelf::Failed;
 use crate::sink::Sink;
 use std::alloc::Global;
@@ -10,8 +11,7 @@ use std::alloc::Global;
 #[derive(Drop)]
 pub struct MemSink {
     bytes: Vec<u8>,
-    calls: u64,
-    failing: u64,
+    calls: Calls,
     faults: u64,
 }
 
@@ -28,8 +28,10 @@ impl MemSink {
     {
         MemSink {
             bytes: Vec::new(alloc),
-            calls: 0,
-            failing: 0,
+            calls: Calls {
+                done: 0,
+                failing: 0,
+            },
             faults: 0,
         }
     }
@@ -41,7 +43,7 @@ impl MemSink {
         ensures failing { failing_put self.new ≡ call }
         ensures faults { failed_puts self.new ≡ failed_puts self.old }
     {
-        self.failing = call;
+        self.calls.failing = call;
     }
 
     /// The bytes that were written.
@@ -73,9 +75,7 @@ impl Sink for MemSink {
         ensures set { IsFailing self.old → IsErr result }
         ensures next { IsNext self.old self.new }
     {
-        let failing = self.calls < u64::MAX && self.calls + 1 == self.failing;
-        self.calls = self.calls.saturating_add(1);
-        if !failing && self.bytes.extend_from_slice(bytes).is_ok() {
+        if !self.calls.count() && self.bytes.extend_from_slice(bytes).is_ok() {
             return Ok(bytes.len());
         }
         self.faults = self.faults.saturating_add(1);
