@@ -17,13 +17,14 @@ pub struct MemSink {
 
 impl MemSink {
     ghost use Rattle.std.specs.Prelude.{◌≡◌, []};
-    ghost use Rattle.enc_outside.specs.MemSink.{sink_bytes, next_put, failing_put, failed_puts};
+    ghost use Rattle.enc_outside.specs.Calls.{next_of};
+    ghost use Rattle.enc_outside.specs.MemSink.{sink_bytes, failed_puts};
 
     /// A sink to which nothing was written, and of which no call fails.
     pub fn make(alloc: Global) -> MemSink
         ensures bytes { sink_bytes result ≡ [] }
-        ensures calls { next_put result ≡ 1 }
-        ensures failing { failing_put result ≡ 0 }
+        ensures calls { next_of result.calls ≡ 1 }
+        ensures failing { result.calls.failing ≡ 0 }
         ensures faults { failed_puts result ≡ 0 }
     {
         MemSink {
@@ -39,8 +40,8 @@ impl MemSink {
     /// Has one call fail, by its number from 1 over all calls as a sink; 0 fails none.
     pub fn fail_at(&mut self, call: u64)
         ensures bytes { sink_bytes self.new ≡ sink_bytes self.old }
-        ensures calls { next_put self.new ≡ next_put self.old }
-        ensures failing { failing_put self.new ≡ call }
+        ensures calls { next_of self.new.calls ≡ next_of self.old.calls }
+        ensures failing { self.new.calls.failing ≡ call }
         ensures faults { failed_puts self.new ≡ failed_puts self.old }
     {
         self.calls.failing = call;
@@ -59,7 +60,8 @@ impl Sink for MemSink {
     ghost use Rattle.enc_outside.specs.Count.{Counts};
     ghost use Rattle.enc_outside.specs.Files.{Told, StaysUntold};
     ghost use Rattle.enc_outside.specs.Sink.{Took};
-    ghost use Rattle.enc_outside.specs.MemSink.{sink_bytes, IsFailing, IsNext};
+    ghost use Rattle.enc_outside.specs.Calls.{IsFailing, IsNext};
+    ghost use Rattle.enc_outside.specs.MemSink.{sink_bytes};
 
     ghost written = { λ s. Some (sink_bytes s) };
 
@@ -72,8 +74,8 @@ impl Sink for MemSink {
         ensures ok { IfOk result (λ n. sink_bytes self.new ≡ sink_bytes self.old ++ take n bytes.now) }
         ensures err { OnErr result (sink_bytes self.new ≡ sink_bytes self.old) }
         ensures faults { Counts self.old.faults self.new.faults result }
-        ensures set { IsFailing self.old → IsErr result }
-        ensures next { IsNext self.old self.new }
+        ensures set { IsFailing self.old.calls → IsErr result }
+        ensures next { IsNext self.old.calls self.new.calls }
     {
         if !self.calls.count() && self.bytes.extend_from_slice(bytes).is_ok() {
             return Ok(bytes.len());
