@@ -105,36 +105,38 @@ fn keep_set<R: Threads + Sync, L: Ledger, D: Disk>(
     }
 }
 
-/// Commits the session's draft on the newest commit, or tells the draft's fault of form.
-pub(crate) fn commit<R: Threads + Sync, L: Ledger, D: Disk>(
-    rt: &R,
-    alloc: Global,
-    journal: &mut Journal<'_, D>,
-    session: &Session,
-    steps: &mut Steps<L>,
-) -> Result<Reply, KeepRefusal>
-    requires still { IsStill D.content D.images journal.old }
-    requires whole { journal.old.broken ≡ false }
-    requires room { length journal.old.book.entries < entry_limit }
-    requires lines { HaveLines session.now.edits.items }
-    requires short { length (edit_lines session.now.edits.items) ≤ text_limit }
-    requires few { length session.now.edits.items ≤ 50000 }
-    requires few_guards { length session.now.guards.items ≤ 50000 }
-    ensures still { IsStill D.content D.images journal.new }
-    ensures same_reference { journal.new.disk.ghost_name ≡ journal.old.disk.ghost_name }
-    ensures whole { OnOk result (journal.new.broken ≡ false) }
-    ensures stays_told { IsSome (D.content journal.old.disk.now) → IsSome (D.content journal.new.disk.now) }
-    ensures ok { IfOk result (IsEntered journal.old.book (offered journal.old.book session.now) journal.new.book) }
-    ensures err { IfErr result (IsStop (D.faults journal.old.disk.now) (D.faults journal.new.disk.now)) }
-    ensures moments { IfSome (D.content journal.old.disk.now)
-        (λ _. LeavesOnly D.moment D.left_since journal.old.disk.now journal.new.disk.now
-        (IsAround journal.old.book (offered journal.old.book session.now))) }
-    ensures no_fall { D.faults journal.old.disk.now ≤ D.faults journal.new.disk.now }
-{
-    let nall = journal.book().bench().head().nall;
-    match EditSet::make(alloc, &session.edits, &session.guards, nall) {
-        Ok(set) => keep_set(rt, alloc, journal, set, steps),
-        Err(FormRefusal::Fault(fault)) => tell_fault(alloc, journal, fault),
-        Err(FormRefusal::NoMemory) => Err(KeepRefusal::NoMemory),
+impl Session {
+    /// Commits the draft on the newest commit, or tells the draft's fault of form.
+    pub(crate) fn commit<R: Threads + Sync, L: Ledger, D: Disk>(
+        &self,
+        rt: &R,
+        alloc: Global,
+        journal: &mut Journal<'_, D>,
+        steps: &mut Steps<L>,
+    ) -> Result<Reply, KeepRefusal>
+        requires still { IsStill D.content D.images journal.old }
+        requires whole { journal.old.broken ≡ false }
+        requires room { length journal.old.book.entries < entry_limit }
+        requires lines { HaveLines self.now.edits.items }
+        requires short { length (edit_lines self.now.edits.items) ≤ text_limit }
+        requires few { length self.now.edits.items ≤ 50000 }
+        requires few_guards { length self.now.guards.items ≤ 50000 }
+        ensures still { IsStill D.content D.images journal.new }
+        ensures same_reference { journal.new.disk.ghost_name ≡ journal.old.disk.ghost_name }
+        ensures whole { OnOk result (journal.new.broken ≡ false) }
+        ensures stays_told { IsSome (D.content journal.old.disk.now) → IsSome (D.content journal.new.disk.now) }
+        ensures ok { IfOk result (IsEntered journal.old.book (offered journal.old.book self.now) journal.new.book) }
+        ensures err { IfErr result (IsStop (D.faults journal.old.disk.now) (D.faults journal.new.disk.now)) }
+        ensures moments { IfSome (D.content journal.old.disk.now)
+            (λ _. LeavesOnly D.moment D.left_since journal.old.disk.now journal.new.disk.now
+            (IsAround journal.old.book (offered journal.old.book self.now))) }
+        ensures no_fall { D.faults journal.old.disk.now ≤ D.faults journal.new.disk.now }
+    {
+        let nall = journal.book().bench().head().nall;
+        match EditSet::make(alloc, &self.edits, &self.guards, nall) {
+            Ok(set) => keep_set(rt, alloc, journal, set, steps),
+            Err(FormRefusal::Fault(fault)) => tell_fault(alloc, journal, fault),
+            Err(FormRefusal::NoMemory) => Err(KeepRefusal::NoMemory),
+        }
     }
 }

@@ -7,7 +7,7 @@ ghost use Rattle.crash_disk.specs.Disk.{LeavesOnly};
 ghost use Rattle.keep_run.specs.Sessions.{IsAround, IsDone, IsFit, draft_of, event_by};
 ghost use Rattle.keep_run.specs.Stops.{IsStop};
 
-use crate::ask::{commit, see};
+use crate::ask::see;
 use crate::session::Session;
 use book_journal::{Journal, KeepRefusal};
 use chain_topo::Steps;
@@ -47,7 +47,7 @@ pub(crate) fn serve<R: Threads + Sync, L: Ledger, D: Disk>(
             session.tell(reply)?;
         }
         Command::Commit => {
-            let reply = commit(rt, alloc, journal, session, steps)?;
+            let reply = session.commit(rt, alloc, journal, steps)?;
             session.clear(alloc);
             session.tell(reply)?;
         }
