@@ -33,6 +33,12 @@ IsWorkOf out (Ok kept) (Err status) = status ≡ NoMemory
 IsWorkOf out (Err why) (Ok work) = ⊥
 IsWorkOf out (Err why) (Err status) = status ≡ why
 
+-- files were only read
+pub record OnlyReads (before after : Option Files) (reads reads_now writes writes_now : ℕ) : Type 0 where
+  pub files : after ≡ before
+  pub read_faults : reads ≤ reads_now
+  pub write_faults : writes_now ≡ writes
+
 -- the cell and the script of the files, or the status at which they end the call
 abbrev pub InputIs : KeepForm → Files → Result (Cell × List Command) Status → Type 0
 InputIs form files = AndThen (CellIs form.cell files) (λ c. AndThen (ScriptIs 1 form.script files) (λ script answer. answer ≡ Ok (c, script)))

@@ -4,7 +4,7 @@ ghost use Rattle.std.specs.Prelude.{◌≡◌, ◌≤◌, IfErr, IfSome, IsSome,
 ghost use Rattle.crash_disk.specs.Disk.{LeavesOnly};
 ghost use Rattle.enc_outside.specs.Files.{StaysUntold};
 ghost use Rattle.call_files.specs.Outside.{outside};
-ghost use Rattle.keep_run.specs.Causes.{IsAskedIn, IsAskedOf, IsImageIn, IsImageOf, IsUntouched, IsWorkOf};
+ghost use Rattle.keep_run.specs.Causes.{IsAskedIn, IsAskedOf, IsImageIn, IsImageOf, IsUntouched, IsWorkOf, OnlyReads};
 ghost use Rattle.keep_run.specs.Ends.{IsEnd};
 ghost use Rattle.keep_run.specs.Words.{form_of, keep_form};
 
@@ -76,9 +76,8 @@ fn asked_keep<R: Threads + Sync, H: Shelf, D: Disk>(
     ensures untouched { IfErr result (λ status. IsUntouched status → disk.new ≡ disk.old) }
     ensures stays_told { IsSome (D.content disk.old) → IsSome (D.content disk.new) }
     ensures disk_faults { D.faults disk.old ≤ D.faults disk.new }
-    ensures files { H.files shelf.new ≡ H.files shelf.old }
-    ensures read_faults { H.read_faults shelf.old ≤ H.read_faults shelf.new }
-    ensures write_faults { H.write_faults shelf.new ≡ H.write_faults shelf.old }
+    ensures reads { OnlyReads (H.files shelf.old) (H.files shelf.new)
+        (H.read_faults shelf.old) (H.read_faults shelf.new) (H.write_faults shelf.old) (H.write_faults shelf.new) }
 {
     let [first, cell, out, _, script] = words else {
         return Err(Status::Usage);
@@ -114,9 +113,8 @@ fn kept_work<R: Threads + Sync, H: Shelf, D: Disk>(
     ensures untouched { IfErr result (λ status. IsUntouched status → disk.new ≡ disk.old) }
     ensures stays_told { IsSome (D.content disk.old) → IsSome (D.content disk.new) }
     ensures disk_faults { D.faults disk.old ≤ D.faults disk.new }
-    ensures files { H.files shelf.new ≡ H.files shelf.old }
-    ensures read_faults { H.read_faults shelf.old ≤ H.read_faults shelf.new }
-    ensures write_faults { H.write_faults shelf.new ≡ H.write_faults shelf.old }
+    ensures reads { OnlyReads (H.files shelf.old) (H.files shelf.new)
+        (H.read_faults shelf.old) (H.read_faults shelf.new) (H.write_faults shelf.old) (H.write_faults shelf.new) }
 {
     let checked = match read_cell(rt, alloc, shelf, cell) {
         Ok(checked) => checked,
