@@ -6,7 +6,7 @@ ghost use Rattle.book_journal.specs.Standing.{IsStill};
 ghost use Rattle.commit_book.specs.Books.{entry_limit, history_of};
 ghost use Rattle.crash_disk.specs.Disk.{LeavesOnly};
 ghost use Rattle.history_spec.specs.Steps.{commit as commit_event, faulty, view};
-ghost use Rattle.keep_run.specs.Sessions.{IsAround, IsEntered, offered};
+ghost use Rattle.keep_run.specs.Sessions.{IsAround, IsEntered, IsUnasked, offered};
 ghost use Rattle.keep_run.specs.Stops.{IsReplyOf, IsStop};
 
 use crate::session::Session;
@@ -37,14 +37,12 @@ fn reply_of(told: Result<Told, BookRefusal>) -> Result<Reply, KeepRefusal>
     }
 }
 
-/// Asks for the newest state. The disk isn't asked.
+/// Asks for the newest state.
 pub(crate) fn see<D: Disk>(alloc: Global, journal: &mut Journal<'_, D>) -> Result<Reply, KeepRefusal>
     requires still { IsStill D.content D.images journal.old }
     requires room { length journal.old.book.entries < entry_limit }
     ensures still { IsStill D.content D.images journal.new }
-    ensures same_reference { journal.new.disk.ghost_name ≡ journal.old.disk.ghost_name }
-    ensures disk { journal.new.disk.now ≡ journal.old.disk.now }
-    ensures broken { journal.new.broken ≡ journal.old.broken }
+    ensures unasked { IsUnasked journal.old journal.new }
     ensures ok { IfOk result (IsEntered journal.old.book view journal.new.book) }
     ensures err { IfErr result (λ why. why ≡ KeepRefusal.NoMemory) }
 {
@@ -52,7 +50,7 @@ pub(crate) fn see<D: Disk>(alloc: Global, journal: &mut Journal<'_, D>) -> Resul
     reply_of(journal.view(alloc, DESK, base))
 }
 
-/// Tells the fault of the session's draft. The disk isn't asked.
+/// Tells the fault of the session's draft.
 fn tell_fault<D: Disk>(
     alloc: Global,
     journal: &mut Journal<'_, D>,
@@ -61,9 +59,7 @@ fn tell_fault<D: Disk>(
     requires still { IsStill D.content D.images journal.old }
     requires room { length journal.old.book.entries < entry_limit }
     ensures still { IsStill D.content D.images journal.new }
-    ensures same_reference { journal.new.disk.ghost_name ≡ journal.old.disk.ghost_name }
-    ensures disk { journal.new.disk.now ≡ journal.old.disk.now }
-    ensures broken { journal.new.broken ≡ journal.old.broken }
+    ensures unasked { IsUnasked journal.old journal.new }
     ensures ok { IfOk result (IsEntered journal.old.book (faulty fault) journal.new.book) }
     ensures err { IfErr result (λ why. why ≡ KeepRefusal.NoMemory) }
 {
