@@ -38,7 +38,10 @@ fn reply_of(told: Result<Told, BookRefusal>) -> Result<Reply, KeepRefusal>
 }
 
 /// Asks for the newest state.
-pub(crate) fn see<D: Disk>(alloc: Global, journal: &mut Journal<'_, D>) -> Result<Reply, KeepRefusal>
+pub(crate) fn see<D: Disk>(
+    alloc: Global,
+    journal: &mut Journal<'_, D>,
+) -> Result<Reply, KeepRefusal>
     requires still { IsStill D.content D.images journal.old }
     requires room { length journal.old.book.entries < entry_limit }
     ensures still { IsStill D.content D.images journal.new }
