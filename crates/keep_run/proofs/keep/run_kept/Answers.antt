@@ -1,12 +1,12 @@
-use Rattle.std.proofs.Common.{List, ℕ, refl, subst, sym, ◌∙◌, arith}
+use Rattle.std.proofs.Common.{List, ℕ, length, refl, ap, subst, sym, ◌∙◌, arith}
 use Rattle.text_spec.specs.declared.command.Command.{Command}
 use Rattle.history_spec.specs.Served.{Draft, no_draft}
-use Rattle.commit_book.specs.Books.{history_of}
+use Rattle.commit_book.specs.Books.{BookState, history_of}
 use Rattle.keep_run.specs.Runs.{kept_history}
 use Rattle.keep_run.specs.Sessions.{IsRunTo, draft_of}
 use Rattle.keep_run.proofs.Going.{not_yet}
 use Rattle.keep_run.proofs.Looping.{at_start, ended, next_done, so_far}
-use Rattle.keep_run.proofs.Opened.{left_on}
+use Rattle.keep_run.proofs.Opened.{kept_with, left_on}
 use Rattle.keep_run.proofs.keep.run_kept.Goals as goal
 
 pub loop-command-init : goal.loop-command-init
@@ -67,15 +67,14 @@ loop-command-preserved g c =
 pub returns-clause-ok : goal.returns-clause-ok
 returns-clause-ok g c =
     let old = c.args.journal.now in
-    let run = ended old.book.opening (history_of old.book).commits c.args.script.now c.commands-command-items.result.now c.loop-command.command-index
-    c.loop-command.journal.book c.loop-command.session c.loop-command-test.false c.loop-command.invariant.run in
-    let cell_is = run.cell_is in
-    let lines_are = run.lines_are in
-    record {
-      text_is = grind (arith, cell_is, lines_are);
-      bytes_are = grind (arith, cell_is);
-      read_back = grind (arith, cell_is);
-      left = left_on g.D.Disk.content g.D.Disk.images old.book.opening
-          (kept_history old.book.opening (history_of old.book).commits c.args.script.now).commits c.loop-command.journal run.opening run.commits_are
-          c.loop-command.invariant.still c.loop-command.invariant.whole;
-    }
+    let commits = (history_of old.book).commits in
+    let script = c.args.script.now in
+    let new = c.loop-command.journal in
+    let run = ended old.book.opening commits script c.commands-command-items.result.now c.loop-command.command-index new.book c.loop-command.session
+    c.loop-command-test.false c.loop-command.invariant.run in
+    kept_with old.book.opening commits script new.book c.book-2.result.now c.loop-command.session.transcript c.into_transcript-transcript.result
+    c.commits-count.result c.in_ok-report.field-0 (g.D.Disk.content new.disk.now) (g.D.Disk.images new.disk.now) run
+    (c.commits-count.ensures ∙ ap (λ (b : BookState). length (history_of b).commits) c.book.ensures) c.book-2.ensures
+    c.into_transcript-transcript.ensures c.in_ok-report.ensures.text c.in_ok-report.ensures.bytes c.in_ok-report.ensures.read_back
+    (left_on g.D.Disk.content g.D.Disk.images old.book.opening (kept_history old.book.opening commits script).commits new run.opening run.commits_are
+    c.loop-command.invariant.still c.loop-command.invariant.whole)
