@@ -37,18 +37,22 @@ keep-requires-clause-writable g c κs within =
 
 pub returns-clause-asked : goal.returns-clause-asked
 returns-clause-asked g c =
-    session_asked (keep_form c.args.cell.now c.args.out.now c.args.script.now) (g.H.Shelf.files c.args.shelf.now)
-    (g.H.Shelf.read_faults c.args.shelf.now) (g.D.Disk.content c.args.disk.now) (g.D.Disk.content c.keep.new.disk) (g.D.Disk.faults c.args.disk.now)
-    (g.D.Disk.faults c.keep.new.disk) (g.D.Disk.images c.keep.new.disk) c.into_cell.result c.in-Ok-script_in_file.script
-    (given_of _ _ _ _ _ _ c.into_cell.ensures c.in-Ok.ensures.files c.in-Ok.ensures.tells c.in-Ok-script_in_file.ensures.tells)
+    let form = keep_form c.args.cell.now c.args.out.now c.args.script.now in
+    let disk = c.args.disk.now in
+    let new = c.keep.new.disk in
+    session_asked form (g.H.Shelf.files c.args.shelf.now) (g.H.Shelf.read_faults c.args.shelf.now) (g.D.Disk.content disk) (g.D.Disk.content new)
+    (g.D.Disk.faults disk) (g.D.Disk.faults new) (g.D.Disk.images new) c.into_cell.result c.in-Ok-script_in_file.script
+    (given_of form _ _ _ _ c.in-Ok-script_in_file.script c.into_cell.ensures c.in-Ok.ensures.files c.in-Ok.ensures.tells
+    c.in-Ok-script_in_file.ensures.tells)
     (g.H.Shelf.read_faults c.script_in_file.new.shelf) c.keep.result c.work_of.result c.keep.ensures.ok c.keep.ensures.err c.work_of.ensures
 
 pub returns-clause-moments : goal.returns-clause-moments
 returns-clause-moments g c =
-    kept_meanwhile g.D.Disk.moment g.D.Disk.left_since g.D.Disk.images (keep_form c.args.cell.now c.args.out.now c.args.script.now)
-    (g.H.Shelf.files c.args.shelf.now) (g.D.Disk.content c.args.disk.now) c.args.disk.now c.keep.new.disk c.into_cell.result
-    c.in-Ok-script_in_file.script
-    (given_of _ _ _ _ _ _ c.into_cell.ensures c.in-Ok.ensures.files c.in-Ok.ensures.tells c.in-Ok-script_in_file.ensures.tells) c.keep.ensures.moments
+    let form = keep_form c.args.cell.now c.args.out.now c.args.script.now in
+    kept_meanwhile g.D.Disk.moment g.D.Disk.left_since g.D.Disk.images form (g.H.Shelf.files c.args.shelf.now) (g.D.Disk.content c.args.disk.now)
+    c.args.disk.now c.keep.new.disk c.into_cell.result c.in-Ok-script_in_file.script
+    (given_of form _ _ _ _ c.in-Ok-script_in_file.script c.into_cell.ensures c.in-Ok.ensures.files c.in-Ok.ensures.tells
+    c.in-Ok-script_in_file.ensures.tells) c.keep.ensures.moments
 
 pub returns-clause-untouched : goal.returns-clause-untouched
 returns-clause-untouched g c =
