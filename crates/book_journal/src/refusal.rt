@@ -77,16 +77,6 @@ impl From<AllocError> for KeepRefusal {
     }
 }
 
-impl From<DiskFailed> for KeepRefusal {
-    ghost use Rattle.book_journal.specs.declared.refusal.KeepRefusal.TheVariants.{DiskFault};
-
-    ghost from_gives = { λ _ refusal. refusal ≡ DiskFault };
-
-    fn from(_failed: DiskFailed) -> KeepRefusal {
-        KeepRefusal::DiskFault
-    }
-}
-
 impl From<BookRefusal> for KeepRefusal {
     ghost use Rattle.book_journal.specs.Refusals.{keep_refusal_of};
 

@@ -3,7 +3,7 @@
 ghost use Rattle.std.specs.Prelude.{[], ◌≡◌, ◌≤◌, IfSome, OnOk, OnErr, string_bytes, Some};
 ghost use Rattle.enc_outside.specs.Count.{Rose};
 ghost use Rattle.enc_outside.specs.Files.{Told, StaysUntold, Writes};
-ghost use Rattle.call_files.specs.Output.{HasFront, IsBegun};
+ghost use Rattle.call_files.specs.Output.{HasFront, IsBegun, OnlyWrites};
 ghost use Rattle.call_files.specs.Outside.{IsDoneWork, outside};
 ghost use Rattle.call_files.specs.Task.{task_of};
 
@@ -18,9 +18,8 @@ fn append_all<H: Shelf>(shelf: &mut H, name: &str, bytes: &[u8]) -> Result<(), F
     ensures ok { OnOk result (Told (Writes name.now bytes.now) (H.files shelf.old) (H.files shelf.new)) }
     ensures err { OnErr result (Told (HasFront name.now bytes.now) (H.files shelf.old) (H.files shelf.new)) }
     ensures cause { OnErr result (Rose (H.write_faults shelf.old) (H.write_faults shelf.new)) }
-    ensures untold { StaysUntold (H.files shelf.old) (H.files shelf.new) }
-    ensures write_faults { H.write_faults shelf.old ≤ H.write_faults shelf.new }
-    ensures read_faults { H.read_faults shelf.new ≡ H.read_faults shelf.old }
+    ensures writes { OnlyWrites (H.files shelf.old) (H.files shelf.new)
+        (H.read_faults shelf.old) (H.read_faults shelf.new) (H.write_faults shelf.old) (H.write_faults shelf.new) }
 {
     let mut done = 0;
     while done < bytes.len() {
@@ -34,9 +33,8 @@ fn write_file<H: Shelf>(shelf: &mut H, name: &str, bytes: &[u8]) -> Result<(), F
     ensures ok { OnOk result (Told (Writes name.now bytes.now) (H.files shelf.old) (H.files shelf.new)) }
     ensures err { OnErr result (Told (IsBegun name.now bytes.now) (H.files shelf.old) (H.files shelf.new)) }
     ensures cause { OnErr result (Rose (H.write_faults shelf.old) (H.write_faults shelf.new)) }
-    ensures untold { StaysUntold (H.files shelf.old) (H.files shelf.new) }
-    ensures write_faults { H.write_faults shelf.old ≤ H.write_faults shelf.new }
-    ensures read_faults { H.read_faults shelf.new ≡ H.read_faults shelf.old }
+    ensures writes { OnlyWrites (H.files shelf.old) (H.files shelf.new)
+        (H.read_faults shelf.old) (H.read_faults shelf.new) (H.write_faults shelf.old) (H.write_faults shelf.new) }
 {
     shelf.make(name)?;
     append_all(shelf, name, bytes)
@@ -47,9 +45,8 @@ fn export_file<H: Shelf>(shelf: &mut H, export: &Export) -> Result<(), Failed>
     ensures ok { OnOk result (Told (Writes (string_bytes export.now.name) export.now.bytes.items) (H.files shelf.old) (H.files shelf.new)) }
     ensures err { OnErr result (Told (IsBegun (string_bytes export.now.name) export.now.bytes.items) (H.files shelf.old) (H.files shelf.new)) }
     ensures cause { OnErr result (Rose (H.write_faults shelf.old) (H.write_faults shelf.new)) }
-    ensures untold { StaysUntold (H.files shelf.old) (H.files shelf.new) }
-    ensures write_faults { H.write_faults shelf.old ≤ H.write_faults shelf.new }
-    ensures read_faults { H.read_faults shelf.new ≡ H.read_faults shelf.old }
+    ensures writes { OnlyWrites (H.files shelf.old) (H.files shelf.new)
+        (H.read_faults shelf.old) (H.read_faults shelf.new) (H.write_faults shelf.old) (H.write_faults shelf.new) }
 {
     write_file(shelf, export.name.as_str(), &export.bytes)
 }

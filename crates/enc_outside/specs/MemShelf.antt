@@ -1,5 +1,5 @@
 -- What a file store in memory shows.
-use Rattle.std.specs.Prelude.{ℕ, ◌≡◌, ◌+◌, ◌^◌, min}
+use Rattle.std.specs.Prelude.{ℕ}
 use Rattle.enc_outside.specs.Files.{Files}
 use Rattle.enc_outside.specs.MemFiles.{files_of}
 use Rattle.enc_outside.specs.declared.mem_shelf.MemShelf.{MemShelf}
@@ -8,25 +8,9 @@ use Rattle.enc_outside.specs.declared.mem_shelf.MemShelf.{MemShelf}
 abbrev pub mem_files : MemShelf → Files
 mem_files shelf = files_of shelf.files
 
--- the number of its next call, from 1, and of the call that is to fail
-abbrev pub next_call : MemShelf → ℕ
-next_call shelf = shelf.calls + 1
-
-abbrev pub failing_call : MemShelf → ℕ
-failing_call shelf = shelf.failing
-
 -- how often a read and a write failed
 abbrev pub failed_reads : MemShelf → ℕ
 failed_reads shelf = shelf.read_faults
 
 abbrev pub failed_writes : MemShelf → ℕ
 failed_writes shelf = shelf.write_faults
-
--- the next call is to fail
-abbrev pub IsFailing : MemShelf → Type 0
-IsFailing shelf = next_call shelf ≡ failing_call shelf
-
--- one call later: the same call is to fail
-pub record IsNext (old new : MemShelf) : Type 0 where
-  pub counted : next_call new ≡ min (next_call old + 1) (2 ^ 64)
-  pub failing : failing_call new ≡ failing_call old

@@ -2,6 +2,7 @@
 //! contract says when a call may fail and what it leaves, with stand-ins in memory.
 #![tactic(auto)]
 
+mod calls;
 mod meet;
 mod mem_shelf;
 mod mem_sink;

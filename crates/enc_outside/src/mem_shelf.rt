@@ -5,6 +5,7 @@ ghost use Rattle.enc_outside.specs.Files.{Writes, AppendsTo, SameFiles};
 ghost use Rattle.enc_outside.specs.MemFiles.{files_of};
 ghost use Rattle.enc_outside.specs.Shelf.{TellsFile, FitsGot};
 
+use crate::calls::Calls;
 use crate::shelf::{Failed, Got, Shelf};
 use std::alloc::{AllocError, Global};
 use std::collections::BTreeMap;
@@ -61,31 +62,33 @@ pub(crate) fn read_content(content: &[u8], at: usize, into: &mut [u8]) -> Got
 pub struct MemShelf {
     alloc: Global,
     files: BTreeMap<String, Vec<u8>>,
-    calls: u64,
-    failing: u64,
+    calls: Calls,
     read_faults: u64,
     write_faults: u64,
 }
 
 impl MemShelf {
-    ghost use Rattle.std.specs.Prelude.{◌≡◌, ◌+◌, None, OnOk, OnErr, IsTrue, ◌↔◌};
+    ghost use Rattle.std.specs.Prelude.{◌≡◌, None, OnOk, OnErr};
     ghost use Rattle.std.specs.Option.{option_copied};
     ghost use Rattle.enc_outside.specs.Files.{Writes, SameFiles};
-    ghost use Rattle.enc_outside.specs.MemShelf.{mem_files, next_call, failing_call, failed_reads, failed_writes, IsFailing, IsNext};
+    ghost use Rattle.enc_outside.specs.Calls.{next_of};
+    ghost use Rattle.enc_outside.specs.MemShelf.{mem_files, failed_reads, failed_writes};
 
     /// A store without files, of which no call fails.
     pub fn make(alloc: Global) -> MemShelf
         ensures files { (name : _) → mem_files result name ≡ None }
-        ensures calls { next_call result ≡ 1 }
-        ensures failing { failing_call result ≡ 0 }
+        ensures calls { next_of result.calls ≡ 1 }
+        ensures failing { result.calls.failing ≡ 0 }
         ensures read_faults { failed_reads result ≡ 0 }
         ensures write_faults { failed_writes result ≡ 0 }
     {
         MemShelf {
             alloc,
             files: BTreeMap::new(alloc),
-            calls: 0,
-            failing: 0,
+            calls: Calls {
+                done: 0,
+                failing: 0,
+            },
             read_faults: 0,
             write_faults: 0,
         }
@@ -97,8 +100,7 @@ impl MemShelf {
     pub fn place(&mut self, name: &str, bytes: &[u8]) -> Result<(), AllocError>
         ensures ok { OnOk result (Writes name.now bytes.now (mem_files self.old) (mem_files self.new)) }
         ensures err { OnErr result (SameFiles (mem_files self.old) (mem_files self.new)) }
-        ensures calls { next_call self.new ≡ next_call self.old }
-        ensures failing { failing_call self.new ≡ failing_call self.old }
+        ensures calls { self.new.calls ≡ self.old.calls }
         ensures read_faults { failed_reads self.new ≡ failed_reads self.old }
         ensures write_faults { failed_writes self.new ≡ failed_writes self.old }
     {
@@ -109,12 +111,12 @@ impl MemShelf {
     /// Has one call fail, by its number from 1 over all calls as a file store; 0 fails none.
     pub fn fail_at(&mut self, call: u64)
         ensures files { mem_files self.new ≡ mem_files self.old }
-        ensures calls { next_call self.new ≡ next_call self.old }
-        ensures failing { failing_call self.new ≡ call }
+        ensures calls { next_of self.new.calls ≡ next_of self.old.calls }
+        ensures failing { self.new.calls.failing ≡ call }
         ensures read_faults { failed_reads self.new ≡ failed_reads self.old }
         ensures write_faults { failed_writes self.new ≡ failed_writes self.old }
     {
-        self.failing = call;
+        self.calls.failing = call;
     }
 
     /// The content of a file.
@@ -133,25 +135,15 @@ impl MemShelf {
     {
         (self.alloc, self.files)
     }
-
-    /// Counts a call, and says whether it is to fail.
-    fn count_call(&mut self) -> bool
-        ensures stays { self.new ≡ record self.old { calls = self.new.calls } }
-        ensures fails { IsTrue result ↔ IsFailing self.old }
-        ensures next { IsNext self.old self.new }
-    {
-        let failing = self.calls < u64::MAX && self.calls + 1 == self.failing;
-        self.calls = self.calls.saturating_add(1);
-        failing
-    }
 }
 
 impl Shelf for MemShelf {
     ghost use Rattle.std.specs.Prelude.{◌≡◌, Some, None, [], take};
     ghost use Rattle.std.specs.Prelude.{◌<◌, ◌↔◌, IfOk, IfSome, OnOk, OnErr, IsErr, IsSome, length};
+    ghost use Rattle.enc_outside.specs.Calls.{IsFailing, IsNext};
     ghost use Rattle.enc_outside.specs.Count.{Counts};
     ghost use Rattle.enc_outside.specs.Files.{Writes, AppendsTo, MayEmpty, SameFiles};
-    ghost use Rattle.enc_outside.specs.MemShelf.{mem_files, IsFailing, IsNext};
+    ghost use Rattle.enc_outside.specs.MemShelf.{mem_files};
     ghost use Rattle.enc_outside.specs.Shelf.{TellsFile, FitsGot};
     ghost use Rattle.enc_outside.specs.Sink.{Took};
 
@@ -169,10 +161,10 @@ impl Shelf for MemShelf {
         ensures files { mem_files self.new ≡ mem_files self.old }
         ensures read_faults { Counts self.old.read_faults self.new.read_faults result }
         ensures write_faults { self.new.write_faults ≡ self.old.write_faults }
-        ensures set { IsErr result ↔ IsFailing self.old }
-        ensures next { IsNext self.old self.new }
+        ensures set { IsErr result ↔ IsFailing self.old.calls }
+        ensures next { IsNext self.old.calls self.new.calls }
     {
-        if self.count_call() {
+        if self.calls.count() {
             self.read_faults = self.read_faults.saturating_add(1);
             return Err(Failed);
         }
@@ -188,10 +180,10 @@ impl Shelf for MemShelf {
         ensures err { OnErr result (SameFiles (mem_files self.old) (mem_files self.new)) }
         ensures read_faults { self.new.read_faults ≡ self.old.read_faults }
         ensures write_faults { Counts self.old.write_faults self.new.write_faults result }
-        ensures set { IsFailing self.old → IsErr result }
-        ensures next { IsNext self.old self.new }
+        ensures set { IsFailing self.old.calls → IsErr result }
+        ensures next { IsNext self.old.calls self.new.calls }
     {
-        if !self.count_call()
+        if !self.calls.count()
             && put_file(self.alloc, &mut self.files, name, Vec::new(self.alloc)).is_ok()
         {
             return Ok(());
@@ -209,10 +201,10 @@ impl Shelf for MemShelf {
         ensures err { OnErr result (SameFiles (mem_files self.old) (mem_files self.new)) }
         ensures read_faults { self.new.read_faults ≡ self.old.read_faults }
         ensures write_faults { Counts self.old.write_faults self.new.write_faults result }
-        ensures set { IsFailing self.old → IsErr result }
-        ensures next { IsNext self.old self.new }
+        ensures set { IsFailing self.old.calls → IsErr result }
+        ensures next { IsNext self.old.calls self.new.calls }
     {
-        if !self.count_call() && append_file(&mut self.files, name, bytes).is_ok() {
+        if !self.calls.count() && append_file(&mut self.files, name, bytes).is_ok() {
             return Ok(bytes.len());
         }
         self.write_faults = self.write_faults.saturating_add(1);

@@ -2,6 +2,7 @@
 
 ghost use Rattle.std.specs.Prelude.{◌≡◌, ◌+◌, ◌<◌, ◌++◌, [], Some, length, take, OnOk, OnErr};
 
+use crate::calls::Calls;
 use crate::shelf::Failed;
 use crate::sink::Sink;
 use std::alloc::Global;
@@ -10,26 +11,28 @@ use std::alloc::Global;
 #[derive(Drop)]
 pub struct MemSink {
     bytes: Vec<u8>,
-    calls: u64,
-    failing: u64,
+    calls: Calls,
     faults: u64,
 }
 
 impl MemSink {
     ghost use Rattle.std.specs.Prelude.{◌≡◌, []};
-    ghost use Rattle.enc_outside.specs.MemSink.{sink_bytes, next_put, failing_put, failed_puts};
+    ghost use Rattle.enc_outside.specs.Calls.{next_of};
+    ghost use Rattle.enc_outside.specs.MemSink.{sink_bytes, failed_puts};
 
     /// A sink to which nothing was written, and of which no call fails.
     pub fn make(alloc: Global) -> MemSink
         ensures bytes { sink_bytes result ≡ [] }
-        ensures calls { next_put result ≡ 1 }
-        ensures failing { failing_put result ≡ 0 }
+        ensures calls { next_of result.calls ≡ 1 }
+        ensures failing { result.calls.failing ≡ 0 }
         ensures faults { failed_puts result ≡ 0 }
     {
         MemSink {
             bytes: Vec::new(alloc),
-            calls: 0,
-            failing: 0,
+            calls: Calls {
+                done: 0,
+                failing: 0,
+            },
             faults: 0,
         }
     }
@@ -37,11 +40,11 @@ impl MemSink {
     /// Has one call fail, by its number from 1 over all calls as a sink; 0 fails none.
     pub fn fail_at(&mut self, call: u64)
         ensures bytes { sink_bytes self.new ≡ sink_bytes self.old }
-        ensures calls { next_put self.new ≡ next_put self.old }
-        ensures failing { failing_put self.new ≡ call }
+        ensures calls { next_of self.new.calls ≡ next_of self.old.calls }
+        ensures failing { self.new.calls.failing ≡ call }
         ensures faults { failed_puts self.new ≡ failed_puts self.old }
     {
-        self.failing = call;
+        self.calls.failing = call;
     }
 
     /// The bytes that were written.
@@ -57,7 +60,8 @@ impl Sink for MemSink {
     ghost use Rattle.enc_outside.specs.Count.{Counts};
     ghost use Rattle.enc_outside.specs.Files.{Told, StaysUntold};
     ghost use Rattle.enc_outside.specs.Sink.{Took};
-    ghost use Rattle.enc_outside.specs.MemSink.{sink_bytes, IsFailing, IsNext};
+    ghost use Rattle.enc_outside.specs.Calls.{IsFailing, IsNext};
+    ghost use Rattle.enc_outside.specs.MemSink.{sink_bytes};
 
     ghost written = { λ s. Some (sink_bytes s) };
 
@@ -70,12 +74,10 @@ impl Sink for MemSink {
         ensures ok { IfOk result (λ n. sink_bytes self.new ≡ sink_bytes self.old ++ take n bytes.now) }
         ensures err { OnErr result (sink_bytes self.new ≡ sink_bytes self.old) }
         ensures faults { Counts self.old.faults self.new.faults result }
-        ensures set { IsFailing self.old → IsErr result }
-        ensures next { IsNext self.old self.new }
+        ensures set { IsFailing self.old.calls → IsErr result }
+        ensures next { IsNext self.old.calls self.new.calls }
     {
-        let failing = self.calls < u64::MAX && self.calls + 1 == self.failing;
-        self.calls = self.calls.saturating_add(1);
-        if !failing && self.bytes.extend_from_slice(bytes).is_ok() {
+        if !self.calls.count() && self.bytes.extend_from_slice(bytes).is_ok() {
             return Ok(bytes.len());
         }
         self.faults = self.faults.saturating_add(1);

@@ -80,3 +80,10 @@ module _ (book : BookState) (set : GuardedEdits) where
         → IfSome content (λ _. LeavesOnly moment left_since old new (IsAround book event))
     while_kept leaves = if_some _ _ content leaves (λ file told is.
         weakened moment left_since old new (HasOrHasNot book.opening h.commits one) (IsAround book event) is around_of)
+
+    -- the same where the set that was committed is this one
+    pub while_kept_as : (given : GuardedEdits) → given ≡ set
+        → IfSome content (λ _. LeavesOnly moment left_since old new (HasOrHasNot book.opening h.commits (record { desk = 1; edits = given.edits })))
+        → IfSome content (λ _. LeavesOnly moment left_since old new (IsAround book event))
+    while_kept_as given same leaves = while_kept (subst (λ (s : GuardedEdits). IfSome content (λ _. LeavesOnly moment left_since old new
+        (HasOrHasNot book.opening h.commits (record { desk = 1; edits = s.edits })))) same leaves)

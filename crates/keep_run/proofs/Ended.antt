@@ -1,34 +1,24 @@
 -- What the end of a call tells, whatever ended it.
-use Rattle.std.proofs.Common.{◌≡◌, ◌↔◌, ℕ, List, Option, None, Ok, Err, refl, subst, sym}
+use Rattle.std.proofs.Common.{◌≡◌, ℕ, List, Option, Ok, Err, refl, subst, sym}
 use Rattle.enc_outside.specs.Files.{Files}
 use Rattle.report_text.specs.declared.status.Status.{Status}
-use Rattle.report_text.specs.declared.status.Status.TheVariants.{Usage}
 use Rattle.call_files.specs.Outside.{IsDoneWork, Outside, outside}
 use Rattle.call_files.specs.Task.{task_of}
 use Rattle.call_files.specs.declared.work.Work.{Work}
 use Rattle.call_files.proofs.DoneWork.{done_still}
-use Rattle.keep_run.specs.Causes.{IsAskedIn, IsCause, IsExact, IsReadBackFrom}
-use Rattle.keep_run.specs.Complete.{IsComplete}
+use Rattle.keep_run.specs.Causes.{IsAskedIn, IsCause}
+use Rattle.keep_run.specs.Ends.{IsEnd}
 use Rattle.keep_run.specs.Words.{form_of}
 use Rattle.keep_run.proofs.Exact.{HasOneReading, done_cause, refused_cause}
 use Rattle.keep_run.proofs.Whole.{back, complete, exact, usage}
 
--- what a status tells of the words, of the outside before and after, and of the journal
-pub record IsEnd (words : List (List ℕ)) (before after : Outside) (content now : Option (List ℕ)) (faults faults_now : ℕ)
-    (images : List ℕ → Type 0) (status : Status) : Type 0 where
-  pub cause : IsCause words before after content now faults faults_now images status
-  pub exact : IsExact words before after content faults faults_now status
-  pub complete : HasOneReading → IsComplete words before after content faults faults_now status
-  pub read_back : IsReadBackFrom words before.files after.files content status
-  pub usage : (status ≡ Usage) ↔ (form_of words ≡ None)
-
-module _ (words : List (List ℕ)) (content now : Option (List ℕ)) (faults faults_now : ℕ) (images : List ℕ → Type 0) where
+module _ (words : List (List ℕ)) (content now : Option (List ℕ)) (faults faults_now : ℕ) (images : List ℕ → Type 0) (one : HasOneReading) where
   end_of : (before after : Outside) (status : Status) → IsCause words before after content now faults faults_now images status
       → IsEnd words before after content now faults faults_now images status
   end_of before after status given = record {
     cause = given;
     exact = exact words before after content now faults faults_now images status given;
-    complete = complete words before after content now faults faults_now images status given;
+    complete = complete words before after content now faults faults_now images status given one;
     read_back = back words before after content now faults faults_now images status given;
     usage = usage words before after content now faults faults_now images status given;
   }

@@ -146,6 +146,10 @@ module _ (before after : Outside) (content now : Option (List ℕ)) (faults faul
     no_cut task (inl text) = smooth.puts text.rose
     no_cut task (inr out) = smooth.writes out.rose
 
+    journal_ends_it : (form : KeepForm) (c : Cell) (script : List Command) (status : Status) → AreGiven form before.files c script
+        → JournalIs c file (Err status) → KeepIs form files file (Err status)
+    journal_ends_it form c script status given bad = inl ((c, script), given_is form c script given, inr (status, bad, refl))
+
     expected_of : (form : KeepForm) (status : Status) → IsCauseOf form before after content now faults faults_now images status
         → IsExpectedOf form files file status ⊎ (status ≡ NoMemory)
     expected_of form Done cause = inl (
@@ -170,21 +174,11 @@ module _ (before after : Outside) (content now : Option (List ℕ)) (faults faul
     expected_of form (BadUpdate fault) cause = absurd cause.1
     expected_of form (Refused refusal) cause = absurd cause.1
     expected_of form (BadJournal place) cause =
-        let end = cause.1 in inl (inl (
-          (end.start, end.script),
-          given_is form end.start end.script end.given,
-          inr
-              (BadJournal place, at_bytes _ end.ends, refl),
-        ))
+        let end = cause.1 in inl (journal_ends_it form end.start end.script (BadJournal place) end.given (at_bytes _ end.ends))
     expected_of form DiskFault cause = absurd (calm cause.1.rose)
     expected_of form (OpRefused why) cause = absurd cause.1
     expected_of form (JournalFull count) cause =
-        let end = cause.1 in inl (inl (
-          (end.start, end.script),
-          given_is form end.start end.script end.given,
-          inr
-              (JournalFull count, at_bytes _ end.ends, refl),
-        ))
+        let end = cause.1 in inl (journal_ends_it form end.start end.script (JournalFull count) end.given (at_bytes _ end.ends))
 
     pub expected : (form : Option KeepForm) (status : Status) → IsCauseIn form before after content now faults faults_now images status
         → IsExpectedIn form files file status ⊎ (status ≡ NoMemory)

@@ -1,5 +1,5 @@
 -- A journal that is opened and kept: what ends it, what it gives, and what a crash leaves meanwhile.
-use Rattle.std.proofs.Common.{◌≡◌, inl, inr, false, ℕ, ◌≤◌, List, Option, None, Some, Result, Ok, Err, IfOk, OnOk, refl, subst, arith}
+use Rattle.std.proofs.Common.{◌≡◌, inl, inr, false, ℕ, ◌≤◌, List, length, Option, None, Some, Ok, refl, ap, ◌∙◌, subst, arith}
 use Rattle.std.specs.Prelude.{IfSome, IsSome}
 use Rattle.std.proofs.lemmas.Bool.{false≢true}
 use Rattle.call_files.proofs.Answered.{rose_earlier}
@@ -7,7 +7,9 @@ use Rattle.s57_types.specs.declared.cell.Cell.{Cell}
 use Rattle.rule_spec.specs.Findings.{finding_total}
 use Rattle.text_spec.specs.declared.command.Command.{Command}
 use Rattle.history_spec.specs.Steps.{AcceptedCommit, finding_limit}
-use Rattle.commit_book.specs.Books.{history_of}
+use Rattle.file_spec.specs.DecodedCell.{decoded_cell}
+use Rattle.file_spec.specs.EncodedCell.{encoded_cell}
+use Rattle.commit_book.specs.Books.{BookState, history_of}
 use Rattle.crash_disk.specs.Disk.{LeavesOnly}
 use Rattle.crash_disk.proofs.Moments.{then, weakened}
 use Rattle.book_journal.specs.Journals.{IsJournalOf, IsListOf}
@@ -15,15 +17,16 @@ use Rattle.book_journal.specs.Keeping.{IsAsBefore}
 use Rattle.book_journal.specs.Opening.{IsOpenRefusal, LeavesBytes}
 use Rattle.book_journal.specs.Standing.{IsStill}
 use Rattle.book_journal.specs.declared.journal.Journal.{Journal}
+use Rattle.book_journal.specs.declared.refusal.KeepRefusal.{KeepRefusal}
+use Rattle.book_journal.specs.declared.refusal.KeepRefusal.TheVariants as keep_refusal
 use Rattle.book_journal.specs.declared.refusal.OpenRefusal.{OpenRefusal}
 use Rattle.book_journal.specs.declared.refusal.OpenRefusal.TheVariants.{BadJournal, DiskFault, JournalFull, FindingsFull, NoMemory}
 use Rattle.book_journal.proofs.Told.{if_some}
-use Rattle.keep_run.specs.Keeps.{IsKeepEnd, IsKeptImage, IsKeptOn, IsKeptRun, IsOpenEnd, status_of, stop_status}
-use Rattle.keep_run.specs.Runs.{IsKeptTo}
-use Rattle.keep_run.specs.Stops.{IsStop}
+use Rattle.keep_run.specs.Keeps.{IsKeepEnd, IsKeptImage, IsKeptOn, IsLeftWith, IsOpenEnd, status_of, stop_status}
+use Rattle.keep_run.specs.Runs.{IsKeptTo, kept_history, text_of}
+use Rattle.keep_run.specs.Sessions.{IsRun}
+use Rattle.keep_run.specs.Stops.{IsStop, IsStopOf}
 use Rattle.keep_run.specs.declared.report.Kept.{Kept}
-use Rattle.keep_run.specs.declared.stop.Stop.{Stop}
-use Rattle.keep_run.specs.declared.stop.Stop.TheVariants as stop
 
 -- ---- a journal that isn't opened
 module _ (c : Cell) (before now : Option (List ℕ)) (faults faults_now : ℕ) (few : finding_total c ≤ finding_limit) where
@@ -44,27 +47,47 @@ module _ (c : Cell) (before now : Option (List ℕ)) (faults faults_now : ℕ) (
   open_ends NoMemory is left = tt
 
 -- ---- a script that doesn't go on
-pub stop_ends : (c : Cell) (before now : Option (List ℕ)) (faults mid faults_now : ℕ) (why : Stop) → faults ≤ mid → IsStop mid faults_now why
+pub stop_is : (mid faults_now : ℕ) (why : KeepRefusal) → IsStop mid faults_now why → IsStopOf why
+stop_is mid faults_now keep_refusal.DiskFault is = tt
+stop_is mid faults_now keep_refusal.NoMemory is = tt
+stop_is mid faults_now keep_refusal.Broken is = is
+stop_is mid faults_now (keep_refusal.EntryTooLong bytes) is = is
+stop_is mid faults_now keep_refusal.LogFull is = is
+
+pub stop_ends : (c : Cell) (before now : Option (List ℕ)) (faults mid faults_now : ℕ) (why : KeepRefusal) → faults ≤ mid → IsStop mid faults_now why
     → IsKeepEnd c before now faults faults_now (stop_status why)
-stop_ends c before now faults mid faults_now stop.DiskFault le is = rose_earlier faults mid faults_now le is
-stop_ends c before now faults mid faults_now stop.NoMemory le is = tt
+stop_ends c before now faults mid faults_now keep_refusal.DiskFault le is = rose_earlier faults mid faults_now le is
+stop_ends c before now faults mid faults_now keep_refusal.NoMemory le is = tt
+stop_ends c before now faults mid faults_now keep_refusal.Broken le is = absurd is
+stop_ends c before now faults mid faults_now (keep_refusal.EntryTooLong bytes) le is = absurd is
+stop_ends c before now faults mid faults_now keep_refusal.LogFull le is = absurd is
 
 -- ---- a script that was run
-pub kept_on : {D : Type 0} (content : D → Option (List ℕ)) (images : D → List ℕ → Type 0) (c : Cell) (commits : List AcceptedCommit) (script : List Command)
-    (journal : Journal D) (result : Result Kept Stop) → IfOk result (IsKeptRun c commits script journal.book) → IsStill content images journal
-    → OnOk result (journal.broken ≡ false)
-    → IfOk result (IsKeptOn c commits script (content journal.disk.now) (images journal.disk.now))
-kept_on content images c commits script journal (Ok kept) run still whole = record {
-  text_is = run.text_is;
-  bytes_are = run.bytes_are;
-  read_back = run.read_back;
-  left = if_some _ _ (content journal.disk.now) (still.standing whole) (λ file told standing. (
-    inr (subst (λ (l : List AcceptedCommit). IsListOf c file l) run.commits_are
-        (subst (λ (d : Cell). IsListOf d file (history_of journal.book).commits) run.opening standing.list)),
-    standing.kept,
-  ));
-}
-kept_on content images c commits script journal (Err why) run still whole = tt
+pub left_on : {D : Type 0} (content : D → Option (List ℕ)) (images : D → List ℕ → Type 0) (c : Cell) (commits : List AcceptedCommit) (journal : Journal D)
+    → journal.book.opening ≡ c → (history_of journal.book).commits ≡ commits → IsStill content images journal → journal.broken ≡ false
+    → IsLeftWith c commits (content journal.disk.now) (images journal.disk.now)
+left_on content images c commits journal opening commits_are still whole =
+    if_some _ _ (content journal.disk.now) (still.standing whole) (λ file told standing. (
+      inr (subst (λ (l : List AcceptedCommit). IsListOf c file l) commits_are
+          (subst (λ (d : Cell). IsListOf d file (history_of journal.book).commits) opening standing.list)),
+      standing.kept,
+    ))
+
+-- what is told of the book that it left, where the book and the lines are given again
+pub kept_with : (c : Cell) (commits : List AcceptedCommit) (script : List Command) (book told : BookState) (lines told_lines : List ℕ) (count : ℕ) (kept : Kept)
+    (now : Option (List ℕ)) (images : List ℕ → Type 0) → IsRun c commits script book lines → count ≡ length commits → told ≡ book → told_lines ≡ lines
+    → kept.text.items ≡ text_of count told_lines (history_of told).cell → kept.bytes.items ≡ encoded_cell (history_of told).cell
+    → decoded_cell (encoded_cell (history_of told).cell) ≡ Ok (history_of told).cell → IsLeftWith c (kept_history c commits script).commits now images
+    → IsKeptOn c commits script now images kept
+kept_with c commits script book told lines told_lines count kept now images run count_is told_is same_lines text bytes read_back left =
+    let cell_is = ap (λ (b : BookState). (history_of b).cell) told_is ∙ run.cell_is in
+    let lines_are = same_lines ∙ run.lines_are in
+    record {
+      text_is = text ∙ (λ i. text_of (count_is i) (lines_are i) (cell_is i));
+      bytes_are = bytes ∙ ap encoded_cell cell_is;
+      read_back = subst (λ (d : Cell). decoded_cell (encoded_cell d) ≡ Ok d) cell_is read_back;
+      left = left;
+    }
 
 -- ---- what a crash leaves
 module _ {D : Type 0} (moment : D → ℕ) (left_since : D → ℕ → List ℕ → Type 0) (content : D → Option (List ℕ)) (images : D → List ℕ → Type 0) (c : Cell)

@@ -46,3 +46,9 @@ module _ (words : List (String Global)) (first cell out script : String Global) 
   pub keep_words : is_word (codes "keep") (string_bytes first) ≡ true
       → form_of (map string_bytes words) ≡ Some (keep_form (string_bytes cell) (string_bytes out) (string_bytes script))
   keep_words same = five words first cell out script count is_first is_cell is_out is_script ∙ ap choice same
+
+  -- the same of texts that are those of the words, where the test was of the first one's
+  pub told_words : (text a b d : List ℕ) → text ≡ string_bytes first → true ≡ is_word (codes "keep") text → a ≡ string_bytes cell → b ≡ string_bytes out
+      → d ≡ string_bytes script → form_of (map string_bytes words) ≡ Some (keep_form a b d)
+  told_words text a b d is_text same is_a is_b is_d =
+      keep_words (ap (is_word (codes "keep")) (sym is_text) ∙ sym same) ∙ (λ i. Some (keep_form (sym is_a i) (sym is_b i) (sym is_d i)))

@@ -19,11 +19,25 @@ use Rattle.report_text.specs.declared.status.Status.TheVariants.{TooManyFindings
 use Rattle.keep_run.specs.Keeps.{IsKeptImage, IsLeftWith, IsTooLong}
 use Rattle.keep_run.specs.Runs.{kept_history, kept_text}
 use Rattle.keep_run.specs.Words.{KeepForm, form_of}
+use Rattle.keep_run.specs.declared.report.Kept.{Kept}
 
 -- the text of a script over the commits of a journal is put, and the cell that is left is written under a name
 abbrev pub kept_task : List ℕ → Cell → List AcceptedCommit → List Command → Task
 kept_task out c commits script =
     record { text = kept_text c commits script; file = Some (out, encoded_cell (kept_history c commits script).cell) }
+
+-- what is left of a session to put and to write under a name, or why there is nothing
+abbrev pub IsWorkOf : List ℕ → Result Kept Status → Result Work Status → Type 0
+IsWorkOf out (Ok kept) (Ok work) = task_of work ≡ record { text = kept.text.items; file = Some (out, kept.bytes.items) }
+IsWorkOf out (Ok kept) (Err status) = status ≡ NoMemory
+IsWorkOf out (Err why) (Ok work) = ⊥
+IsWorkOf out (Err why) (Err status) = status ≡ why
+
+-- files were only read
+pub record OnlyReads (before after : Option Files) (reads reads_now writes writes_now : ℕ) : Type 0 where
+  pub files : after ≡ before
+  pub read_faults : reads ≤ reads_now
+  pub write_faults : writes_now ≡ writes
 
 -- the cell and the script of the files, or the status at which they end the call
 abbrev pub InputIs : KeepForm → Files → Result (Cell × List Command) Status → Type 0

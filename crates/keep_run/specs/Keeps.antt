@@ -6,18 +6,17 @@ use Rattle.file_spec.specs.EncodedCell.{encoded_cell}
 use Rattle.enc_outside.specs.Count.{Rose}
 use Rattle.text_spec.specs.declared.command.Command.{Command}
 use Rattle.history_spec.specs.Steps.{AcceptedCommit}
-use Rattle.commit_book.specs.Books.{BookState, history_of}
 use Rattle.crash_disk.specs.Disk.{Only}
 use Rattle.book_journal.specs.Journals.{IsDamagedAt, IsJournalOf}
 use Rattle.book_journal.specs.Keeping.{IsAsBefore, commit_limit}
+use Rattle.book_journal.specs.declared.refusal.KeepRefusal.{KeepRefusal}
+use Rattle.book_journal.specs.declared.refusal.KeepRefusal.TheVariants as keep_refusal
 use Rattle.book_journal.specs.declared.refusal.OpenRefusal.{OpenRefusal}
 use Rattle.book_journal.specs.declared.refusal.OpenRefusal.TheVariants as open_refusal
 use Rattle.report_text.specs.declared.status.Status.{Status}
 use Rattle.report_text.specs.declared.status.Status.TheVariants.{BadJournal, DiskFault, JournalFull, NoMemory}
 use Rattle.keep_run.specs.Runs.{IsKeptTo, kept_history, kept_text}
 use Rattle.keep_run.specs.declared.report.Kept.{Kept}
-use Rattle.keep_run.specs.declared.stop.Stop.{Stop}
-use Rattle.keep_run.specs.declared.stop.Stop.TheVariants as stop
 
 -- why a journal isn't opened, where its cell has not too many findings
 abbrev pub IsOpenEnd : OpenRefusal → Type 0
@@ -31,23 +30,16 @@ status_of (open_refusal.JournalFull count) = JournalFull count
 status_of open_refusal.FindingsFull = NoMemory
 status_of open_refusal.NoMemory = NoMemory
 
-abbrev pub stop_status : Stop → Status
-stop_status stop.DiskFault = DiskFault
-stop_status stop.NoMemory = NoMemory
-
--- the text of a script that was run over the commits of a journal, and the file of the cell that it left, which is read back
-pub record IsKeptRun (c : Cell) (commits : List AcceptedCommit) (script : List Command) (book : BookState) (kept : Kept) : Type 0 where
-  pub opening : book.opening ≡ c
-  pub commits_are : (history_of book).commits ≡ (kept_history c commits script).commits
-  pub text_is : kept.text.items ≡ kept_text c commits script
-  pub bytes_are : kept.bytes.items ≡ encoded_cell (kept_history c commits script).cell
-  pub read_back : decoded_cell (encoded_cell (kept_history c commits script).cell) ≡ Ok (kept_history c commits script).cell
+abbrev pub stop_status : KeepRefusal → Status
+stop_status keep_refusal.DiskFault = DiskFault
+stop_status other = NoMemory
 
 -- the disk's journal is one of these commits, and all of it is kept
 abbrev pub IsLeftWith : Cell → List AcceptedCommit → Option (List ℕ) → (List ℕ → Type 0) → Type 0
 IsLeftWith c commits now images = IfSome now (λ file. IsJournalOf c file commits × Only file images)
 
--- the same, with what it leaves of the disk: these commits and all that the script has accepted
+-- the text of a script that was run over the commits of a journal, the file of the cell that it left, which is read back, and what it leaves of the
+-- disk: these commits and all that the script has accepted
 pub record IsKeptOn (c : Cell) (commits : List AcceptedCommit) (script : List Command) (now : Option (List ℕ)) (images : List ℕ → Type 0) (kept : Kept) :
     Type 0 where
   pub text_is : kept.text.items ≡ kept_text c commits script

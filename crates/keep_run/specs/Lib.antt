@@ -5,3 +5,4 @@ pub mod Keeps
 pub mod Words
 pub mod Causes
 pub mod Complete
+pub mod Ends

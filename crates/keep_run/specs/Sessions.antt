@@ -16,6 +16,7 @@ use Rattle.history_spec.specs.Steps.{AcceptedCommit, Event, History, answer, lef
 use Rattle.commit_book.specs.Books.{BookState, IsEntered as IsEnteredBy, entry_limit, history_of}
 use Rattle.book_journal.specs.Entries.{HaveLines, edit_lines}
 use Rattle.book_journal.specs.Journals.{IsJournalOf}
+use Rattle.book_journal.specs.declared.journal.Journal.{Journal}
 use Rattle.call_files.specs.Inputs.{script_limit}
 use Rattle.keep_run.specs.Runs.{kept_at, kept_history, kept_lines, left_behind, replies_behind}
 use Rattle.keep_run.specs.declared.session.Session.{Session}
@@ -28,6 +29,12 @@ pub record IsEntered (old : BookState) (event : Event) (new : BookState) (reply 
   pub asked : Asked
   pub event_is : event_asked asked ≡ event
   pub entered : IsEnteredBy old 1 asked new reply
+
+-- the disk of a journal isn't asked
+pub record IsUnasked {D : Type 0} (old new : Journal D) : Type 0 where
+  pub same_reference : new.disk.ghost_name ≡ old.disk.ghost_name
+  pub disk : new.disk.now ≡ old.disk.now
+  pub broken : new.broken ≡ old.broken
 
 -- what a session's commit asks, on the newest commit
 abbrev pub offered : BookState → Session → Event

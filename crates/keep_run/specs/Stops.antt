@@ -5,24 +5,19 @@ use Rattle.history_spec.specs.declared.reply.Reply.{Reply}
 use Rattle.commit_book.specs.declared.refusal.BookRefusal.{BookRefusal}
 use Rattle.commit_book.specs.declared.told.Told.{Told}
 use Rattle.book_journal.specs.declared.refusal.KeepRefusal.{KeepRefusal}
-use Rattle.book_journal.specs.declared.refusal.KeepRefusal.TheVariants as refusal
-use Rattle.keep_run.specs.declared.stop.Stop.{Stop}
-use Rattle.keep_run.specs.declared.stop.Stop.TheVariants.{DiskFault, NoMemory}
+use Rattle.book_journal.specs.declared.refusal.KeepRefusal.TheVariants.{DiskFault, NoMemory}
 
 -- a fault of the disk, or out of memory
 abbrev pub IsStopOf : KeepRefusal → Type 0
-IsStopOf refusal.DiskFault = Unit {0}
-IsStopOf refusal.NoMemory = Unit {0}
+IsStopOf DiskFault = Unit {0}
+IsStopOf NoMemory = Unit {0}
 IsStopOf other = ⊥
 
-abbrev pub stop_of : KeepRefusal → Stop
-stop_of refusal.DiskFault = DiskFault
-stop_of other = NoMemory
-
 -- the disk failed where its count of faults rose; out of memory is free
-abbrev pub IsStop : ℕ → ℕ → Stop → Type 0
+abbrev pub IsStop : ℕ → ℕ → KeepRefusal → Type 0
 IsStop before after DiskFault = Rose before after
 IsStop before after NoMemory = Unit {0}
+IsStop before after other = ⊥
 
 -- the answer of a log
 abbrev pub IsReplyOf : Result Told BookRefusal → Reply → Type 0

@@ -6,13 +6,13 @@ ghost use Rattle.book_journal.specs.Standing.{IsStill};
 ghost use Rattle.commit_book.specs.Books.{entry_limit, history_of};
 ghost use Rattle.crash_disk.specs.Disk.{LeavesOnly};
 ghost use Rattle.history_spec.specs.Steps.{commit as commit_event, faulty, view};
-ghost use Rattle.keep_run.specs.Sessions.{IsAround, IsEntered, offered};
-ghost use Rattle.keep_run.specs.Stops.{IsStop};
+ghost use Rattle.keep_run.specs.Sessions.{IsAround, IsEntered, IsUnasked, offered};
+ghost use Rattle.keep_run.specs.Stops.{IsReplyOf, IsStop};
 
 use crate::session::Session;
-use crate::stop::{Stop, reply_of, stop_of};
-use book_journal::Journal;
+use book_journal::{Journal, KeepRefusal};
 use chain_topo::Steps;
+use commit_book::{BookRefusal, Told};
 use crash_disk::Disk;
 use edit_sets::{EditSet, FormFault, FormRefusal};
 use history_spec::Reply;
@@ -24,35 +24,47 @@ use std::thread::Threads;
 /// The number of the one desk.
 const DESK: u32 = 1;
 
-/// Asks for the newest state. The disk isn't asked.
-pub(crate) fn see<D: Disk>(alloc: Global, journal: &mut Journal<'_, D>) -> Result<Reply, Stop>
+/// The answer of a log that isn't full.
+fn reply_of(told: Result<Told, BookRefusal>) -> Result<Reply, KeepRefusal>
+    requires { IfErr told (λ why. why ≡ BookRefusal.NoMemory) }
+    ensures ok { IfOk result (IsReplyOf told) }
+    ensures err { IfErr result (λ why. why ≡ KeepRefusal.NoMemory) }
+{
+    match told {
+        Ok(told) => Ok(told.reply),
+        Err(BookRefusal::NoMemory) => Err(KeepRefusal::NoMemory),
+        Err(BookRefusal::LogFull) => unreachable!(),
+    }
+}
+
+/// Asks for the newest state.
+pub(crate) fn see<D: Disk>(
+    alloc: Global,
+    journal: &mut Journal<'_, D>,
+) -> Result<Reply, KeepRefusal>
     requires still { IsStill D.content D.images journal.old }
     requires room { length journal.old.book.entries < entry_limit }
     ensures still { IsStill D.content D.images journal.new }
-    ensures same_reference { journal.new.disk.ghost_name ≡ journal.old.disk.ghost_name }
-    ensures disk { journal.new.disk.now ≡ journal.old.disk.now }
-    ensures broken { journal.new.broken ≡ journal.old.broken }
+    ensures unasked { IsUnasked journal.old journal.new }
     ensures ok { IfOk result (IsEntered journal.old.book view journal.new.book) }
-    ensures err { IfErr result (λ stop. stop ≡ Stop.NoMemory) }
+    ensures err { IfErr result (λ why. why ≡ KeepRefusal.NoMemory) }
 {
     let base = journal.book().commits();
     reply_of(journal.view(alloc, DESK, base))
 }
 
-/// Tells the fault of the session's draft. The disk isn't asked.
+/// Tells the fault of the session's draft.
 fn tell_fault<D: Disk>(
     alloc: Global,
     journal: &mut Journal<'_, D>,
     fault: FormFault,
-) -> Result<Reply, Stop>
+) -> Result<Reply, KeepRefusal>
     requires still { IsStill D.content D.images journal.old }
     requires room { length journal.old.book.entries < entry_limit }
     ensures still { IsStill D.content D.images journal.new }
-    ensures same_reference { journal.new.disk.ghost_name ≡ journal.old.disk.ghost_name }
-    ensures disk { journal.new.disk.now ≡ journal.old.disk.now }
-    ensures broken { journal.new.broken ≡ journal.old.broken }
+    ensures unasked { IsUnasked journal.old journal.new }
     ensures ok { IfOk result (IsEntered journal.old.book (faulty fault) journal.new.book) }
-    ensures err { IfErr result (λ stop. stop ≡ Stop.NoMemory) }
+    ensures err { IfErr result (λ why. why ≡ KeepRefusal.NoMemory) }
 {
     reply_of(journal.faulty(alloc, DESK, fault))
 }
@@ -64,7 +76,7 @@ fn keep_set<R: Threads + Sync, L: Ledger, D: Disk>(
     journal: &mut Journal<'_, D>,
     set: EditSet,
     steps: &mut Steps<L>,
-) -> Result<Reply, Stop>
+) -> Result<Reply, KeepRefusal>
     requires still { IsStill D.content D.images journal.old }
     requires whole { journal.old.broken ≡ false }
     requires room { length journal.old.book.entries < entry_limit }
@@ -88,40 +100,42 @@ fn keep_set<R: Threads + Sync, L: Ledger, D: Disk>(
     let prepared = prepare(rt, alloc, book.bench(), book.commits(), set)?;
     match journal.commit(alloc, DESK, &prepared, steps) {
         Ok(told) => Ok(told.reply),
-        Err(why) => Err(stop_of(why)),
+        Err(why) => Err(why),
     }
 }
 
-/// Commits the session's draft on the newest commit, or tells the draft's fault of form.
-pub(crate) fn commit<R: Threads + Sync, L: Ledger, D: Disk>(
-    rt: &R,
-    alloc: Global,
-    journal: &mut Journal<'_, D>,
-    session: &Session,
-    steps: &mut Steps<L>,
-) -> Result<Reply, Stop>
-    requires still { IsStill D.content D.images journal.old }
-    requires whole { journal.old.broken ≡ false }
-    requires room { length journal.old.book.entries < entry_limit }
-    requires lines { HaveLines session.now.edits.items }
-    requires short { length (edit_lines session.now.edits.items) ≤ text_limit }
-    requires few { length session.now.edits.items ≤ 50000 }
-    requires few_guards { length session.now.guards.items ≤ 50000 }
-    ensures still { IsStill D.content D.images journal.new }
-    ensures same_reference { journal.new.disk.ghost_name ≡ journal.old.disk.ghost_name }
-    ensures whole { OnOk result (journal.new.broken ≡ false) }
-    ensures stays_told { IsSome (D.content journal.old.disk.now) → IsSome (D.content journal.new.disk.now) }
-    ensures ok { IfOk result (IsEntered journal.old.book (offered journal.old.book session.now) journal.new.book) }
-    ensures err { IfErr result (IsStop (D.faults journal.old.disk.now) (D.faults journal.new.disk.now)) }
-    ensures moments { IfSome (D.content journal.old.disk.now)
-        (λ _. LeavesOnly D.moment D.left_since journal.old.disk.now journal.new.disk.now
-        (IsAround journal.old.book (offered journal.old.book session.now))) }
-    ensures no_fall { D.faults journal.old.disk.now ≤ D.faults journal.new.disk.now }
-{
-    let nall = journal.book().bench().head().nall;
-    match EditSet::make(alloc, &session.edits, &session.guards, nall) {
-        Ok(set) => keep_set(rt, alloc, journal, set, steps),
-        Err(FormRefusal::Fault(fault)) => tell_fault(alloc, journal, fault),
-        Err(FormRefusal::NoMemory) => Err(Stop::NoMemory),
+impl Session {
+    /// Commits the draft on the newest commit, or tells the draft's fault of form.
+    pub(crate) fn commit<R: Threads + Sync, L: Ledger, D: Disk>(
+        &self,
+        rt: &R,
+        alloc: Global,
+        journal: &mut Journal<'_, D>,
+        steps: &mut Steps<L>,
+    ) -> Result<Reply, KeepRefusal>
+        requires still { IsStill D.content D.images journal.old }
+        requires whole { journal.old.broken ≡ false }
+        requires room { length journal.old.book.entries < entry_limit }
+        requires lines { HaveLines self.now.edits.items }
+        requires short { length (edit_lines self.now.edits.items) ≤ text_limit }
+        requires few { length self.now.edits.items ≤ 50000 }
+        requires few_guards { length self.now.guards.items ≤ 50000 }
+        ensures still { IsStill D.content D.images journal.new }
+        ensures same_reference { journal.new.disk.ghost_name ≡ journal.old.disk.ghost_name }
+        ensures whole { OnOk result (journal.new.broken ≡ false) }
+        ensures stays_told { IsSome (D.content journal.old.disk.now) → IsSome (D.content journal.new.disk.now) }
+        ensures ok { IfOk result (IsEntered journal.old.book (offered journal.old.book self.now) journal.new.book) }
+        ensures err { IfErr result (IsStop (D.faults journal.old.disk.now) (D.faults journal.new.disk.now)) }
+        ensures moments { IfSome (D.content journal.old.disk.now)
+            (λ _. LeavesOnly D.moment D.left_since journal.old.disk.now journal.new.disk.now
+            (IsAround journal.old.book (offered journal.old.book self.now))) }
+        ensures no_fall { D.faults journal.old.disk.now ≤ D.faults journal.new.disk.now }
+    {
+        let nall = journal.book().bench().head().nall;
+        match EditSet::make(alloc, &self.edits, &self.guards, nall) {
+            Ok(set) => keep_set(rt, alloc, journal, set, steps),
+            Err(FormRefusal::Fault(fault)) => tell_fault(alloc, journal, fault),
+            Err(FormRefusal::NoMemory) => Err(KeepRefusal::NoMemory),
+        }
     }
 }

@@ -1,6 +1,6 @@
 //! A journal opened, a script run over it, and its text.
 
-ghost use Rattle.std.specs.Prelude.{◌≡◌, ◌≤◌, ◌<◌, ◌^◌, IfErr, IfOk, IfSome, IsSome, OnOk, false, length};
+ghost use Rattle.std.specs.Prelude.{◌≡◌, ◌≤◌, ◌<◌, ◌^◌, IfErr, IfOk, IfSome, IsSome, false, length};
 ghost use Rattle.book_journal.specs.Keeping.{IsStanding, commit_limit};
 ghost use Rattle.book_journal.specs.Standing.{IsStill};
 ghost use Rattle.cell_spec.specs.Writable.{IsWritable};
@@ -9,14 +9,14 @@ ghost use Rattle.crash_disk.specs.Disk.{LeavesOnly};
 ghost use Rattle.call_files.specs.Inputs.{IsScriptWithin};
 ghost use Rattle.history_spec.specs.Steps.{finding_limit};
 ghost use Rattle.rule_spec.specs.Findings.{finding_total};
-ghost use Rattle.keep_run.specs.Keeps.{IsKeepEnd, IsKept, IsKeptImage, IsKeptOn, IsKeptRun, IsOpenEnd, status_of as status_of_lem, stop_status};
+ghost use Rattle.keep_run.specs.Keeps.{IsKeepEnd, IsKept, IsKeptImage, IsKeptOn, IsOpenEnd, status_of as status_of_lem, stop_status};
 ghost use Rattle.keep_run.specs.Runs.{IsKeptTo};
-ghost use Rattle.keep_run.specs.Stops.{IsStop};
+ghost use Rattle.keep_run.specs.Stops.{IsStop, IsStopOf};
 
 use crate::report::{Kept, report};
-use crate::serve::run_script;
-use crate::stop::Stop;
-use book_journal::{Journal, OpenRefusal, open_book};
+use crate::serve::serve;
+use crate::session::Session;
+use book_journal::{Journal, KeepRefusal, OpenRefusal, open_book};
 use chain_topo::Steps;
 use commit_book::Book;
 use crash_disk::Disk;
@@ -42,55 +42,30 @@ fn status_of(why: OpenRefusal) -> Status
     }
 }
 
-/// The status of a session that doesn't go on.
-fn status_of_stop(stop: Stop) -> Status
-    ensures { result ≡ stop_status stop }
+/// The status of a session that doesn't go on. Its journal is whole, no text of its edits is too long, and its log isn't full.
+fn status_of_stop(why: KeepRefusal) -> Status
+    requires { IsStopOf why }
+    ensures { result ≡ stop_status why }
 {
-    match stop {
-        Stop::DiskFault => Status::DiskFault,
-        Stop::NoMemory => Status::NoMemory,
+    match why {
+        KeepRefusal::DiskFault => Status::DiskFault,
+        KeepRefusal::NoMemory => Status::NoMemory,
+        KeepRefusal::Broken | KeepRefusal::EntryTooLong(_) | KeepRefusal::LogFull => {
+            unreachable!()
+        }
     }
 }
 
-/// Runs a script over a journal that was opened, and tells what it leaves.
+/// Runs a script over a journal that was opened, and tells what it leaves of the disk.
 ///
 /// An `Err` says that a call of the disk failed, or means out of memory.
-fn run_and_tell<R: Threads + Sync, L: Ledger, D: Disk>(
-    rt: &R,
-    alloc: Global,
-    journal: &mut Journal<'_, D>,
-    script: &Script,
-    steps: &mut Steps<L>,
-) -> Result<Kept, Stop>
-    requires still { IsStill D.content D.images journal.old }
-    requires whole { journal.old.broken ≡ false }
-    requires entries { length journal.old.book.entries ≡ length (history_of journal.old.book).commits }
-    requires few { length (history_of journal.old.book).commits ≤ commit_limit }
-    requires within { IsScriptWithin script.now }
-    ensures still { IsStill D.content D.images journal.new }
-    ensures same_reference { journal.new.disk.ghost_name ≡ journal.old.disk.ghost_name }
-    ensures whole { OnOk result (journal.new.broken ≡ false) }
-    ensures stays_told { IsSome (D.content journal.old.disk.now) → IsSome (D.content journal.new.disk.now) }
-    ensures ok { IfOk result (IsKeptRun journal.old.book.opening (history_of journal.old.book).commits script.now journal.new.book) }
-    ensures err { IfErr result (IsStop (D.faults journal.old.disk.now) (D.faults journal.new.disk.now)) }
-    ensures moments { IfSome (D.content journal.old.disk.now)
-        (λ _. LeavesOnly D.moment D.left_since journal.old.disk.now journal.new.disk.now
-        (IsKeptTo journal.old.book.opening (history_of journal.old.book).commits script.now)) }
-    ensures no_fall { D.faults journal.old.disk.now ≤ D.faults journal.new.disk.now }
-{
-    let count = journal.book().commits();
-    let transcript = run_script(rt, alloc, journal, script, steps)?;
-    Ok(report(alloc, count, &transcript, journal.book())?)
-}
-
-/// The same, with what it leaves told of the disk alone.
 fn run_kept<R: Threads + Sync, L: Ledger, D: Disk>(
     rt: &R,
     alloc: Global,
     journal: &mut Journal<'_, D>,
     script: &Script,
     steps: &mut Steps<L>,
-) -> Result<Kept, Stop>
+) -> Result<Kept, KeepRefusal>
     requires still { IsStill D.content D.images journal.old }
     requires whole { journal.old.broken ≡ false }
     requires entries { length journal.old.book.entries ≡ length (history_of journal.old.book).commits }
@@ -106,7 +81,13 @@ fn run_kept<R: Threads + Sync, L: Ledger, D: Disk>(
         (IsKeptTo journal.old.book.opening (history_of journal.old.book).commits script.now)) }
     ensures no_fall { D.faults journal.old.disk.now ≤ D.faults journal.new.disk.now }
 {
-    run_and_tell(rt, alloc, journal, script, steps)
+    let count = journal.book().commits();
+    let mut session = Session::make(alloc);
+    for command in script.commands() {
+        serve(rt, alloc, journal, &mut session, command, steps)?;
+    }
+    let transcript = session.into_transcript();
+    Ok(report(alloc, count, &transcript, journal.book())?)
 }
 
 /// Runs a script over the journal on a disk, whose commits a book has, and whose list ends at a place.
@@ -118,7 +99,7 @@ fn run_over<R: Threads + Sync, L: Ledger, D: Disk>(
     end: u64,
     script: &Script,
     steps: &mut Steps<L>,
-) -> Result<Kept, Stop>
+) -> Result<Kept, KeepRefusal>
     requires room { end < 2 ^ 63 }
     requires standing { IfSome (D.content disk.old) (IsStanding book.opening (history_of book).commits end (D.images disk.old)) }
     requires entries { length book.entries ≡ length (history_of book).commits }
@@ -168,6 +149,6 @@ pub(crate) fn keep<R: Threads + Sync, L: Ledger, D: Disk>(
     };
     match run_over(rt, alloc, disk, book, end, script, &mut steps) {
         Ok(kept) => Ok(kept),
-        Err(stop) => Err(status_of_stop(stop)),
+        Err(why) => Err(status_of_stop(why)),
     }
 }

@@ -6,7 +6,6 @@ mod keep;
 mod report;
 mod serve;
 mod session;
-mod stop;
 mod top;
 
 pub use top::run_keep;

@@ -1,37 +1,31 @@
-//! A script run over a journal, command by command.
+//! A command of a session over a journal.
 
-ghost use Rattle.std.specs.Prelude.{◌≡◌, ◌≤◌, ◌<◌, ◌∷◌, [], IfErr, IfOk, IfSome, IsSome, OnOk, false, length};
-ghost use Rattle.book_journal.specs.Keeping.{commit_limit};
+ghost use Rattle.std.specs.Prelude.{◌≡◌, ◌≤◌, ◌<◌, ◌∷◌, [], IfErr, IfSome, IsSome, OnOk, false, length};
 ghost use Rattle.book_journal.specs.Standing.{IsStill};
-ghost use Rattle.commit_book.specs.Books.{entry_limit, history_of};
+ghost use Rattle.commit_book.specs.Books.{entry_limit};
 ghost use Rattle.crash_disk.specs.Disk.{LeavesOnly};
-ghost use Rattle.call_files.specs.Inputs.{IsScriptWithin};
-ghost use Rattle.keep_run.specs.Runs.{IsKeptTo};
-ghost use Rattle.keep_run.specs.Sessions.{IsAround, IsDone, IsFit, IsRun, IsRunTo, draft_of, event_by};
+ghost use Rattle.keep_run.specs.Sessions.{IsAround, IsDone, IsFit, draft_of, event_by};
 ghost use Rattle.keep_run.specs.Stops.{IsStop};
 
-use crate::ask::{commit, see};
+use crate::ask::see;
 use crate::session::Session;
-use crate::stop::Stop;
-use book_journal::Journal;
+use book_journal::{Journal, KeepRefusal};
 use chain_topo::Steps;
 use crash_disk::Disk;
-use report_text::Transcript;
-use script_text::Script;
 use std::alloc::Global;
 use std::sync::ledger::Ledger;
 use std::thread::Threads;
 use text_spec::Command;
 
 /// Does a command of the one session. An accepted commit is on the disk before its line is written.
-fn serve<R: Threads + Sync, L: Ledger, D: Disk>(
+pub(crate) fn serve<R: Threads + Sync, L: Ledger, D: Disk>(
     rt: &R,
     alloc: Global,
     journal: &mut Journal<'_, D>,
     session: &mut Session,
     command: &Command,
     steps: &mut Steps<L>,
-) -> Result<(), Stop>
+) -> Result<(), KeepRefusal>
     requires still { IsStill D.content D.images journal.old }
     requires whole { journal.old.broken ≡ false }
     requires room { length journal.old.book.entries < entry_limit }
@@ -53,7 +47,7 @@ fn serve<R: Threads + Sync, L: Ledger, D: Disk>(
             session.tell(reply)?;
         }
         Command::Commit => {
-            let reply = commit(rt, alloc, journal, session, steps)?;
+            let reply = session.commit(rt, alloc, journal, steps)?;
             session.clear(alloc);
             session.tell(reply)?;
         }
@@ -71,67 +65,4 @@ fn serve<R: Threads + Sync, L: Ledger, D: Disk>(
         Command::Guard(name) => session.push_guard(*name)?,
     }
     Ok(())
-}
-
-/// Does the commands of a script one after the other.
-fn serve_all<R: Threads + Sync, L: Ledger, D: Disk>(
-    rt: &R,
-    alloc: Global,
-    journal: &mut Journal<'_, D>,
-    session: &mut Session,
-    script: &Script,
-    steps: &mut Steps<L>,
-) -> Result<(), Stop>
-    requires still { IsStill D.content D.images journal.old }
-    requires whole { journal.old.broken ≡ false }
-    requires begun { IsRunTo journal.old.book.opening (history_of journal.old.book).commits script.now script.now journal.old.book
-        (draft_of session.old) session.old.transcript }
-    ensures still { IsStill D.content D.images journal.new }
-    ensures same_reference { journal.new.disk.ghost_name ≡ journal.old.disk.ghost_name }
-    ensures whole { OnOk result (journal.new.broken ≡ false) }
-    ensures stays_told { IsSome (D.content journal.old.disk.now) → IsSome (D.content journal.new.disk.now) }
-    ensures ok { OnOk result (IsRun journal.old.book.opening (history_of journal.old.book).commits script.now journal.new.book session.new.transcript) }
-    ensures err { IfErr result (IsStop (D.faults journal.old.disk.now) (D.faults journal.new.disk.now)) }
-    ensures moments { IfSome (D.content journal.old.disk.now)
-        (λ _. LeavesOnly D.moment D.left_since journal.old.disk.now journal.new.disk.now
-        (IsKeptTo journal.old.book.opening (history_of journal.old.book).commits script.now)) }
-    ensures no_fall { D.faults journal.old.disk.now ≤ D.faults journal.new.disk.now }
-{
-    for command in script.commands() {
-        serve(rt, alloc, journal, session, command, steps)?;
-    }
-    Ok(())
-}
-
-/// Runs a script over a journal that was opened, and gives the session's lines.
-///
-/// An `Err` says that a call of the disk failed, or means out of memory.
-pub(crate) fn run_script<R: Threads + Sync, L: Ledger, D: Disk>(
-    rt: &R,
-    alloc: Global,
-    journal: &mut Journal<'_, D>,
-    script: &Script,
-    steps: &mut Steps<L>,
-) -> Result<Transcript, Stop>
-    requires still { IsStill D.content D.images journal.old }
-    requires whole { journal.old.broken ≡ false }
-    requires entries { length journal.old.book.entries ≡ length (history_of journal.old.book).commits }
-    requires few { length (history_of journal.old.book).commits ≤ commit_limit }
-    requires within { IsScriptWithin script.now }
-    ensures still { IsStill D.content D.images journal.new }
-    ensures same_reference { journal.new.disk.ghost_name ≡ journal.old.disk.ghost_name }
-    ensures whole { OnOk result (journal.new.broken ≡ false) }
-    ensures stays_told { IsSome (D.content journal.old.disk.now) → IsSome (D.content journal.new.disk.now) }
-    ensures ok { IfOk result (IsRun journal.old.book.opening (history_of journal.old.book).commits script.now journal.new.book) }
-    ensures err { IfErr result (IsStop (D.faults journal.old.disk.now) (D.faults journal.new.disk.now)) }
-    ensures moments { IfSome (D.content journal.old.disk.now)
-        (λ _. LeavesOnly D.moment D.left_since journal.old.disk.now journal.new.disk.now
-        (IsKeptTo journal.old.book.opening (history_of journal.old.book).commits script.now)) }
-    ensures no_fall { D.faults journal.old.disk.now ≤ D.faults journal.new.disk.now }
-{
-    let mut session = Session::make(alloc);
-    match serve_all(rt, alloc, journal, &mut session, script, steps) {
-        Ok(()) => Ok(session.into_transcript()),
-        Err(stop) => Err(stop),
-    }
 }

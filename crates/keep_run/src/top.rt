@@ -1,12 +1,11 @@
 //! A session over a journal, as one call of the program.
 
-ghost use Rattle.std.specs.Prelude.{◌≡◌, ◌≤◌, ◌↔◌, IfErr, IfOk, IfSome, IsSome, None, Some, map, string_bytes};
+ghost use Rattle.std.specs.Prelude.{◌≡◌, ◌≤◌, IfErr, IfSome, IsSome, Some, map, string_bytes};
 ghost use Rattle.crash_disk.specs.Disk.{LeavesOnly};
 ghost use Rattle.enc_outside.specs.Files.{StaysUntold};
 ghost use Rattle.call_files.specs.Outside.{outside};
-ghost use Rattle.call_files.specs.Task.{task_of};
-ghost use Rattle.keep_run.specs.Causes.{IsAskedIn, IsAskedOf, IsCause, IsExact, IsImageIn, IsImageOf, IsReadBackFrom, IsUntouched};
-ghost use Rattle.keep_run.specs.Complete.{IsComplete};
+ghost use Rattle.keep_run.specs.Causes.{IsAskedIn, IsAskedOf, IsImageIn, IsImageOf, IsUntouched, IsWorkOf, OnlyReads};
+ghost use Rattle.keep_run.specs.Ends.{IsEnd};
 ghost use Rattle.keep_run.specs.Words.{form_of, keep_form};
 
 use crate::keep::keep;
@@ -17,7 +16,7 @@ use crash_disk::Disk;
 use decode_laws::decoded_cell_is_writable;
 use enc_outside::{Shelf, Sink};
 use report_text::Status;
-use std::alloc::{AllocError, Global};
+use std::alloc::Global;
 use std::marker::Brand;
 use std::sync::ledger::Blank;
 use std::thread::Threads;
@@ -39,20 +38,10 @@ pub fn run_keep<R: Threads + Sync, H: Shelf, O: Sink, D: Disk>(
     out: &mut O,
     disk: &mut D,
 ) -> Status
-    ensures cause { IsCause (map string_bytes words.now)
+    ensures end { IsEnd (map string_bytes words.now)
         (outside (H.files shelf.old) (H.read_faults shelf.old) (H.write_faults shelf.old) (O.written out.old) (O.faults out.old))
         (outside (H.files shelf.new) (H.read_faults shelf.new) (H.write_faults shelf.new) (O.written out.new) (O.faults out.new))
         (D.content disk.old) (D.content disk.new) (D.faults disk.old) (D.faults disk.new) (D.images disk.new) result }
-    ensures exact { IsExact (map string_bytes words.now)
-        (outside (H.files shelf.old) (H.read_faults shelf.old) (H.write_faults shelf.old) (O.written out.old) (O.faults out.old))
-        (outside (H.files shelf.new) (H.read_faults shelf.new) (H.write_faults shelf.new) (O.written out.new) (O.faults out.new))
-        (D.content disk.old) (D.faults disk.old) (D.faults disk.new) result }
-    ensures complete { IsComplete (map string_bytes words.now)
-        (outside (H.files shelf.old) (H.read_faults shelf.old) (H.write_faults shelf.old) (O.written out.old) (O.faults out.old))
-        (outside (H.files shelf.new) (H.read_faults shelf.new) (H.write_faults shelf.new) (O.written out.new) (O.faults out.new))
-        (D.content disk.old) (D.faults disk.old) (D.faults disk.new) result }
-    ensures read_back { IsReadBackFrom (map string_bytes words.now) (H.files shelf.old) (H.files shelf.new) (D.content disk.old) result }
-    ensures usage { (result ≡ Status.Usage) ↔ (form_of (map string_bytes words.now) ≡ None) }
     // What a crash leaves at any moment of the call.
     ensures moments { IfSome (D.content disk.old) (λ file. LeavesOnly D.moment D.left_since disk.old disk.new
         (IsImageOf (map string_bytes words.now) (H.files shelf.old) file (D.images disk.old))) }
@@ -87,9 +76,8 @@ fn asked_keep<R: Threads + Sync, H: Shelf, D: Disk>(
     ensures untouched { IfErr result (λ status. IsUntouched status → disk.new ≡ disk.old) }
     ensures stays_told { IsSome (D.content disk.old) → IsSome (D.content disk.new) }
     ensures disk_faults { D.faults disk.old ≤ D.faults disk.new }
-    ensures files { H.files shelf.new ≡ H.files shelf.old }
-    ensures read_faults { H.read_faults shelf.old ≤ H.read_faults shelf.new }
-    ensures write_faults { H.write_faults shelf.new ≡ H.write_faults shelf.old }
+    ensures reads { OnlyReads (H.files shelf.old) (H.files shelf.new)
+        (H.read_faults shelf.old) (H.read_faults shelf.new) (H.write_faults shelf.old) (H.write_faults shelf.new) }
 {
     let [first, cell, out, _, script] = words else {
         return Err(Status::Usage);
@@ -125,9 +113,8 @@ fn kept_work<R: Threads + Sync, H: Shelf, D: Disk>(
     ensures untouched { IfErr result (λ status. IsUntouched status → disk.new ≡ disk.old) }
     ensures stays_told { IsSome (D.content disk.old) → IsSome (D.content disk.new) }
     ensures disk_faults { D.faults disk.old ≤ D.faults disk.new }
-    ensures files { H.files shelf.new ≡ H.files shelf.old }
-    ensures read_faults { H.read_faults shelf.old ≤ H.read_faults shelf.new }
-    ensures write_faults { H.write_faults shelf.new ≡ H.write_faults shelf.old }
+    ensures reads { OnlyReads (H.files shelf.old) (H.files shelf.new)
+        (H.read_faults shelf.old) (H.read_faults shelf.new) (H.write_faults shelf.old) (H.write_faults shelf.new) }
 {
     let checked = match read_cell(rt, alloc, shelf, cell) {
         Ok(checked) => checked,
@@ -138,16 +125,21 @@ fn kept_work<R: Threads + Sync, H: Shelf, D: Disk>(
         Err(status) => return Err(status),
     };
     decoded_cell_is_writable();
-    match keep::<R, Brand, D>(rt, alloc, checked.into_cell(), &script, disk, Blank::new(1)) {
-        Ok(kept) => Ok(work_of(alloc, kept, out)?),
-        Err(status) => Err(status),
-    }
+    work_of(
+        alloc,
+        keep::<R, Brand, D>(rt, alloc, checked.into_cell(), &script, disk, Blank::new(1)),
+        out,
+    )
 }
 
-/// What is left to put and to write under a name.
-fn work_of(alloc: Global, kept: Kept, out: &str) -> Result<Work, AllocError>
-    ensures { IfOk result (λ work. task_of work ≡ record { text = kept.text.items; file = Some (out.now, kept.bytes.items) }) }
+/// What is left of a session to put and to write under a name.
+fn work_of(alloc: Global, kept: Result<Kept, Status>, out: &str) -> Result<Work, Status>
+    ensures { IsWorkOf out.now kept result }
 {
+    let kept = match kept {
+        Ok(kept) => kept,
+        Err(status) => return Err(status),
+    };
     let name = String::from_str(alloc, out)?;
     let (text, bytes) = kept.into_parts();
     Ok(Work {

@@ -45,7 +45,7 @@ fn push_form_words(out: &mut Vec<u8>, fault: FormFault) -> Result<(), AllocError
 }
 
 /// Appends the words of why a cell doesn't take the edits.
-pub(crate) fn push_refusal_words(out: &mut Vec<u8>, refusal: StateRefusal) -> Result<(), AllocError>
+fn push_refusal_words(out: &mut Vec<u8>, refusal: StateRefusal) -> Result<(), AllocError>
     ensures { OnOk result (out.new.items ≡ out.old.items ++ spaced_words (refusal_words refusal)) }
 {
     match refusal {
@@ -105,11 +105,15 @@ fn push_newer(out: &mut Vec<u8>, number: u32, name: RecName, desk: u32) -> Resul
     push_text(out, "\n")
 }
 
-/// Appends the line of a commit that the cell doesn't take.
-fn push_refusal(out: &mut Vec<u8>, refusal: StateRefusal) -> Result<(), AllocError>
-    ensures { OnOk result (out.new.items ≡ out.old.items ++ refused_line (refusal_words refusal)) }
+/// Appends a line of a text and why a cell doesn't take the edits.
+pub(crate) fn push_refusal(
+    out: &mut Vec<u8>,
+    text: &str,
+    refusal: StateRefusal,
+) -> Result<(), AllocError>
+    ensures { OnOk result (out.new.items ≡ out.old.items ++ line text.now (refusal_words refusal)) }
 {
-    push_text(out, "commit refused")?;
+    push_text(out, text)?;
     push_refusal_words(out, refusal)?;
     push_text(out, "\n")
 }
@@ -156,7 +160,7 @@ fn push_reply_line(out: &mut Vec<u8>, reply: &Reply) -> Result<(), AllocError>
             desk,
             ..
         } => push_newer(out, *number, *name, *desk),
-        Reply::Refused(refusal) => push_refusal(out, *refusal),
+        Reply::Refused(refusal) => push_refusal(out, "commit refused", *refusal),
         Reply::Accepted { number, findings } => {
             push_state(out, "commit", "accepted", *number, *findings)
         }

@@ -4,7 +4,7 @@ ghost use Rattle.std.specs.Prelude.{◌≡◌, ◌++◌, ◌∷◌, [], OnErr, O
 ghost use Rattle.text_spec.specs.Lines.{line as line_lem, spaced};
 ghost use Rattle.report_text.specs.StatusText.{fault_words, status_line, status_number};
 
-use crate::reply::push_refusal_words;
+use crate::reply::push_refusal;
 use history_spec::StateRefusal;
 use itoa::Buffer;
 use s57_types::{CellFault, Text};
@@ -120,7 +120,7 @@ fn push_status(out: &mut Vec<u8>, status: &Status) -> Result<(), AllocError>
         Status::Stuck(desk, serial) => push_stuck(out, *desk, *serial),
         Status::TooManyFindings => push_text(out, "enc_cell: too many findings\n"),
         Status::BadUpdate(fault) => push_bad_update(out, *fault),
-        Status::Refused(refusal) => push_refused(out, *refusal),
+        Status::Refused(refusal) => push_refusal(out, "enc_cell: refused", *refusal),
         Status::BadJournal(place) => push_large(out, "enc_cell: bad journal", "place", *place),
         Status::DiskFault => push_text(out, "enc_cell: disk fault\n"),
         Status::OpRefused(cause) => push_op_refused(out, *cause),
@@ -262,15 +262,6 @@ fn push_stuck(out: &mut Vec<u8>, desk: u32, serial: u32) -> Result<(), AllocErro
         &numbered("desk", desk),
         &numbered("serial", serial),
     )
-}
-
-/// Appends the line of edits that a cell doesn't take.
-fn push_refused(out: &mut Vec<u8>, refusal: StateRefusal) -> Result<(), AllocError>
-    ensures { OnOk result (out.new.items ≡ out.old.items ++ status_line (Status.Refused refusal)) }
-{
-    push_text(out, "enc_cell: refused")?;
-    push_refusal_words(out, refusal)?;
-    push_text(out, "\n")
 }
 
 /// Appends the line of edges that can't be split or joined.

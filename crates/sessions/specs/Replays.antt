@@ -3,7 +3,7 @@ use Rattle.std.specs.Prelude.{◌≡◌, ℕ, suc, ◌≤◌, ◌<◌, List, ◌
 use Rattle.s57_types.specs.declared.cell.Cell.{Cell}
 use Rattle.text_spec.specs.declared.command.Command.{Command}
 use Rattle.text_spec.specs.ScriptLines.{command_limit, is_shared}
-use Rattle.commit_book.specs.Books.{BookState, IsEntered}
+use Rattle.commit_book.specs.Books.{BookState, IsEntered, history_of}
 use Rattle.commit_book.specs.declared.refusal.BookRefusal.{BookRefusal}
 use Rattle.commit_book.specs.declared.told.Answered.{Answered}
 use Rattle.history_spec.specs.declared.entry.Asked.{Asked}
@@ -47,6 +47,11 @@ pub record IsEditor (c : Cell) (entries : List Entry) (number : ℕ) (e : Editor
   pub served : IsServed c entries (entries_of number entries) e.base e.session.done e.session.draft e.session.lines
   pub within : e.base ≤ length (replayed c entries).commits
   pub copy : e.bench ≡ cell_told c entries e.base
+
+-- the base of an editor is one of the log's commits, and its copy of the cell is that after its base
+pub record IsBeside (book : BookState) (e : Editor) : Type 0 where
+  pub within : e.base ≤ length (history_of book).commits
+  pub copy : e.bench ≡ cell_told book.opening book.entries e.base
 
 -- one entry more, of this number, and the editor beside it
 pub record IsServedOnce (old : BookState) (number : ℕ) (new : BookState) (e : Editor) : Type 0 where

@@ -1,14 +1,13 @@
 //! A session beside its own copy of the cell.
 
-ghost use Rattle.std.specs.Prelude.{◌≡◌, ◌≤◌, ◌<◌, [], IfErr, IfOk, List, OnOk, ℕ, count_by, length};
+ghost use Rattle.std.specs.Prelude.{◌≡◌, ◌<◌, [], IfErr, IfOk, List, OnOk, ℕ, count_by, length};
 ghost use Rattle.commit_book.specs.Books.{entry_limit, history_of};
 ghost use Rattle.history_spec.specs.Entries.{entries_of};
-ghost use Rattle.history_spec.specs.EntriesReport.{cell_told};
 ghost use Rattle.history_spec.specs.ReportText.{base_after};
 ghost use Rattle.history_spec.specs.declared.entry.Entry.{Entry};
 ghost use Rattle.s57_types.specs.declared.cell.Cell.{Cell};
 ghost use Rattle.room_laws.specs.Desks.{copy_after};
-ghost use Rattle.sessions.specs.Replays.{IsAskedOf, IsEditor, IsEndedAs, IsReplyOf, IsServedOnce};
+ghost use Rattle.sessions.specs.Replays.{IsAskedOf, IsBeside, IsEditor, IsEndedAs, IsReplyOf, IsServedOnce};
 ghost use Rattle.text_spec.specs.ScriptLines.{is_shared};
 
 use crate::session::{Session, Shared};
@@ -78,8 +77,7 @@ impl Editor {
         steps: &mut Steps<L>,
     ) -> Result<Reply, AllocError>
         requires room { length book.old.entries < entry_limit }
-        requires base { self.now.base ≤ length (history_of book.old).commits }
-        requires copy { self.now.bench ≡ cell_told book.old.opening book.old.entries self.now.base }
+        requires beside { IsBeside book.old self.now }
         ensures { IfOk result (IsAskedOf book.old number self.now.base self.now.session.draft Shared.Commit book.new) }
     {
         let nall = self.bench.head().nall;
@@ -104,8 +102,7 @@ impl Editor {
         steps: &mut Steps<L>,
     ) -> Result<Reply, AllocError>
         requires room { length book.old.entries < entry_limit }
-        requires base { self.now.base ≤ length (history_of book.old).commits }
-        requires copy { self.now.bench ≡ cell_told book.old.opening book.old.entries self.now.base }
+        requires beside { IsBeside book.old self.now }
         ensures { IfOk result (IsAskedOf book.old number self.now.base self.now.session.draft shared book.new) }
     {
         match shared {

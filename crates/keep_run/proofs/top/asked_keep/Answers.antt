@@ -1,12 +1,12 @@
-use Rattle.std.proofs.Common.{◌≡◌, Option, None, Some, Err, length, map, refl, rules, sym, ap, ◌∙◌, string_bytes, subst, arith}
+use Rattle.std.proofs.Common.{◌≡◌, Option, None, Err, length, map, refl, rules, sym, ap, ◌∙◌, string_bytes, subst, arith}
 use Rattle.std.specs.Prelude.{IfSome, codes}
 use Rattle.crash_disk.specs.Disk.{LeavesOnly}
 use Rattle.report_text.specs.declared.status.Status.TheVariants.{Usage}
 use Rattle.call_files.specs.Words.{is_word}
 use Rattle.keep_run.specs.Causes.{IsAskedIn, IsImageIn}
-use Rattle.keep_run.specs.Words.{KeepForm, form_of, keep_form}
+use Rattle.keep_run.specs.Words.{KeepForm, form_of}
 use Rattle.keep_run.proofs.Answers.{not_asked}
-use Rattle.keep_run.proofs.Words.{fewer, keep_words, more, other_word}
+use Rattle.keep_run.proofs.Words.{fewer, more, other_word, told_words}
 use Rattle.keep_run.proofs.top.asked_keep.Goals as goal
 use Rattle.keep_run.proofs.top.asked_keep.Goals.{in_default-via-then-words-lt5, in_default-via-else-words-lt5+else-words-lt6}
 
@@ -56,11 +56,9 @@ returns-then-eq-clause-asked g c =
     let disk = c.args.disk.now in
     let new = c.kept_work.new.disk in
     let five : length c.args.words.now ≡ 5 = omega (arith, c.in-len5.len_at_least, c.in-len5.len_below) in
-    let keep = ap (is_word (codes "keep")) (sym c.as_str.ensures.value) ∙ sym c.if-eq.ensures in
-    let form = keep_words c.args.words.now c.first-item.result c.cell-item.result c.out-item.result c.script-item.result five c.first-item.is c.cell-item.is
-    c.out-item.is
-    c.script-item.is keep
-    ∙ (λ i. Some (keep_form (sym c.as_str-then-eq.ensures.value i) (sym c.as_str-then-eq-2.ensures.value i) (sym c.as_str-then-eq-3.ensures.value i))) in
+    let form = told_words c.args.words.now c.first-item.result c.cell-item.result c.out-item.result c.script-item.result five c.first-item.is c.cell-item.is
+    c.out-item.is c.script-item.is c.as_str.result.now c.as_str-then-eq.result.now c.as_str-then-eq-2.result.now c.as_str-then-eq-3.result.now
+    c.as_str.ensures.value c.if-eq.ensures c.as_str-then-eq.ensures.value c.as_str-then-eq-2.ensures.value c.as_str-then-eq-3.ensures.value in
     subst (λ (f : Option KeepForm). IsAskedIn f (g.H.Shelf.files old) (g.H.Shelf.read_faults old) (g.H.Shelf.read_faults c.kept_work.new.shelf)
     (g.D.Disk.content disk) (g.D.Disk.content new) (g.D.Disk.faults disk) (g.D.Disk.faults new) (g.D.Disk.images new) c.kept_work.result) (sym form)
     c.kept_work.ensures.asked
@@ -69,10 +67,8 @@ pub returns-then-eq-clause-moments : goal.returns-then-eq-clause-moments
 returns-then-eq-clause-moments g c =
     let disk = c.args.disk.now in
     let five : length c.args.words.now ≡ 5 = omega (arith, c.in-len5.len_at_least, c.in-len5.len_below) in
-    let keep = ap (is_word (codes "keep")) (sym c.as_str.ensures.value) ∙ sym c.if-eq.ensures in
-    let form = keep_words c.args.words.now c.first-item.result c.cell-item.result c.out-item.result c.script-item.result five c.first-item.is c.cell-item.is
-    c.out-item.is
-    c.script-item.is keep
-    ∙ (λ i. Some (keep_form (sym c.as_str-then-eq.ensures.value i) (sym c.as_str-then-eq-2.ensures.value i) (sym c.as_str-then-eq-3.ensures.value i))) in
+    let form = told_words c.args.words.now c.first-item.result c.cell-item.result c.out-item.result c.script-item.result five c.first-item.is c.cell-item.is
+    c.out-item.is c.script-item.is c.as_str.result.now c.as_str-then-eq.result.now c.as_str-then-eq-2.result.now c.as_str-then-eq-3.result.now
+    c.as_str.ensures.value c.if-eq.ensures c.as_str-then-eq.ensures.value c.as_str-then-eq-2.ensures.value c.as_str-then-eq-3.ensures.value in
     subst (λ (f : Option KeepForm). IfSome (g.D.Disk.content disk) (λ file. LeavesOnly g.D.Disk.moment g.D.Disk.left_since disk c.kept_work.new.disk
     (IsImageIn f (g.H.Shelf.files c.args.shelf.now) file (g.D.Disk.images disk)))) (sym form) c.kept_work.ensures.moments

@@ -15,7 +15,7 @@ answer_commit-requires-clause-level g c =
     ap (λ (set : GuardedEdits). set.nall) c.in_ok-prepared-in-Ok.ensures.edits
     ∙ c.in-Ok.ensures.nall_is
     ∙ ap (λ (h : Head). h.nall) c.head.ensures
-    ∙ level_of_copy book.opening book.entries e.base e.bench c.requires.copy
+    ∙ level_of_copy book.opening book.entries e.base e.bench c.requires.beside.copy
 
 pub returns-in_ok-prepared-in-Ok : goal.returns-in_ok-prepared-in-Ok
 returns-in_ok-prepared-in-Ok g c =
@@ -24,7 +24,7 @@ returns-in_ok-prepared-in-Ok g c =
     let number = c.args.number in
     let new = c.answer_commit.new.self in
     let prepared = c.in_ok-prepared-in-Ok.prepared in
-    let level = ap (λ (h : Head). h.nall) c.head.ensures ∙ level_of_copy book.opening book.entries e.base e.bench c.requires.copy in
+    let level = ap (λ (h : Head). h.nall) c.head.ensures ∙ level_of_copy book.opening book.entries e.base e.bench c.requires.beside.copy in
     said_by c.answer_commit.result c.reply_of.result (IsEntered book number (Commit prepared.base prepared.edits) new)
     (IsAskedOf book number e.base e.session.draft shared.Commit new) c.reply_of.ensures c.answer_commit.ensures.ok
     (λ reply. commit_asked book new number e.base c.head.result.now.nall e.session.draft c.in-Ok.set prepared reply level c.in-Ok.ensures
@@ -36,7 +36,7 @@ returns-in-Err-Fault g c =
     let e = c.args.self.now in
     let number = c.args.number in
     let new = c.answer_faulty.new.self in
-    let level = ap (λ (h : Head). h.nall) c.head.ensures ∙ level_of_copy book.opening book.entries e.base e.bench c.requires.copy in
+    let level = ap (λ (h : Head). h.nall) c.head.ensures ∙ level_of_copy book.opening book.entries e.base e.bench c.requires.beside.copy in
     said_by c.answer_faulty.result c.reply_of-in-Err-Fault.result (IsEntered book number (Faulty _) new)
     (IsAskedOf book number e.base e.session.draft shared.Commit new) c.reply_of-in-Err-Fault.ensures c.answer_faulty.ensures.ok
     (λ reply. fault_asked book new number e.base c.head.result.now.nall e.session.draft _ reply level

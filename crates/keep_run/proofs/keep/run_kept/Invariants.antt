@@ -5,7 +5,7 @@ use Rattle.commit_book.specs.Books.{history_of}
 use Rattle.book_journal.specs.Standing.{IsStill}
 use Rattle.keep_run.specs.Runs.{IsKeptTo}
 use Rattle.keep_run.specs.Sessions.{IsRunTo, draft_of}
-use Rattle.keep_run.proofs.serve.serve_all.Given as goal
+use Rattle.keep_run.proofs.keep.run_kept.Given as goal
 
 -- the commands so far are done, and a crash has left what they keep
 abbrev pub invariant-loop-command : goal.invariant-loop-command
