@@ -12,7 +12,7 @@ ghost use Rattle.cell_bench.specs.Benches.{IsPlanRefusal, IsPlanned};
 ghost use Rattle.commit_book.specs.Books.{HaveLines, IsBookRefusal, IsEntered, IsFull, IsTakenAt, IsVerdict, LeavesCommits, answer_to, entry_limit, history_of};
 ghost use Rattle.commit_book.specs.Prepared.{AreRight, IsAheadRight, commit_budget};
 
-use crate::accepted::Accepted;
+use crate::accepted::{Accepted, accepted_after};
 use crate::book::Book;
 use crate::newer::newer_answer;
 use crate::refusal::BookRefusal;
@@ -164,7 +164,8 @@ impl Book {
         formed_edits_find_their_records();
         untouched_keys_keep_answers();
         valid_rows_stay_exact();
-        let stale = stale_keys(alloc, self.accepted.as_slice(), prepared.base())?;
+        let newer = accepted_after(self.accepted.as_slice(), prepared.base());
+        let stale = stale_keys(alloc, newer)?;
         self.bench.plan(alloc, set, prepared.rows(), &stale, steps)
     }
 

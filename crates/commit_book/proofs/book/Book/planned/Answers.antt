@@ -28,6 +28,7 @@ plan-requires-clause-ready g c =
     let prepared = c.args.prepared.now in
     let stale = c.deref.ensures.value
     ∙ c.in_ok-stale.ensures
+    ∙ ap (flat_map touched_in) c.accepted_after-newer.ensures.newer
     ∙ (λ i. flat_map touched_in (drop (c.base.ensures i) (c.as_slice.ensures.value i))) in
     subst (λ (x : GuardedEdits × List Key × List Row). AreReady book.bench x.0.edits x.1 x.2)
     (λ i. (sym c.edits-set.ensures i, sym stale i, sym c.rows.ensures i))
@@ -51,6 +52,7 @@ returns-clause-steps g c =
     let prepared = c.args.prepared.now in
     let stale = c.deref.ensures.value
     ∙ c.in_ok-stale.ensures
+    ∙ ap (flat_map touched_in) c.accepted_after-newer.ensures.newer
     ∙ (λ i. flat_map touched_in (drop (c.base.ensures i) (c.as_slice.ensures.value i))) in
     let budget : plan_budget c.edits-set.result.now.edits book.bench c.deref.result.now c.rows.result.now ≡ commit_budget c.args.self.now prepared =
     (λ i. plan_budget (c.edits-set.ensures i).edits book.bench (stale i) (c.rows.ensures i))
@@ -65,6 +67,7 @@ returns-clause-left g c =
     let set = c.edits-set.result.now in
     let stale = c.deref.ensures.value
     ∙ c.in_ok-stale.ensures
+    ∙ ap (flat_map touched_in) c.accepted_after-newer.ensures.newer
     ∙ (λ i. flat_map touched_in (drop (c.base.ensures i) (c.as_slice.ensures.value i))) in
     let budget : plan_budget set.edits book.bench c.deref.result.now c.rows.result.now ≡ commit_budget c.args.self.now prepared =
     (λ i. plan_budget (c.edits-set.ensures i).edits book.bench (stale i) (c.rows.ensures i))
