@@ -28,7 +28,8 @@ pub returns-in-Err-advance-clause-over : goal.returns-in-Err-advance-clause-over
 returns-in-Err-advance-clause-over g c =
     let desk = c.loop-served.compiler.desk in
     let old = c.loop-served.compiler.session in
-    let count : count_by is_shared old.script ≡ count_by is_shared c.args.compiler.now.session.script = ap (count_by is_shared) c.loop-served.invariant.script in
+    let script = c.loop-served.invariant.script in
+    let count : count_by is_shared old.script ≡ count_by is_shared c.args.compiler.now.session.script = ap (count_by is_shared) script in
     let all : count_by is_shared old.done ≡ count_by is_shared old.script =
     (let done = c.loop-served.invariant.done in let end = c.loop-served-test.false in let most = c.shared-served-end.ensures in
     let stays = c.loop-served.auto.served-end in omega (arith, done, end, most, stays, count)) in
