@@ -1,6 +1,7 @@
 //! A commit to which memory is refused leaves the log as it was. `benches/refusals/run.sh` refuses each allocation of this test in turn.
 
-ghost use Rattle.std.specs.Prelude.{◌≡◌, ◌≤◌, ◌<◌, [], IfOk, length};
+ghost use Rattle.std.specs.Prelude.{◌≡◌, ◌≤◌, ◌<◌, [], IfOk, IfSome, length};
+ghost use Rattle.std.specs.Option.{option_copied};
 ghost use Rattle.commit_book.specs.Books.{history_of};
 ghost use Rattle.commit_book.specs.Prepared.{AreRight};
 
@@ -49,34 +50,28 @@ fn commit_again<L: Ledger>(
     true
 }
 
-/// Commits deletions that are prepared on the newest cell.
-fn commit_late<R: Threads + Abort + Sync, L: Ledger>(
+/// Commits deletions that are prepared on the newest cell, or on the opening cell where that is handed in.
+fn commit_deletions<R: Threads + Abort + Sync, L: Ledger>(
     rt: &R,
     alloc: Global,
     book: &mut Book,
+    opening: Option<&Bench>,
     nodes: &[u32],
     steps: &mut Steps<L>,
 ) -> Result<bool, AllocError>
+    requires { IfSome (option_copied opening) (λ cell. cell ≡ book.old.opening) }
     ensures { IfOk result (λ _. book.new.opening ≡ book.old.opening) }
 {
-    let prepared = prepared_late(rt, alloc, book, nodes)?;
-    Ok(commit_again(rt, alloc, book, &prepared, steps))
-}
-
-/// Commits deletions that are prepared on the opening cell.
-fn commit_early<R: Threads + Abort + Sync, L: Ledger>(
-    rt: &R,
-    alloc: Global,
-    book: &mut Book,
-    opening: &Bench,
-    nodes: &[u32],
-    steps: &mut Steps<L>,
-) -> Result<bool, AllocError>
-    requires { opening.now ≡ book.old.opening }
-    ensures { IfOk result (λ _. book.new.opening ≡ book.old.opening) }
-{
-    let prepared = prepared_early(rt, alloc, book, opening, nodes)?;
-    Ok(commit_again(rt, alloc, book, &prepared, steps))
+    match opening {
+        Some(opening) => {
+            let prepared = prepared_early(rt, alloc, book, opening, nodes)?;
+            Ok(commit_again(rt, alloc, book, &prepared, steps))
+        }
+        None => {
+            let prepared = prepared_late(rt, alloc, book, nodes)?;
+            Ok(commit_again(rt, alloc, book, &prepared, steps))
+        }
+    }
 }
 
 /// Commits deletions one after the other, and tells whether memory was refused to one of them: two are accepted, one meets a newer commit, and one
@@ -90,10 +85,10 @@ fn commit_all<R: Threads + Abort + Sync, L: Ledger>(
 ) -> Result<bool, AllocError>
     requires { opening.now ≡ book.old.opening }
 {
-    let first = commit_late(rt, alloc, book, &[1], steps)?;
-    let second = commit_early(rt, alloc, book, opening, &[2], steps)?;
-    let third = commit_early(rt, alloc, book, opening, &[1], steps)?;
-    let last = commit_late(rt, alloc, book, &[1], steps)?;
+    let first = commit_deletions(rt, alloc, book, None, &[1], steps)?;
+    let second = commit_deletions(rt, alloc, book, Some(opening), &[2], steps)?;
+    let third = commit_deletions(rt, alloc, book, Some(opening), &[1], steps)?;
+    let last = commit_deletions(rt, alloc, book, None, &[1], steps)?;
     Ok(first || second || third || last)
 }
 
