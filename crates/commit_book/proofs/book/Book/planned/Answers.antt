@@ -17,7 +17,7 @@ pub plan-requires-clause-level : goal.plan-requires-clause-level
 plan-requires-clause-level g c =
     let book = c.self.inside in
     ap (λ (set : GuardedEdits). set.nall) c.edits-set.ensures
-    ∙ c.requires.level
+    ∙ c.requires.fits.level
     ∙ sym (ap (λ (b : BookState). b.opening.head.nall) c.self.view_is)
     ∙ level_now book.opening.value book.entries.items book.bench book.accepted.items c.self.invariant
 
@@ -36,8 +36,8 @@ plan-requires-clause-ready g c =
     c.formed_edits_find_their_records.ensures
     c.untouched_keys_keep_answers.ensures c.valid_rows_stay_exact.ensures c.known-2.ensures.writable prepared.base prepared.edits prepared.rows
     (subst (λ (set : GuardedEdits). IsFormed set.nall set.edits set.guards) c.edits-set.ensures c.known.ensures.parts)
-    (c.requires.level ∙ sym (ap (λ (b : BookState). b.opening.head.nall) c.self.view_is))
-    (subst (λ (b : BookState). AreRight b.opening b.entries prepared) (sym c.self.view_is) c.requires.rows))
+    (c.requires.fits.level ∙ sym (ap (λ (b : BookState). b.opening.head.nall) c.self.view_is))
+    (subst (λ (b : BookState). AreRight b.opening b.entries prepared) (sym c.self.view_is) c.requires.fits.rows))
 
 pub returns-clause-planned : goal.returns-clause-planned
 returns-clause-planned g c =
