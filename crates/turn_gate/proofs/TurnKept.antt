@@ -135,8 +135,8 @@ module _ {V E O : Type 0} (origin : V → O) (entries : V → List E) (number : 
             ticket = k.ticket;
             mark = λ _. (is ∙ ap Some (sym my_turn), home.2, set_here s.homes 0 none (omega arith));
             draws = k.draws;
-          } (λ j u other e. let y = h.each j u e in stays_sound number start c (get_or s.words 0 0) (get_or s.words 0 0) s.homes homes' j u y
-              (λ m. let no : true ≡ false = sym m ∙ none' j u e in absurd (cc)) y.draws);
+          } (λ j u other e. let y = h.each j u e in stays_sound number start c c.given c.keeper (get_or s.words 0 0) (get_or s.words 0 0) s.homes homes'
+              j u y y.own (λ m. let no : true ≡ false = sym m ∙ none' j u e in absurd (cc)) y.draws);
           home = λ all. let no : true ≡ false = all id w (set_at s.views id v w at) in absurd (cc);
         },
         (λ t' is'. let same : t ≡ t' = ap (value_of t) (sym is ∙ is') in (

@@ -5,10 +5,10 @@ use mathlib.Core.Option.{some, none, some-injective, some-ne-none}
 use native.Mathlib.Decide.{ℕ_discrete}
 use lib.ListN.{get_elem?}
 use Rattle.std.proofs.Common.{◌≡◌, ◌≢◌, ◌⊎◌, ℕ, zero, suc, ◌+◌, ◌≤◌, true, false, List, [], ◌∷◌, ◌++◌, length, set, Option, Some, None, sym, refl, ap, ◌∙◌}
-use Rattle.std.proofs.Common.{subst, inl, inr, ⊎_elim, arith}
+use Rattle.std.proofs.Common.{All, subst, inl, inr, ⊎_elim, arith}
 use Rattle.atomic_table.proofs.Lists.{at_set, set_else, at_longer}
 use Rattle.turn_gate.specs.declared.view.HandleView.{HandleView}
-use Rattle.turn_gate.specs.TicketLockRule.{IsAt, IsSound, LockState, count_if, count_some, waiting}
+use Rattle.turn_gate.specs.TicketLockRule.{IsAt, IsSound, Keeps, LockState, count_if, count_some, waiting}
 
 abbrev pub value_of : {A : Type 0} → A → Option A → A
 value_of d (Some a) = a
@@ -123,17 +123,18 @@ module _ {E O : Type 0} where
       ap (λ (x : HandleView E O). x.marked) (sym (some-injective v u r)) ∙ unmarked)
       (λ other. all j u (set_else vs me j w other ∙ e))
 
--- a view that is as it was, where the lock is: what it says of the word and of the slot is told anew
-pub stays_sound : {V E O : Type 0} (number : E → ℕ) (start : O) (c : LockState E) (drawn drawn' : ℕ) (homes homes' : List (maybe.Option (Option V)))
-    (id : ℕ) (v : HandleView E O) → IsSound {V = V} {E = E} {O = O} number start c drawn homes id v
+-- a view that is as it was: what the numbers that were given, the word and the slot have to do with is told anew
+pub stays_sound : {V E O : Type 0} (number : E → ℕ) (start : O) (c : LockState E) (given : ℕ) (keeper : ℕ → ℕ) (drawn drawn' : ℕ)
+    (homes homes' : List (maybe.Option (Option V))) (id : ℕ) (v : HandleView E O) → IsSound {V = V} {E = E} {O = O} number start c drawn homes id v
+    → All (Keeps number (record c { given = given; keeper = keeper }) id v.observed) v.own
     → (v.marked ≡ true → (v.ticket ≡ Some c.served) × (v.observed ≡ c.published) × (get_elem? homes' 0 ≡ some none))
-    → (v.draws ≡ true → (c.drawer ≡ id) × (v.given ≡ c.given) × (drawn' ≡ c.given + count_if v.drawn))
-    → IsSound {V = V} {E = E} {O = O} number start c drawn' homes' id v
-stays_sound number start c drawn drawn' homes homes' id v k mark draws = record {
+    → (v.draws ≡ true → (c.drawer ≡ id) × (v.given ≡ given) × (drawn' ≡ given + count_if v.drawn))
+    → IsSound {V = V} {E = E} {O = O} number start (record c { given = given; keeper = keeper }) drawn' homes' id v
+stays_sound number start c given keeper drawn drawn' homes homes' id v k own mark draws = record {
   observed = k.observed;
   joined = k.joined;
   origin = k.origin;
-  own = k.own;
+  own = own;
   ticket = k.ticket;
   mark = mark;
   draws = draws;
