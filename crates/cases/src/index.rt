@@ -99,24 +99,23 @@ pub fn run_files<R: Files + AllocGlobal + Threads + Wait + Sync>(
             && first == word
         {
             let text = index.text_of(rt, file)?;
-            run_cases(rt, rt.alloc(), bases, file, text.as_str(), report)?;
+            run_cases(rt, bases, file, text.as_str(), report)?;
         }
     }
     Ok(())
 }
 
 /// Runs the cases of a file.
-fn run_cases<R: Threads + Wait + Sync>(
+fn run_cases<R: AllocGlobal + Threads + Wait + Sync>(
     rt: &R,
-    alloc: Global,
     bases: &Bases,
     file: &str,
     text: &str,
     report: &mut Report,
 ) -> Result<(), AllocError> {
-    let cases = read_cases(alloc, text)?;
+    let cases = read_cases(rt.alloc(), text)?;
     for case in &cases {
-        report.run_case(rt, alloc, bases, file, case)?;
+        report.run_case(rt, bases, file, case)?;
     }
     Ok(())
 }

@@ -54,21 +54,20 @@ impl Report {
     }
 
     /// Runs a case of a file for each of its rows, up to the first at which it differs.
-    pub fn run_case<R: Threads + Wait + Sync>(
+    pub fn run_case<R: AllocGlobal + Threads + Wait + Sync>(
         &mut self,
         rt: &R,
-        alloc: Global,
         bases: &Bases,
         file: &str,
         case: &Case,
     ) -> Result<(), AllocError> {
         self.cases = self.cases.saturating_add(1);
         if case.rows.is_empty() {
-            self.run_row(rt, alloc, bases, file, case, &[])?;
+            self.run_row(rt, bases, file, case, &[])?;
             return Ok(());
         }
         for row in &case.rows {
-            if !self.run_row(rt, alloc, bases, file, case, row)? {
+            if !self.run_row(rt, bases, file, case, row)? {
                 break;
             }
         }
@@ -76,18 +75,18 @@ impl Report {
     }
 
     /// Runs a case for one row, and appends what differs. The answer says whether nothing did.
-    fn run_row<R: Threads + Wait + Sync>(
+    fn run_row<R: AllocGlobal + Threads + Wait + Sync>(
         &mut self,
         rt: &R,
-        alloc: Global,
         bases: &Bases,
         file: &str,
         case: &Case,
         row: &[String],
     ) -> Result<bool, AllocError> {
         self.runs = self.runs.saturating_add(1);
+        let alloc = rt.alloc();
         let mut stage = Stage::new(alloc, bases);
-        let words = match run_lines(rt, alloc, &mut stage, case, row) {
+        let words = match run_lines(rt, &mut stage, case, row) {
             Ok(()) => return Ok(true),
             Err(Stop::NoMemory) => return Err(AllocError),
             Err(Stop::Differs(words)) => words,
@@ -103,15 +102,14 @@ impl Report {
 }
 
 /// Takes the lines of a case, with the columns of a row in their place.
-fn run_lines<R: Threads + Wait + Sync>(
+fn run_lines<R: AllocGlobal + Threads + Wait + Sync>(
     rt: &R,
-    alloc: Global,
     stage: &mut Stage,
     case: &Case,
     row: &[String],
 ) -> Result<(), Stop> {
     for line in &case.lines {
-        let text = with_columns(alloc, line.text, row)?;
+        let text = with_columns(rt.alloc(), line.text, row)?;
         stage.take(rt, line.number, text.as_str())?;
     }
     stage.settle()

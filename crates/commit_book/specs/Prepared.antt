@@ -1,6 +1,6 @@
 -- Commits that were prepared on an older cell: when their rows are right, which keys newer commits made stale, and how many look-ups deciding them
 -- makes. This project's own rules.
-use Rattle.std.specs.Prelude.{ℕ, ◌*◌, List, [], ◌∷◌, ◌++◌, IfSome, drop, length}
+use Rattle.std.specs.Prelude.{◌≡◌, ℕ, ◌*◌, ◌≤◌, List, [], ◌∷◌, ◌++◌, IfSome, drop, length}
 use Rattle.std.specs.Option.{option_map_or}
 use Rattle.s57_types.specs.declared.cell.Cell.{Cell}
 use Rattle.cell_spec.specs.declared.key.Key.{Key}
@@ -26,6 +26,12 @@ stale_keys c commits base = keys_touched (cell_after base commits c) (drop base 
 -- that cell doesn't take the edits
 abbrev pub AreRight : Cell → List Entry → PreparedCommit → Type 0
 AreRight c entries p = RowsAreExact p.edits.edits (cell_told c entries p.base) p.rows
+
+-- what was prepared can be put to a log: its base is that of an accepted commit, it is at the opening's level of national texts, and its rows are right
+pub record CanBePut (book : BookState) (p : PreparedCommit) : Type 0 where
+  pub base : p.base ≤ length (history_of book).commits
+  pub level : p.edits.nall ≡ book.opening.head.nall
+  pub rows : AreRight book.opening book.entries p
 
 -- what was built ahead is what the edits leave of the cell of the base, with nothing that speaks against them there
 abbrev pub IsAheadRight : Cell → List Entry → PreparedCommit → Type 0

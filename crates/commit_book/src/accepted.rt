@@ -1,6 +1,6 @@
 //! An accepted commit.
 
-ghost use Rattle.std.specs.Prelude.{◌≡◌, ◌+◌, ◌≤◌, IfOk, length};
+ghost use Rattle.std.specs.Prelude.{◌≡◌, ◌+◌, ◌≤◌, IfOk, drop, length};
 ghost use Rattle.cell_spec.specs.Edits.{touched_keys};
 
 use cell_bench::Bench;
@@ -43,4 +43,14 @@ impl Accepted {
             touched: touched(alloc, bench.store(), set, steps)?,
         })
     }
+}
+
+/// The commits that were accepted after a base.
+pub(crate) fn accepted_after(accepted: &[Accepted], base: u32) -> &[Accepted]
+    requires { base ≤ length accepted.now }
+    ensures newer { result.now ≡ drop base accepted.now }
+    ensures len { length result.now + base ≡ length accepted.now }
+{
+    let (_, newer) = accepted.split_at(base as usize);
+    newer
 }

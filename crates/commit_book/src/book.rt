@@ -8,9 +8,9 @@ ghost use Rattle.cell_bench.specs.Benches.{IsLoadRefusal};
 ghost use Rattle.commit_book.specs.Books.{AreSetsOf, HaveLines, IsBookRefusal, IsEntered, IsNews, IsOpened, accepted_sets, entry_limit, history_of};
 ghost use Rattle.commit_book.specs.Prepared.{AreRight, commit_budget};
 
-use crate::accepted::Accepted;
+use crate::accepted::{Accepted, accepted_after};
 use crate::refusal::BookRefusal;
-use crate::told::{EditSets, Told, sets_after, sets_told, with_set};
+use crate::told::{EditSets, Told, sets_of, sets_told, with_set};
 use cell_bench::{Bench, LoadRefusal, Prepared};
 use chain_topo::Steps;
 use edit_sets::{EditSet, FormFault};
@@ -147,7 +147,7 @@ impl Book {
         ensures sets { IfOk result (λ sets. sets.items ≡ drop base (accepted_sets self.now.entries)) }
         ensures within { base ≤ length (accepted_sets self.now.entries) }
     {
-        sets_after(alloc, self.accepted.as_slice(), base)
+        sets_of(alloc, accepted_after(self.accepted.as_slice(), base))
     }
 
     /// Lets a desk see the newest state, and tells it the edit sets that were accepted after its base.

@@ -10,9 +10,9 @@ ghost use Rattle.history_spec.specs.Entries.{event_asked};
 ghost use Rattle.history_spec.specs.Steps.{answer, newer_answer, state_refusal};
 ghost use Rattle.cell_bench.specs.Benches.{IsPlanRefusal, IsPlanned};
 ghost use Rattle.commit_book.specs.Books.{HaveLines, IsBookRefusal, IsEntered, IsFull, IsTakenAt, IsVerdict, LeavesCommits, answer_to, entry_limit, history_of};
-ghost use Rattle.commit_book.specs.Prepared.{AreRight, IsAheadRight, commit_budget};
+ghost use Rattle.commit_book.specs.Prepared.{AreRight, CanBePut, IsAheadRight, commit_budget};
 
-use crate::accepted::Accepted;
+use crate::accepted::{Accepted, accepted_after};
 use crate::book::Book;
 use crate::newer::newer_answer;
 use crate::refusal::BookRefusal;
@@ -147,9 +147,7 @@ impl Book {
         prepared: &Prepared,
         steps: &mut Steps<L>,
     ) -> Result<BenchPlan, PlanRefusal>
-        requires base { prepared.now.base ≤ length (history_of self.now).commits }
-        requires level { prepared.now.edits.nall ≡ self.now.opening.head.nall }
-        requires rows { AreRight self.now.opening self.now.entries prepared.now }
+        requires fits { CanBePut self.now prepared.now }
         requires alone { newer_answer (history_of self.now).commits prepared.now.base prepared.now.edits.edits prepared.now.edits.guards ≡ None }
         ensures planned { MatchResult result (IsPlanned (history_of self.now).cell prepared.now.edits.edits)
             (IsPlanRefusal (history_of self.now).cell prepared.now.edits.edits) }
@@ -164,7 +162,8 @@ impl Book {
         formed_edits_find_their_records();
         untouched_keys_keep_answers();
         valid_rows_stay_exact();
-        let stale = stale_keys(alloc, self.accepted.as_slice(), prepared.base())?;
+        let newer = accepted_after(self.accepted.as_slice(), prepared.base());
+        let stale = stale_keys(alloc, newer)?;
         self.bench.plan(alloc, set, prepared.rows(), &stale, steps)
     }
 
@@ -192,9 +191,7 @@ impl Book {
         ahead: Option<&BenchPlan>,
         steps: &mut Steps<L>,
     ) -> Result<BenchPlan, PlanRefusal>
-        requires base { prepared.now.base ≤ length (history_of self.now).commits }
-        requires level { prepared.now.edits.nall ≡ self.now.opening.head.nall }
-        requires rows { AreRight self.now.opening self.now.entries prepared.now }
+        requires fits { CanBePut self.now prepared.now }
         requires ahead { prepared.now.base ≡ length (history_of self.now).commits
             → IfSome (option_copied ahead) (IsPlanned (history_of self.now).cell prepared.now.edits.edits) }
         requires alone { newer_answer (history_of self.now).commits prepared.now.base prepared.now.edits.edits prepared.now.edits.guards ≡ None }
@@ -223,9 +220,7 @@ impl Book {
         steps: &mut Steps<L>,
     ) -> Result<Answered, BookRefusal>
         requires room { length self.old.entries < entry_limit }
-        requires base { prepared.now.base ≤ length (history_of self.old).commits }
-        requires level { prepared.now.edits.nall ≡ self.old.opening.head.nall }
-        requires rows { AreRight self.old.opening self.old.entries prepared.now }
+        requires fits { CanBePut self.old prepared.now }
         requires ahead { prepared.now.base ≡ length (history_of self.old).commits
             → IfSome (option_copied ahead) (IsPlanned (history_of self.old).cell prepared.now.edits.edits) }
         ensures ok { IfOk result (λ answered. IsEntered self.old desk (Asked.Commit prepared.now.base prepared.now.edits) self.new answered.reply) }

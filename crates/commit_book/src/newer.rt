@@ -5,7 +5,7 @@ ghost use Rattle.std.specs.List.{enumerate_from};
 ghost use Rattle.history_spec.specs.Steps.{clash_with as spec_clash_with, newer_answer as spec_newer_answer};
 ghost use Rattle.commit_book.specs.Books.{IsNewer, commit_of, first_clash as spec_first_clash};
 
-use crate::accepted::Accepted;
+use crate::accepted::{Accepted, accepted_after};
 use crate::names::least_contested;
 use edit_sets::EditSet;
 use history_spec::Reply;
@@ -70,6 +70,6 @@ pub(crate) fn newer_answer(
     ensures same { IfOk result (λ reply. reply ≡ spec_newer_answer (map commit_of accepted.now) base set.now.edits set.now.guards) }
     ensures newer { IfOk result (λ reply. IfSome reply IsNewer) }
 {
-    let (_, newer) = accepted.split_at(base as usize);
+    let newer = accepted_after(accepted, base);
     first_clash(alloc, set, base, newer)
 }

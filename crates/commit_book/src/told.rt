@@ -1,6 +1,6 @@
 //! What a book answers.
 
-ghost use Rattle.std.specs.Prelude.{◌≡◌, ◌≤◌, ◌++◌, [], ◌∷◌, IfOk, drop, length, map};
+ghost use Rattle.std.specs.Prelude.{◌≡◌, ◌++◌, [], ◌∷◌, IfOk, map};
 ghost use Rattle.history_spec.specs.Entries.{brief_of as spec_brief_of};
 ghost use Rattle.commit_book.specs.Books.{set_in, sets_told as spec_sets_told};
 
@@ -69,16 +69,10 @@ pub(crate) fn brief_of(reply: &Reply) -> Brief
     }
 }
 
-/// The edit sets of the commits after so many.
-pub(crate) fn sets_after(
-    alloc: Global,
-    accepted: &[Accepted],
-    base: u32,
-) -> Result<Vec<EditSet>, AllocError>
-    requires { base ≤ length accepted.now }
-    ensures { IfOk result (λ sets. sets.items ≡ map set_in (drop base accepted.now)) }
+/// The edit sets of commits.
+pub(crate) fn sets_of(alloc: Global, newer: &[Accepted]) -> Result<Vec<EditSet>, AllocError>
+    ensures { IfOk result (λ sets. sets.items ≡ map set_in newer.now) }
 {
-    let (_, newer) = accepted.split_at(base as usize);
     let mut sets = Vec::new(alloc);
     for commit in newer {
         sets.push(commit.set.copy(alloc)?)?;

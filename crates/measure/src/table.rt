@@ -32,6 +32,18 @@ impl Work {
     }
 }
 
+/// A table of values that are looked up by their keys.
+pub trait Values {
+    /// The value of a key, if the key is there.
+    fn value_of(&self, key: u32) -> Option<u64>;
+}
+
+impl Values for RowTable<u32, u64> {
+    fn value_of(&self, key: u32) -> Option<u64> {
+        self.get(&key).copied()
+    }
+}
+
 /// The next of a row of numbers that look random and are the same on every machine.
 pub fn next_number(seed: u64) -> u64 {
     seed.wrapping_mul(6_364_136_223_846_793_005)
@@ -82,12 +94,13 @@ fn random_puts(alloc: Global, size: u32) -> Result<RowTable<u32, u64>, AllocErro
     Ok(table)
 }
 
-fn sum_of_gets(table: &RowTable<u32, u64>, size: u32) -> u64 {
+/// The sum of the values that random keys have in a table.
+pub fn sum_of_gets<T: Values>(table: &T, size: u32) -> u64 {
     let mut sum = 0u64;
     let mut seed = 2;
     for _ in 0..ROUNDS {
         seed = next_number(seed);
-        sum = sum.wrapping_add(table.get(&random_key(seed, size)).copied().unwrap_or(7));
+        sum = sum.wrapping_add(table.value_of(random_key(seed, size)).unwrap_or(7));
     }
     sum
 }

@@ -1,14 +1,11 @@
 //! The table of which copies share pieces: looked up, and changed while an older version lives.
 
 use crate::held::hold;
-use crate::table::{ascending_rows, next_number, random_key};
+use crate::table::{Values, ascending_rows, next_number, random_key, sum_of_gets};
 use row_table::is_ascending;
 use s57_types::Duplicate;
 use shared_table::{Shared, SharedTable};
 use std::alloc::{AllocError, Global};
-
-/// How many look-ups a case makes.
-const GETS: u32 = 1_000_000;
 
 /// How many versions a case makes.
 const VERSIONS: u32 = 100_000;
@@ -46,6 +43,12 @@ impl Work {
     }
 }
 
+impl Values for SharedTable<u32, u64> {
+    fn value_of(&self, key: u32) -> Option<u64> {
+        self.get(&key).copied()
+    }
+}
+
 fn number_table(alloc: Global, size: u32) -> Result<SharedTable<u32, u64>, AllocError> {
     let rows = ascending_rows(alloc, size)?;
     if !is_ascending(&rows) {
@@ -78,16 +81,6 @@ fn sum_of_values(table: &SharedTable<u32, Shared<u64>>) -> u64 {
     let mut sum = 0u64;
     for (key, value) in table.rows() {
         sum = sum.wrapping_mul(31).wrapping_add(u64::from(*key) ^ **value);
-    }
-    sum
-}
-
-fn sum_of_gets(table: &SharedTable<u32, u64>, size: u32) -> u64 {
-    let mut sum = 0u64;
-    let mut seed = 2;
-    for _ in 0..GETS {
-        seed = next_number(seed);
-        sum = sum.wrapping_add(table.get(&random_key(seed, size)).copied().unwrap_or(7));
     }
     sum
 }

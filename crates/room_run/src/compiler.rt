@@ -1,7 +1,8 @@
 //! One compiler of the cell: a session at its desk.
 
-ghost use Rattle.std.specs.Prelude.{◌≡◌, ◌<◌, [], IfErr, IfOk, OnOk, count_by};
+ghost use Rattle.std.specs.Prelude.{◌≡◌, ◌<◌, IfErr, IfOk, OnOk, count_by};
 ghost use Rattle.room_run.specs.Compilers.{IsAnswered, IsAtDesk, IsCut, IsHaltedAt, IsOneFurther, IsOver};
+ghost use Rattle.room_run.specs.Rooms.{IsFresh};
 ghost use Rattle.text_spec.specs.ScriptLines.{is_shared};
 ghost use Rattle.workroom.specs.Desks.{IsSameDesk};
 
@@ -142,23 +143,31 @@ pub(crate) fn serve<R: Threads + Wait + Sync, M: Meet>(
     room: &Workroom,
     alloc: Global,
     meet: &M,
-    desk: &mut Desk,
-    session: &mut Session,
+    compiler: &mut Compiler,
 ) -> Ended
-    requires room { desk.old.room ≡ room.now.room }
-    requires at_desk { IsAtDesk desk.old session.old }
-    requires fresh { session.old.done ≡ [] }
-    ensures same { IsSameDesk desk.old desk.new }
-    ensures script { session.new.script ≡ session.old.script }
-    ensures over { IsOver (M.sticks meet.now) session.old.script desk.new session.new result }
+    requires { IsFresh room.now.room compiler.old }
+    ensures same { IsSameDesk compiler.old.desk compiler.new.desk }
+    ensures script { compiler.new.session.script ≡ compiler.old.session.script }
+    ensures over { IsOver (M.sticks meet.now) compiler.old.session.script compiler.new.desk compiler.new.session result }
 {
-    for served in 0..session.shared() {
-        if let Err(ended) = serve_next(rt, room, alloc, meet, desk, session, served + 1) {
+    for served in 0..compiler.session.shared() {
+        if let Err(ended) = serve_next(
+            rt,
+            room,
+            alloc,
+            meet,
+            &mut compiler.desk,
+            &mut compiler.session,
+            served + 1,
+        ) {
             return ended;
         }
     }
-    desk.stands();
-    match session.advance(alloc, desk.bench(), desk.base()) {
+    compiler.desk.stands();
+    match compiler
+        .session
+        .advance(alloc, compiler.desk.bench(), compiler.desk.base())
+    {
         Ok(_) => Ended::Done,
         Err(_) => Ended::NoMemory,
     }

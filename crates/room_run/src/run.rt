@@ -81,14 +81,7 @@ fn run_one<R: Threads + Wait + Sync, M: Meet>(
     requires { IsFresh room.now.room compiler.old }
     ensures { IsRun (M.sticks meet.now) compiler.old compiler.new }
 {
-    compiler.ended = serve(
-        rt,
-        room,
-        alloc,
-        meet,
-        &mut compiler.desk,
-        &mut compiler.session,
-    );
+    compiler.ended = serve(rt, room, alloc, meet, compiler);
 }
 
 /// Runs each session in a thread of its own.

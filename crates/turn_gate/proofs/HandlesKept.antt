@@ -5,8 +5,8 @@ use mathlib.Core.Option.{some, none, some-injective}
 use native.Mathlib.Decide.{ℕ_discrete}
 use lib.ListN.{get_elem?}
 use lib.Seq.{set-get_or}
-use Rattle.std.proofs.Common.{◌≡◌, ◌≢◌, ◌⊎◌, ℕ, ◌+◌, ◌%◌, ◌^◌, ◌<◌, ◌≤◌, ◌||◌, if◌then◌else◌, Bool, true, false, List, [], ◌∷◌, ◌++◌, length, replicate}
-use Rattle.std.proofs.Common.{get_or, set, All, Contains, Option, Some, None, sym, refl, ap, ◌∙◌, subst, inl, inr, ⊎_elim, arith, length-set, length-append}
+use Rattle.std.proofs.Common.{◌≡◌, ◌≢◌, ℕ, ◌+◌, ◌%◌, ◌^◌, ◌<◌, ◌≤◌, ◌||◌, if◌then◌else◌, Bool, true, false, List, [], ◌∷◌, ◌++◌, length, replicate}
+use Rattle.std.proofs.Common.{get_or, set, All, Contains, Option, Some, None, sym, refl, ap, ◌∙◌, subst, ⊎_elim, arith, length-set, length-append}
 use Rattle.std.proofs.Common.{get_or-set_other, get_or-set_same}
 use Rattle.std.proofs.lemmas.Bool.{cases_Bool}
 use Rattle.std.proofs.lemmas.List.Elements.{Contains-append_left, Contains-append_right, All-weaker, All-nil, All-cons, All-append, All-same}
@@ -20,11 +20,7 @@ use Rattle.turn_gate.specs.Outcomes.{DrawsNumber, ComparesHistories, giving_view
 use Rattle.turn_gate.proofs.Prefixes.{longer_prefix}
 use Rattle.turn_gate.proofs.Entries.{entries_by-unused, entries_by-none_before, exact_between}
 use Rattle.turn_gate.proofs.Views.{put, put_here, put_else, moved, moved_here, moved_else, set_at, at_end, only, each_stays, at_stays, at_stays_longer}
-use Rattle.turn_gate.proofs.Views.{none_marked, waiting_set, waiting_more}
-
-abbrev value_of : {O : Type 0} → O → Option O → O
-value_of d (Some o) = o
-value_of d None = d
+use Rattle.turn_gate.proofs.Views.{none_marked, stays_sound, value_of, waiting_set, waiting_more}
 
 module _ {V E O : Type 0} (origin : V → O) (entries : V → List E) (number : E → ℕ) (start : O) where
   abbrev Rule : State (Option V) (HandleView E O) → Type 0
@@ -67,9 +63,33 @@ module _ {V E O : Type 0} (origin : V → O) (entries : V → List E) (number : 
     home = λ _. (x, refl, empty, from);
   }
 
-  pub draws_number : (slots id : ℕ) (me : Mine) → me.0.draws ≡ true → me.0.drawn ≡ false → me.0.marked ≡ false
+  -- a step that leaves the lock and the slot as they are, and of its view the ticket, the own lists and the mark
+  changes_view : (s : State (Option V) (HandleView E O)) (h : Rule s) (words : List ℕ) (id : ℕ) (v w : HandleView E O) → get_elem? s.views id ≡ some v
+      → w.ticket ≡ v.ticket → w.own ≡ v.own → w.marked ≡ v.marked
+      → length words ≡ length s.words → get_or words 1 0 ≡ get_or s.words 1 0 → get_or words 2 0 ≡ get_or s.words 2 0
+      → ((j : ℕ) (u : HandleView E O) → get_elem? (set s.views id w) j ≡ some u
+      → IsSound {V = V} {E = E} {O = O} number start h.lock (get_or words 0 0) s.homes j u)
+      → Rule record { words = words; homes = s.homes; views = set s.views id w }
+  changes_view s h words id v w at same_ticket same_own same_mark same_length same_tickets same_turns each = let c : LockState E = h.lock in record {
+    lock = c;
+    wide = same_length ∙ h.wide;
+    deep = h.deep;
+    tickets = same_tickets ∙ h.tickets;
+    turns = same_turns ∙ h.turns;
+    queue = let more = waiting_set s.views id v w at in let one : count_some w.ticket ≡ count_some v.ticket = ap count_some same_ticket in
+        let queue = h.queue in omega arith;
+    queued = λ t low high. at_stays (λ u. u.ticket ≡ Some t) s.views id v w (c.holder t) at (λ _ e. same_ticket ∙ e) (h.queued t low high);
+    bounded = (rw (length-set s.views id w) h.bounded.0, h.bounded.1);
+    numbered = h.numbered;
+    keepers = λ m l. at_stays (λ u. Contains (numbers_of u.own) m) s.views id v w (c.keeper m) at
+        (λ _ p. subst (λ (own : List (OwnList E)). Contains (numbers_of own) m) (sym same_own) p) (h.keepers m l);
+    each = each;
+    home = λ all. h.home (none_marked s.views id v w at (sym same_mark ∙ all id w (set_at s.views id v w at)) all);
+  }
+
+  pub draws_number : (slots id : ℕ) (me : Mine) → me.0.draws ≡ true → me.0.drawn ≡ false
       → Allows Rule slots id me 0 (λ n. (n + 1) % 2 ^ 64) (DrawsNumber (step slots 0 1 0 none) me)
-  draws_number slots id me root nothing unmarked s h deep at small =
+  draws_number slots id me root nothing s h deep at small =
       let c : LockState E = h.lock in let v : HandleView E O = me.0 in let n : ℕ = (get_or s.words 0 0 + 1) % 2 ^ 64 in let w : HandleView E O =
       record v { drawn = true } in
       let k = h.each id v at in let wide = h.wide in let r = k.draws root in let r₂ = r.2 in let none' : count_if v.drawn ≡ 0 =
@@ -79,36 +99,18 @@ module _ {V E O : Type 0} (origin : V → O) (entries : V → List E) (number : 
         w,
         keeps,
         tt,
-        record {
-          lock = c;
-          wide = length-set s.words 0 n ∙ h.wide;
-          deep = h.deep;
-          tickets = get_or-set_other s.words 0 1 n 0 (omega arith) ∙ h.tickets;
-          turns = get_or-set_other s.words 0 2 n 0 (omega arith) ∙ h.turns;
-          queue = let more = waiting_set s.views id v w at in let queue = h.queue in omega arith;
-          queued = λ t low high. at_stays (λ u. u.ticket ≡ Some t) s.views id v w (c.holder t) at (λ _ e. e) (h.queued t low high);
-          bounded = (rw (length-set s.views id w) h.bounded.0, h.bounded.1);
-          numbered = h.numbered;
-          keepers = λ m l. at_stays (λ u. Contains (numbers_of u.own) m) s.views id v w (c.keeper m) at (λ _ p. p) (h.keepers m l);
-          each = each_stays K s.views id w record {
-            observed = k.observed;
-            joined = k.joined;
-            origin = k.origin;
-            own = k.own;
-            ticket = k.ticket;
-            mark = k.mark;
-            draws = λ _. (r.0, r.1, next);
-          } (λ j u other e. let y = h.each j u e in record {
-            observed = y.observed;
-            joined = y.joined;
-            origin = y.origin;
-            own = y.own;
-            ticket = y.ticket;
-            mark = y.mark;
-            draws = λ b. absurd (other (sym (y.draws b).0 ∙ r.0));
-          });
-          home = λ all. h.home (none_marked s.views id v w at unmarked all);
-        },
+        changes_view s h (set s.words 0 n) id v w at refl refl refl (length-set s.words 0 n) (get_or-set_other s.words 0 1 n 0 (omega arith))
+            (get_or-set_other s.words 0 2 n 0 (omega arith))
+            (each_stays K s.views id w record {
+              observed = k.observed;
+              joined = k.joined;
+              origin = k.origin;
+              own = k.own;
+              ticket = k.ticket;
+              mark = k.mark;
+              draws = λ _. (r.0, r.1, next);
+            } (λ j u other e. let y = h.each j u e in stays_sound number start c c.given c.keeper (get_or s.words 0 0) (get_or (set s.words 0 n) 0 0)
+                s.homes s.homes j u y y.own y.mark (λ b. absurd (other (sym (y.draws b).0 ∙ r.0))))),
         refl,
       )
 
@@ -119,35 +121,18 @@ module _ {V E O : Type 0} (origin : V → O) (entries : V → List E) (number : 
         w,
         keeps,
         tt,
-        subst (λ (ws : List ℕ). Rule record { words = ws; homes = s.homes; views = set s.views id w }) (sym (set-get_or s.words 0 0)) record {
-          lock = c;
-          wide = h.wide;
-          deep = h.deep;
-          tickets = h.tickets;
-          turns = h.turns;
-          queue = let more = waiting_set s.views id v w at in let queue = h.queue in omega arith;
-          queued = λ t low high. at_stays (λ u. u.ticket ≡ Some t) s.views id v w (c.holder t) at (λ _ e. e) (h.queued t low high);
-          bounded = (rw (length-set s.views id w) h.bounded.0, h.bounded.1);
-          numbered = h.numbered;
-          keepers = λ m l. at_stays (λ u. Contains (numbers_of u.own) m) s.views id v w (c.keeper m) at (λ _ p. p) (h.keepers m l);
-          each = each_stays K s.views id w record {
-            observed = k.observed;
-            joined = All-nil (λ (l : List E). IsPrefix l v.observed);
-            origin = k.origin;
-            own = k.own;
-            ticket = k.ticket;
-            mark = k.mark;
-            draws = k.draws;
-          } (λ j u _ e. h.each j u e);
-          home = λ all. h.home (λ j u e. ⊎_elim (λ (t : (j ≡ id)). ap (λ (z : HandleView E O). z.marked)
-              (some-injective u v (sym e ∙ (ap (get_elem? s.views) t ∙ at))) ∙ all id w (set_at s.views id v w at))
-              (λ (t : (j ≢ id)). all j u (set_else s.views id j w t ∙ e)) (same_or_not j id));
-        },
+        subst (λ (ws : List ℕ). Rule record { words = ws; homes = s.homes; views = set s.views id w }) (sym (set-get_or s.words 0 0))
+            (changes_view s h s.words id v w at refl refl refl refl refl refl (each_stays K s.views id w record {
+              observed = k.observed;
+              joined = All-nil (λ (l : List E). IsPrefix l v.observed);
+              origin = k.origin;
+              own = k.own;
+              ticket = k.ticket;
+              mark = k.mark;
+              draws = k.draws;
+            } (λ j u _ e. h.each j u e))),
         (refl, (All-weaker (Keeps number c id v.observed) (IsExact number v.observed) (λ o p. p.seen) v.own k.own, k.joined)),
       )
-    where
-      same_or_not : (a b : ℕ) → (a ≡ b) ⊎ (a ≢ b)
-      same_or_not a b = dite (ℕ_discrete a b) (λ e. inl e) (λ e. inr e)
 
   pub splits_handle : (id : ℕ) (v : HandleView E O) → v.draws ≡ true → v.drawn ≡ true → v.given < 2 ^ 32 → v.ticket ≡ None
       → v.marked ≡ false → Splits Rule id v (giving_view v) (new_view v)
@@ -175,15 +160,8 @@ module _ {V E O : Type 0} (origin : V → O) (entries : V → List E) (number : 
         ticket = k.ticket;
         mark = k.mark;
         draws = λ _. (r.0, ap (λ (z : ℕ). z + 1) r.1, omega arith);
-      } (λ j u other e. let y = h.each j u e in record {
-        observed = y.observed;
-        joined = y.joined;
-        origin = y.origin;
-        own = stay j u y.own;
-        ticket = y.ticket;
-        mark = y.mark;
-        draws = λ b. absurd (other (sym (y.draws b).0 ∙ r.0));
-      }) in
+      } (λ j u other e. let y = h.each j u e in stays_sound number start c (c.given + 1) (put c.keeper c.given n) (get_or s.words 0 0) (get_or s.words 0 0)
+          s.homes s.homes j u y (stay j u y.own) y.mark (λ b. absurd (other (sym (y.draws b).0 ∙ r.0)))) in
       let new : K n o = record {
         observed = k.observed;
         joined = All-nil (λ (l : List E). IsPrefix l v.observed);

@@ -17,15 +17,11 @@ use Rattle.turn_gate.specs.TicketLockRule.{LockState, Keeps, IsSound, IsAt, Tick
 use Rattle.turn_gate.specs.Outcomes.{TakesTicket, LooksForTurn, CallsSleepers, PassesTurn, view_after_turn}
 use Rattle.turn_gate.proofs.Prefixes.{prefix_refl}
 use Rattle.turn_gate.proofs.Entries.{entries_by-stay, appends_prefix, numbers_of-exact, at_number}
-use Rattle.turn_gate.proofs.Views.{put, put_here, put_else, set_at, each_stays, at_stays, none_marked, waiting_set, waiting_fits}
+use Rattle.turn_gate.proofs.Views.{put, put_here, put_else, set_at, each_stays, at_stays, none_marked, stays_sound, value_of, waiting_set, waiting_fits}
 
 abbrev pub value_or : {V : Type 0} → V → List (ℕ × Option V) → V
 value_or d [] = d
 value_or d (x ∷ xs) = unwrap_or x.1 d
-
-abbrev pub the_ticket : ℕ → Option ℕ → ℕ
-the_ticket d (Some t) = t
-the_ticket d None = d
 
 module _ {V E O : Type 0} (origin : V → O) (entries : V → List E) (number : E → ℕ) (start : O) where
   abbrev Rule : State (Option V) (HandleView E O) → Type 0
@@ -71,7 +67,7 @@ module _ {V E O : Type 0} (origin : V → O) (entries : V → List E) (number : 
             origin = k.origin;
             own = All-weaker (Keeps number c id v.observed) (Keeps number c' id v.observed)
                 (λ o p. record { low = p.low; keeper = p.keeper; seen = p.seen; whole = p.whole }) v.own k.own;
-            ticket = λ r e. let same : t ≡ r = ap (the_ticket t) e in (
+            ticket = λ r e. let same : t ≡ r = ap (value_of t) e in (
               (let queued : c.served ≤ t = omega arith in let g : c.served ≤ r = omega arith in g),
               (let g : r < t + 1 = omega arith in g),
               ap (put c.holder t id) (sym same) ∙ put_here c.holder t id,
@@ -139,18 +135,11 @@ module _ {V E O : Type 0} (origin : V → O) (entries : V → List E) (number : 
             ticket = k.ticket;
             mark = λ _. (is ∙ ap Some (sym my_turn), home.2, set_here s.homes 0 none (omega arith));
             draws = k.draws;
-          } (λ j u other e. let y = h.each j u e in record {
-            observed = y.observed;
-            joined = y.joined;
-            origin = y.origin;
-            own = y.own;
-            ticket = y.ticket;
-            mark = λ m. let no : true ≡ false = sym m ∙ none' j u e in absurd (cc);
-            draws = y.draws;
-          });
+          } (λ j u other e. let y = h.each j u e in stays_sound number start c c.given c.keeper (get_or s.words 0 0) (get_or s.words 0 0) s.homes homes'
+              j u y y.own (λ m. let no : true ≡ false = sym m ∙ none' j u e in absurd (cc)) y.draws);
           home = λ all. let no : true ≡ false = all id w (set_at s.views id v w at) in absurd (cc);
         },
-        (λ t' is'. let same : t ≡ t' = ap (the_ticket t) (sym is ∙ is') in (
+        (λ t' is'. let same : t ≡ t' = ap (value_of t) (sym is ∙ is') in (
           λ _. (
             x,
             ap (λ (cs : List (ℕ × Option V)). (0, Some x) ∷ cs) bare,
@@ -171,7 +160,7 @@ module _ {V E O : Type 0} (origin : V → O) (entries : V → List E) (number : 
         tt,
         subst (λ (z : List ℕ × List (HandleView E O)). Rule record { words = z.0; homes = s.homes; views = z.1 })
             (λ i. (sym (set-get_or s.words 2 0) i, sym (set_again s.views id v at) i)) h,
-        (λ t' is'. let same : t' ≡ t = ap (the_ticket t) (sym is' ∙ is) in ((λ e. absurd (miss (e ∙ ap (λ (z : ℕ). z % 2 ^ 64) same))), λ _. refl)),
+        (λ t' is'. let same : t' ≡ t = ap (value_of t) (sym is' ∙ is) in ((λ e. absurd (miss (e ∙ ap (λ (z : ℕ). z % 2 ^ 64) same))), λ _. refl)),
       ))
 
   pub calls_sleepers : (slots id : ℕ) (me : Mine) (word : ℕ) → 3 ≤ word → Allows Rule slots id me word (λ n. (n + 1) % 2 ^ 64)
@@ -228,7 +217,7 @@ module _ {V E O : Type 0} (origin : V → O) (entries : V → List E) (number : 
           queue = let more = waiting_set s.views id v w at in let one : count_some v.ticket ≡ 1 = ap count_some mk.0 in
               let g : c.served + 1 + waiting (set s.views id w) ≡ c.issued = omega arith in g;
           queued = λ r low' high. at_stays (λ u. u.ticket ≡ Some r) s.views id v w (c.holder r) at
-              (λ _ e. let same : c.served ≡ r = ap (the_ticket r) (sym mk.0 ∙ e) in absurd (omega arith)) (h.queued r (omega arith) high);
+              (λ _ e. let same : c.served ≡ r = ap (value_of r) (sym mk.0 ∙ e) in absurd (omega arith)) (h.queued r (omega arith) high);
           bounded = (rw (length-set s.views id w) h.bounded.0, h.bounded.1);
           numbered = All-same (λ a. number a < c.given) (entries x) (c.published ++ grown.0) grown.2 (⊎_elim
               (λ (e : grown.0 ≡ []). All-same (λ a. number a < c.given) (c.published ++ grown.0) c.published

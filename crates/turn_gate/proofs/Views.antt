@@ -1,13 +1,18 @@
 -- The views after a step, and the maps from numbers and tickets to them.
 use mathlib.Core.Logic.{dite}
-use mathlib.Core.Option.{some, some-injective, some-ne-none}
+use mathlib.Core.Option as maybe
+use mathlib.Core.Option.{some, none, some-injective, some-ne-none}
 use native.Mathlib.Decide.{ℕ_discrete}
 use lib.ListN.{get_elem?}
-use Rattle.std.proofs.Common.{◌≡◌, ◌≢◌, ◌⊎◌, ℕ, zero, suc, ◌+◌, ◌≤◌, false, List, [], ◌∷◌, ◌++◌, length, set, Option, Some, None, sym, refl, ap, ◌∙◌, subst}
-use Rattle.std.proofs.Common.{inl, inr, ⊎_elim, arith}
+use Rattle.std.proofs.Common.{◌≡◌, ◌≢◌, ◌⊎◌, ℕ, zero, suc, ◌+◌, ◌≤◌, true, false, List, [], ◌∷◌, ◌++◌, length, set, Option, Some, None, sym, refl, ap, ◌∙◌}
+use Rattle.std.proofs.Common.{All, subst, inl, inr, ⊎_elim, arith}
 use Rattle.atomic_table.proofs.Lists.{at_set, set_else, at_longer}
 use Rattle.turn_gate.specs.declared.view.HandleView.{HandleView}
-use Rattle.turn_gate.specs.TicketLockRule.{IsAt, count_some, waiting}
+use Rattle.turn_gate.specs.TicketLockRule.{IsAt, IsSound, Keeps, LockState, count_if, count_some, waiting}
+
+abbrev pub value_of : {A : Type 0} → A → Option A → A
+value_of d (Some a) = a
+value_of d None = d
 
 abbrev either_of : {P : Type 0} → Dec P → ℕ → ℕ → ℕ
 either_of (yes _) a b = a
@@ -117,3 +122,20 @@ module _ {E O : Type 0} where
       (λ same. let r : some v ≡ some u = sym at ∙ (ap (get_elem? vs) (sym same) ∙ e) in
       ap (λ (x : HandleView E O). x.marked) (sym (some-injective v u r)) ∙ unmarked)
       (λ other. all j u (set_else vs me j w other ∙ e))
+
+-- a view that is as it was: what the numbers that were given, the word and the slot have to do with is told anew
+pub stays_sound : {V E O : Type 0} (number : E → ℕ) (start : O) (c : LockState E) (given : ℕ) (keeper : ℕ → ℕ) (drawn drawn' : ℕ)
+    (homes homes' : List (maybe.Option (Option V))) (id : ℕ) (v : HandleView E O) → IsSound {V = V} {E = E} {O = O} number start c drawn homes id v
+    → All (Keeps number (record c { given = given; keeper = keeper }) id v.observed) v.own
+    → (v.marked ≡ true → (v.ticket ≡ Some c.served) × (v.observed ≡ c.published) × (get_elem? homes' 0 ≡ some none))
+    → (v.draws ≡ true → (c.drawer ≡ id) × (v.given ≡ given) × (drawn' ≡ given + count_if v.drawn))
+    → IsSound {V = V} {E = E} {O = O} number start (record c { given = given; keeper = keeper }) drawn' homes' id v
+stays_sound number start c given keeper drawn drawn' homes homes' id v k own mark draws = record {
+  observed = k.observed;
+  joined = k.joined;
+  origin = k.origin;
+  own = own;
+  ticket = k.ticket;
+  mark = mark;
+  draws = draws;
+}

@@ -59,22 +59,12 @@ impl Turned {
 }
 
 /// What a desk with this base asks in its turn.
+#[derive(Drop)]
 pub(crate) struct Turn {
     alloc: Global,
     base: u32,
     ask: Ask,
     seat: Snapshot<GateSeat<Book>>,
-}
-
-impl Drop for Turn {
-    fn drop(self) {
-        let Turn {
-            alloc: _,
-            base: _,
-            ask: _,
-            seat: _,
-        } = self;
-    }
 }
 
 impl Model for Turn {

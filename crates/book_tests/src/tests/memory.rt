@@ -1,6 +1,7 @@
 //! A commit to which memory is refused leaves the log as it was. `benches/refusals/run.sh` refuses each allocation of this test in turn.
 
-ghost use Rattle.std.specs.Prelude.{◌≡◌, ◌≤◌, ◌<◌, [], IfOk, length};
+ghost use Rattle.std.specs.Prelude.{◌≡◌, ◌≤◌, ◌<◌, [], IfOk, IfSome, length};
+ghost use Rattle.std.specs.Option.{option_copied};
 ghost use Rattle.commit_book.specs.Books.{history_of};
 ghost use Rattle.commit_book.specs.Prepared.{AreRight};
 
@@ -10,7 +11,7 @@ use chain_topo::Steps;
 use commit_book::{Book, BookRefusal, Brief, Prepared};
 use look_counter::start_counter;
 use s57_types::Duplicate;
-use std::alloc::{AllocError, Global};
+use std::alloc::AllocError;
 use std::marker::Brand;
 use std::process::Abort;
 use std::sync::ledger::{Blank, Ledger};
@@ -28,8 +29,7 @@ fn shown(book: &Book) -> (usize, u32, u32) {
 
 /// Commits what was prepared, and tells whether memory was refused. The log is as before then, and takes the commit when it is made again.
 fn commit_again<L: Ledger>(
-    rt: &impl Abort,
-    alloc: Global,
+    rt: &(impl Abort + AllocGlobal),
     book: &mut Book,
     prepared: &Prepared,
     steps: &mut Steps<L>,
@@ -40,60 +40,52 @@ fn commit_again<L: Ledger>(
     ensures { book.new.opening ≡ book.old.opening }
 {
     let before = shown(book);
-    match book.commit(alloc, 1, prepared, steps) {
+    match book.commit(rt.alloc(), 1, prepared, steps) {
         Ok(_) => return false,
         Err(why) => assert_eq!(rt; why, BookRefusal::NoMemory),
     }
     assert_eq!(rt; shown(book), before);
-    assert!(rt; book.commit(alloc, 1, prepared, steps).is_ok());
+    assert!(rt; book.commit(rt.alloc(), 1, prepared, steps).is_ok());
     true
 }
 
-/// Commits deletions that are prepared on the newest cell.
-fn commit_late<R: Threads + Abort + Sync, L: Ledger>(
+/// Commits deletions that are prepared on the newest cell, or on the opening cell where that is handed in.
+fn commit_deletions<R: Threads + Abort + AllocGlobal + Sync, L: Ledger>(
     rt: &R,
-    alloc: Global,
     book: &mut Book,
+    opening: Option<&Bench>,
     nodes: &[u32],
     steps: &mut Steps<L>,
 ) -> Result<bool, AllocError>
+    requires { IfSome (option_copied opening) (λ cell. cell ≡ book.old.opening) }
     ensures { IfOk result (λ _. book.new.opening ≡ book.old.opening) }
 {
-    let prepared = prepared_late(rt, alloc, book, nodes)?;
-    Ok(commit_again(rt, alloc, book, &prepared, steps))
-}
-
-/// Commits deletions that are prepared on the opening cell.
-fn commit_early<R: Threads + Abort + Sync, L: Ledger>(
-    rt: &R,
-    alloc: Global,
-    book: &mut Book,
-    opening: &Bench,
-    nodes: &[u32],
-    steps: &mut Steps<L>,
-) -> Result<bool, AllocError>
-    requires { opening.now ≡ book.old.opening }
-    ensures { IfOk result (λ _. book.new.opening ≡ book.old.opening) }
-{
-    let prepared = prepared_early(rt, alloc, book, opening, nodes)?;
-    Ok(commit_again(rt, alloc, book, &prepared, steps))
+    match opening {
+        Some(opening) => {
+            let prepared = prepared_early(rt, rt.alloc(), book, opening, nodes)?;
+            Ok(commit_again(rt, book, &prepared, steps))
+        }
+        None => {
+            let prepared = prepared_late(rt, rt.alloc(), book, nodes)?;
+            Ok(commit_again(rt, book, &prepared, steps))
+        }
+    }
 }
 
 /// Commits deletions one after the other, and tells whether memory was refused to one of them: two are accepted, one meets a newer commit, and one
 /// finds no record.
-fn commit_all<R: Threads + Abort + Sync, L: Ledger>(
+fn commit_all<R: Threads + Abort + AllocGlobal + Sync, L: Ledger>(
     rt: &R,
-    alloc: Global,
     book: &mut Book,
     opening: &Bench,
     steps: &mut Steps<L>,
 ) -> Result<bool, AllocError>
     requires { opening.now ≡ book.old.opening }
 {
-    let first = commit_late(rt, alloc, book, &[1], steps)?;
-    let second = commit_early(rt, alloc, book, opening, &[2], steps)?;
-    let third = commit_early(rt, alloc, book, opening, &[1], steps)?;
-    let last = commit_late(rt, alloc, book, &[1], steps)?;
+    let first = commit_deletions(rt, book, None, &[1], steps)?;
+    let second = commit_deletions(rt, book, Some(opening), &[2], steps)?;
+    let third = commit_deletions(rt, book, Some(opening), &[1], steps)?;
+    let last = commit_deletions(rt, book, None, &[1], steps)?;
     Ok(first || second || third || last)
 }
 
@@ -114,21 +106,19 @@ fn check_answers(rt: &impl Abort, book: &Book) {
 
 /// The same on a log without entries.
 fn commit_from_opening<L: Ledger>(
-    rt: &(impl Threads + Abort + Sync),
-    alloc: Global,
+    rt: &(impl Threads + Abort + AllocGlobal + Sync),
     book: &mut Book,
     steps: &mut Steps<L>,
 ) -> Result<bool, AllocError>
     requires { book.old.entries ≡ [] }
 {
-    let opening = book.bench().copy(alloc)?;
-    commit_all(rt, alloc, book, &opening, steps)
+    let opening = book.bench().copy(rt.alloc())?;
+    commit_all(rt, book, &opening, steps)
 }
 
 /// How the commits fare on a new log.
 fn check_commits<L: Ledger>(
-    rt: &(impl Threads + Abort + Sync),
-    alloc: Global,
+    rt: &(impl Threads + Abort + AllocGlobal + Sync),
     blank: Blank,
 ) -> Result<bool, AllocError>
     requires name { blank.name ≡ L.name }
@@ -136,8 +126,8 @@ fn check_commits<L: Ledger>(
     requires some_part { 0 < L.parts }
 {
     let mut steps = start_counter::<L>(blank);
-    let mut book = open_book(rt, alloc, &mut steps)?;
-    let refused = commit_from_opening(rt, alloc, &mut book, &mut steps);
+    let mut book = open_book(rt, rt.alloc(), &mut steps)?;
+    let refused = commit_from_opening(rt, &mut book, &mut steps);
     if refused.is_ok() {
         check_answers(rt, &book);
     }
@@ -147,7 +137,7 @@ fn check_commits<L: Ledger>(
 /// All memory is there here. Where one allocation is refused, it is a commit's, which is made again, or it stands outside of commits.
 #[test]
 fn a_refused_commit_is_made_again(rt: HostRuntime) -> Result<(), Fail> {
-    match check_commits::<Brand>(&rt, rt.alloc(), Blank::new(1)) {
+    match check_commits::<Brand>(&rt, Blank::new(1)) {
         Ok(false) => println!(rt; "no commit was refused")?,
         Ok(true) => println!(rt; "a commit was refused and made again")?,
         Err(AllocError) => println!(rt; "memory was refused outside of commits")?,

@@ -9,6 +9,7 @@ pub returns-clause-same : goal.returns-clause-same
 returns-clause-same c =
     let set = c.args.set.now in
     let same = ap (first_clash set.edits set.guards)
-    (ap (λ newer. enumerate_from (c.args.base + 1) (map commit_of newer)) c.split_at.ensures.back ∙ commits_behind c.args.base c.args.accepted.now) in
+    (ap (λ newer. enumerate_from (c.args.base + 1) (map commit_of newer)) c.accepted_after-newer.ensures.newer
+    ∙ commits_behind c.args.base c.args.accepted.now) in
     let Told : Option Reply → Type 0 = λ told. IfOk c.first_clash.result (λ reply. reply ≡ told) in
     subst Told same c.first_clash.ensures.same

@@ -6,8 +6,8 @@ use Rattle.room_run.proofs.compiler.serve.Given as goal
 
 abbrev pub invariant-loop-served : goal.invariant-loop-served
 invariant-loop-served g l = record {
-  same : IsSameDesk l.initial.desk l.desk;
-  script : l.session.script ≡ l.initial.session.script;
-  at_desk : IsAtDesk l.desk l.session;
-  done : count_by is_shared l.session.done ≡ l.served;
+  same : IsSameDesk l.initial.compiler.desk l.compiler.desk;
+  script : l.compiler.session.script ≡ l.initial.compiler.session.script;
+  at_desk : IsAtDesk l.compiler.desk l.compiler.session;
+  done : count_by is_shared l.compiler.session.done ≡ l.served;
 }

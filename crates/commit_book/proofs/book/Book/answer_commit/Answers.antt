@@ -8,6 +8,9 @@ use Rattle.commit_book.specs.Books.{history_of}
 use Rattle.commit_book.proofs.LookUps.{budget_alone}
 use Rattle.commit_book.proofs.book.Book.answer_commit.Goals as goal
 
+pub enter_commit-requires-clause-fits : goal.enter_commit-requires-clause-fits
+enter_commit-requires-clause-fits g c = record { base = c.requires.base; level = c.requires.level; rows = c.requires.rows }
+
 -- the cell after the base is the newest where no commit came since
 pub enter_commit-requires-clause-ahead : goal.enter_commit-requires-clause-ahead
 enter_commit-requires-clause-ahead g c = λ newest.

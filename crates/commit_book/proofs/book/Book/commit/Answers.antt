@@ -4,6 +4,9 @@ use Rattle.commit_book.proofs.LookUps.{budget_alone}
 use Rattle.commit_book.proofs.News.{commit_news}
 use Rattle.commit_book.proofs.book.Book.commit.Goals as goal
 
+pub enter_commit-requires-clause-fits : goal.enter_commit-requires-clause-fits
+enter_commit-requires-clause-fits g c = record { base = c.requires.base; level = c.requires.level; rows = c.requires.rows }
+
 pub returns-clause-news : goal.returns-clause-news
 returns-clause-news g c =
     let old = c.args.self.now in

@@ -7,11 +7,12 @@ use Rattle.commit_book.proofs.book.Book.sets_after.Goals as goal
 pub returns-clause-sets : goal.returns-clause-sets
 returns-clause-sets c =
     let book = c.self.inside in
-    let Told : List GuardedEdits → Type 0 = λ told. IfOk c.sets_after.result (λ sets. sets.items ≡ told) in
-    let same = ap (λ accepted. map set_in (drop c.args.base accepted)) c.as_slice.ensures.value
+    let Told : List GuardedEdits → Type 0 = λ told. IfOk c.sets_of.result (λ sets. sets.items ≡ told) in
+    let same = ap (map set_in) c.accepted_after.ensures.newer
+    ∙ ap (λ accepted. map set_in (drop c.args.base accepted)) c.as_slice.ensures.value
     ∙ sets_behind book.opening.value book.entries.items book.bench book.accepted.items c.self.invariant c.args.base
     ∙ ap (λ (b : BookState). drop c.args.base (accepted_sets b.entries)) c.self.view_is in
-    subst Told same c.sets_after.ensures
+    subst Told same c.sets_of.ensures
 
 pub returns-clause-within : goal.returns-clause-within
 returns-clause-within c =

@@ -1,5 +1,5 @@
 use Rattle.std.proofs.Common.{◌≡◌, All}
-use Rattle.turn_gate_tests.proofs.signatures.workers_of.Given as goal
+use Rattle.gate_turns.proofs.signatures.workers_of.Given as goal
 
 abbrev pub invariant-loop : goal.invariant-loop
 invariant-loop l =

@@ -1,8 +1,0 @@
-use Rattle.std.proofs.Common.{◌≡◌, All, length}
-use Rattle.measure.proofs.turns.join_all.Given as goal
-
-abbrev pub decreases-loop-worker : goal.decreases-loop-worker
-decreases-loop-worker l = length l.workers.items
-
-abbrev pub invariant-loop-worker : goal.invariant-loop-worker
-invariant-loop-worker l = All (λ w. w.seat.gate ≡ l.gate) l.workers.items × (l.root.gate ≡ l.gate)

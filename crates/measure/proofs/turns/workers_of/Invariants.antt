@@ -1,9 +1,0 @@
-use Rattle.std.proofs.Common.{◌≡◌, All}
-use Rattle.measure.proofs.turns.workers_of.Given as goal
-
-abbrev pub invariant-loop : goal.invariant-loop
-invariant-loop l =
-    All (λ w. w.seat.gate ≡ l.gate) l.workers.items
-    × (l.root.gate ≡ l.gate)
-    × (l.root.number ≡ 0)
-    × (l.root.given ≡ l.counter)
