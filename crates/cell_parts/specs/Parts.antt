@@ -6,6 +6,7 @@ use Rattle.s57_types.specs.declared.name.Kind.TheVariants.{Vc, Ve, Fe}
 use Rattle.s57_types.specs.declared.name.RecName.{RecName}
 use Rattle.s57_types.specs.declared.record.Attr.{Attr}
 use Rattle.s57_types.specs.declared.record.End.{End}
+use Rattle.s57_types.specs.declared.record.Feature.{Feature}
 use Rattle.s57_types.specs.declared.record.Spot.{Spot}
 use Rattle.s57_types.specs.declared.record.Rec.{Rec}
 use Rattle.s57_types.specs.declared.record.Rec.TheVariants.{V, F}
@@ -43,6 +44,10 @@ head aall nall = record {
   dspm_comt = [];
 }
 
+-- the same without the names of the data set and of its edition
+abbrev pub bare_head : Head
+bare_head = record (head 0 0) { dsnm = []; edtn = []; updn = []; pred = [] }
+
 abbrev pub name : Kind → ℕ → RecName
 name kind n = record { kind = kind; id = n }
 
@@ -60,17 +65,21 @@ edge n first last = V (record { name = name Ve n; rver = 1; attrs = []; ends = e
 abbrev pub outer : ℕ → ℕ → Spot
 outer n ornt = record { to = name Ve n; ornt = ornt; usag = 1; mask = 255 }
 
--- an area of a group and an object class
-abbrev pub area : ℕ → ℕ → ℕ → List Attr → List Spot → Rec
-area n grup objl attf places = F (record {
+-- a feature of a primitive, a group and an object class that has nothing else; its identifier has its number
+abbrev pub bare_feature : ℕ → ℕ → ℕ → ℕ → Feature
+bare_feature n prim grup objl = record {
   name = name Fe n;
-  prim = 3;
+  prim = prim;
   grup = grup;
   objl = objl;
   rver = 1;
   foid = record { agen = 1; fidn = n; fids = 1 };
-  attf = attf;
+  attf = [];
   natf = [];
   partners = [];
-  places = places;
-})
+  places = [];
+}
+
+-- an area of a group and an object class
+abbrev pub area : ℕ → ℕ → ℕ → List Attr → List Spot → Rec
+area n grup objl attf places = F (record (bare_feature n 3 grup objl) { attf = attf; places = places })
