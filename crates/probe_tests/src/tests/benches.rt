@@ -113,7 +113,7 @@ fn area_wind<L: Ledger>(
     if !has_feature(store, AREA_NAME, steps) {
         panic!(rt; "the area is missing");
     }
-    wind(alloc, store, AREA_NAME, at.0, at.1, steps)
+    wind(alloc, store, AREA_NAME, at, steps)
 }
 
 /// Checks a sheet of a point that only the area may go round, so often.
