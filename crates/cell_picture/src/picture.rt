@@ -177,7 +177,8 @@ impl<'a, 'b> Scene<'a, 'b> {
 
     /// Appends a vector record as it is drawn.
     fn vector<L: Ledger>(&self, out: &mut Vec<u8>, vector: &Vector, steps: &mut Steps<L>) -> Drawn
-        ensures { OnOk result (out.new.items ≡ out.old.items ++ flat_map shape_text (record_shapes self.now.view.look.now self.now.view.around (V vector.now))) }
+        ensures { OnOk result (out.new.items ≡ out.old.items
+            ++ flat_map shape_text (record_shapes self.now.view.look.now self.now.view.around (V vector.now))) }
     {
         let figure = self.figure(vector, steps)?;
         push_figure(out, &figure)
@@ -234,7 +235,8 @@ impl<'a, 'b> Scene<'a, 'b> {
     /// Appends records, one after the other.
     #[tactic(auto, using(crate::proofs::Marks::nested_more))]
     fn records<L: Ledger>(&self, out: &mut Vec<u8>, recs: &[Rec], steps: &mut Steps<L>) -> Drawn
-        ensures { OnOk result (out.new.items ≡ out.old.items ++ flat_map shape_text (flat_map (record_shapes self.now.view.look.now self.now.view.around) recs.now)) }
+        ensures { OnOk result (out.new.items ≡ out.old.items
+            ++ flat_map shape_text (flat_map (record_shapes self.now.view.look.now self.now.view.around) recs.now)) }
     {
         for rec in recs {
             self.record(out, rec, steps)?;
@@ -317,7 +319,8 @@ impl<'a, 'b> Scene<'a, 'b> {
         findings: &[SubjectFinding],
         steps: &mut Steps<L>,
     ) -> Drawn
-        ensures { OnOk result (out.new.items ≡ out.old.items ++ flat_map shape_text (flat_map (spot_of self.now.view.look.now self.now.view.around) findings.now)) }
+        ensures { OnOk result (out.new.items ≡ out.old.items
+            ++ flat_map shape_text (flat_map (spot_of self.now.view.look.now self.now.view.around) findings.now)) }
     {
         let mut held = None;
         for found in findings {
