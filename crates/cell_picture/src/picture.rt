@@ -10,7 +10,7 @@ ghost use Rattle.picture_places.specs.Labels.{anchor_of as spec_anchor_of};
 ghost use Rattle.cell_picture.specs.Picture.{picture, picture_around};
 ghost use Rattle.cell_picture.specs.ShapeText.{figure_text, mark_text, row_text, shape_text, spot_text};
 ghost use Rattle.cell_picture.specs.Shapes.{area_figure, class_by, drawing_order, feature_shapes, finding_shapes, mark_at, mark_in, marks_from};
-ghost use Rattle.cell_picture.specs.Shapes.{node_class, place_of as spec_place_of, record_shapes, row_of, rows_from, shapes, spot_at, spot_of, taken_with};
+ghost use Rattle.cell_picture.specs.Shapes.{node_class, place_of as spec_place_of, record_shapes, row_of, rows_from, shapes, spot_at, spot_of, spots_of, taken_with};
 ghost use Rattle.cell_picture.specs.Shapes.{vector_figure};
 
 use crate::frame::{push_frame, push_head};
@@ -319,8 +319,7 @@ impl<'a, 'b> Scene<'a, 'b> {
         findings: &[SubjectFinding],
         steps: &mut Steps<L>,
     ) -> Drawn
-        ensures { OnOk result (out.new.items ≡ out.old.items
-            ++ flat_map shape_text (flat_map (spot_of self.now.view.look.now self.now.view.around) findings.now)) }
+        ensures { OnOk result (out.new.items ≡ out.old.items ++ flat_map shape_text (spots_of self.now.view.look.now self.now.view.around findings.now)) }
     {
         let mut held = None;
         for found in findings {
