@@ -10,8 +10,8 @@ ghost use Rattle.picture_places.specs.Labels.{anchor_of as spec_anchor_of};
 ghost use Rattle.cell_picture.specs.Picture.{picture, picture_around};
 ghost use Rattle.cell_picture.specs.ShapeText.{figure_text, mark_text, row_text, shape_text, spot_text};
 ghost use Rattle.cell_picture.specs.Shapes.{area_figure, class_by, drawing_order, feature_shapes, finding_shapes, mark_at, mark_in, marks_from};
-ghost use Rattle.cell_picture.specs.Shapes.{node_class, place_of as spec_place_of, record_shapes, row_of, rows_from, shapes, spot_at, spot_of, spots_of, taken_with};
-ghost use Rattle.cell_picture.specs.Shapes.{vector_figure};
+ghost use Rattle.cell_picture.specs.Shapes.{node_class, place_of as spec_place_of, record_shapes, row_of, rows_from, shapes, spot_at, spot_of, spots_of};
+ghost use Rattle.cell_picture.specs.Shapes.{taken_with, vector_figure};
 
 use crate::frame::{push_frame, push_head};
 use crate::shape::{Class, Figure, LIST_TOP, MARK_LIMIT, Mark, ROW_HEIGHT, Row};
