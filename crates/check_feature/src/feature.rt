@@ -8,10 +8,11 @@ ghost use Rattle.check_area.specs.NearFeature.{WhereNear};
 use crate::boundary::push_boundary_findings;
 use crate::codes::{push_bad_codes, push_bad_level};
 use crate::group::push_wrong_group;
-use crate::partners::push_dangling_features;
-use crate::places::{push_dangling_refs, push_prim_refs};
+use crate::naming::push_dangling;
+use crate::places::push_prim_refs;
 use cell_spec::Finding;
 use near_records::NearRecords;
+use rule_spec::{DANGLING_FEATURE, DANGLING_REF};
 use s57_types::Feature;
 use std::alloc::{AllocError, Global};
 
@@ -29,10 +30,15 @@ pub fn feature_findings(
 {
     let mut findings = Vec::new(alloc);
     push_prim_refs(&mut findings, feature)?;
-    push_dangling_refs(&mut findings, near, feature)?;
+    push_dangling(&mut findings, DANGLING_REF, near, feature.places.as_slice())?;
     push_bad_codes(&mut findings, feature)?;
     push_boundary_findings(alloc, &mut findings, near, feature)?;
-    push_dangling_features(&mut findings, near, feature)?;
+    push_dangling(
+        &mut findings,
+        DANGLING_FEATURE,
+        near,
+        feature.partners.as_slice(),
+    )?;
     push_wrong_group(&mut findings, feature)?;
     push_bad_level(&mut findings, near, feature)?;
     Ok(findings)
