@@ -7,7 +7,7 @@ use Rattle.rule_spec.specs.Vectors.{bad_shape}
 use Rattle.check_record.proofs.Findings.{edge_kinds, four_appended, two_appended}
 use Rattle.check_record.proofs.FoundRecords.{found_line}
 use Rattle.check_record.proofs.Nodes.{ends_read, is_key_of, same_dangling}
-use Rattle.check_record.proofs.vector.Asked.edge_findings.Goals as goal
+use Rattle.check_record.proofs.asked.Asked.edge_findings.Goals as goal
 
 pub returns-clause-findings : goal.returns-clause-findings
 returns-clause-findings g c =

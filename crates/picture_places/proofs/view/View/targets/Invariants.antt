@@ -2,7 +2,7 @@ use Rattle.std.proofs.Common.{◌≡◌, drop}
 use Rattle.std.specs.List.{flat_map}
 use Rattle.picture_places.specs.Labels.{anchor_of}
 use Rattle.picture_places.specs.Strokes.{target_strokes}
-use Rattle.picture_places.proofs.hold.View.targets.Given as goal
+use Rattle.picture_places.proofs.view.View.targets.Given as goal
 
 abbrev pub invariant-loop-spot : goal.invariant-loop-spot
 invariant-loop-spot g l =

@@ -1,6 +1,6 @@
 use Rattle.std.proofs.Common.{◌∙◌, refl, sym, arith}
 use Rattle.check_record.proofs.ReadSets.{some_keys, vector_found}
-use Rattle.check_record.proofs.verdict.Asked.vector.Goals as goal
+use Rattle.check_record.proofs.asked.Asked.vector.Goals as goal
 
 pub returns-in_err-reads-clause-steps : goal.returns-in_err-reads-clause-steps
 returns-in_err-reads-clause-steps g c = omega (arith, some_keys (g.B.Look.cell c.args.self.now.look.now) c.args.self.now.name)

@@ -4,7 +4,7 @@ use Rattle.cell_spec.specs.Names.{kind_rank}
 use Rattle.rule_spec.specs.Records.{is_edge_name}
 use Rattle.check_record.specs.Nodes.{is_node_key}
 use Rattle.check_record.proofs.ReadSets.{edge_keys, some_keys}
-use Rattle.check_record.proofs.vector.Asked.vector_findings.Goals as goal
+use Rattle.check_record.proofs.asked.Asked.vector_findings.Goals as goal
 
 pub returns-in-Ve-clause-steps : goal.returns-in-Ve-clause-steps
 returns-in-Ve-clause-steps g c =

@@ -1,7 +1,7 @@
 use Rattle.std.proofs.Common.{◌<◌, length, sym, ◌∙◌, arith}
 use Rattle.picture_places.specs.Strokes.{target_strokes}
 use Rattle.picture_places.proofs.Anchors.{behind, here}
-use Rattle.picture_places.proofs.hold.View.targets.Goals as goal
+use Rattle.picture_places.proofs.view.View.targets.Goals as goal
 
 pub returns-then-is_some : goal.returns-then-is_some
 returns-then-is_some g c =

@@ -2,7 +2,7 @@ use Rattle.std.proofs.Common.{◌≡◌, length, refl, sym, ap, ◌∙◌, arith
 use Rattle.cell_spec.specs.declared.key.Subject.TheVariants.{Rec}
 use Rattle.rule_spec.specs.Reads.{read_set}
 use Rattle.check_record.proofs.ReadSets.{feature_found, some_keys}
-use Rattle.check_record.proofs.verdict.Asked.feature.Goals as goal
+use Rattle.check_record.proofs.asked.Asked.feature.Goals as goal
 
 pub returns-in_err-reads-clause-steps : goal.returns-in_err-reads-clause-steps
 returns-in_err-reads-clause-steps g c = omega (arith, c.feature_reads.ensures.steps, some_keys (g.B.Look.cell c.args.self.now.look.now) c.args.self.now.name)
