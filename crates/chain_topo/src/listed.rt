@@ -53,14 +53,14 @@ trait Pointer {
     ghost target: { Self → SpecName };
 
     /// The name of the record that it points to.
-    fn target(&self) -> RecName
+    fn target_name(&self) -> RecName
         ensures { result ≡ target self.now };
 }
 
 impl Pointer for End {
     ghost target = { λ end. end.to };
 
-    fn target(&self) -> RecName {
+    fn target_name(&self) -> RecName {
         self.to
     }
 }
@@ -68,7 +68,7 @@ impl Pointer for End {
 impl Pointer for Spot {
     ghost target = { λ spot. spot.to };
 
-    fn target(&self) -> RecName {
+    fn target_name(&self) -> RecName {
         self.to
     }
 }
@@ -84,7 +84,7 @@ fn add_targets<P: Pointer>(
 {
     for (k, pointer) in pointers.iter().enumerate() {
         let place = (k + 1) as u32;
-        list.push((pointer.target(), Ref { from, place }))?;
+        list.push((pointer.target_name(), Ref { from, place }))?;
     }
     Ok(())
 }
