@@ -1,10 +1,8 @@
 //! The spatial pointers of a feature (FSPT, S-57 Part 3, 7.6.8).
 
-ghost use Rattle.std.specs.Prelude.{◌≡◌, ◌++◌, OnOk, is_some, map, not};
+ghost use Rattle.std.specs.Prelude.{◌≡◌, ◌++◌, OnOk, map};
 ghost use Rattle.std.specs.List.{list_any};
 ghost use Rattle.s57_types.specs.declared.cell.Cell.{Cell as SpecCell};
-ghost use Rattle.cell_spec.specs.declared.key.Key.TheVariants.{Name as KeyName};
-ghost use Rattle.cell_spec.specs.Lookup.{lookup_record};
 ghost use Rattle.rule_spec.specs.declared.kind.TheConstants.{PRIM_REFS};
 ghost use Rattle.rule_spec.specs.Features.{fits_primitive as spec_fits, prim_refs, target};
 ghost use Rattle.rule_spec.specs.Findings.{finding};
@@ -64,6 +62,11 @@ pub(crate) fn push_prim_refs(
 }
 
 impl Naming for Spot {
+    ghost use Rattle.std.specs.Prelude.{is_some, not};
+    ghost use Rattle.cell_spec.specs.declared.key.Key.TheVariants.{Name as KeyName};
+    ghost use Rattle.cell_spec.specs.Lookup.{lookup_record};
+    ghost use Rattle.rule_spec.specs.Features.{target};
+
     ghost key = { λ spot. KeyName spot.to };
 
     ghost is_dangling = { λ c spot. not (is_some (lookup_record c (target spot))) };
