@@ -10,7 +10,7 @@ ghost use Rattle.rule_spec.specs.Records.{edge_named};
 
 use crate::finding::side_findings;
 use crate::uses::uses_of;
-use cell_spec::{Findings, Key, Keys, Ref, Row, Subject, ascending_keys};
+use cell_spec::{Finding, Key, Keys, Ref, Row, Subject, ascending_keys};
 use chain_topo::{Look, Steps};
 use s57_types::{Items, Kind, Rec, RecName};
 use std::alloc::{AllocError, Global};
@@ -41,13 +41,36 @@ fn is_edge<B: Look, L: Ledger>(look: &B, name: RecName, steps: &mut Steps<L>) ->
     }
 }
 
+/// The findings about a side, where `keys` are its read set and `pointers` those to the edge; none where the name is no
+/// edge's.
+#[tactic(auto, unfolding(rule_spec::specs::Findings::findings_of_subject))]
+fn findings_of<B: Look, L: Ledger>(
+    alloc: Global,
+    look: &B,
+    name: RecName,
+    keys: &[Key],
+    pointers: &[Ref],
+    steps: &mut Steps<L>,
+) -> Result<Vec<Finding>, AllocError>
+    requires keys { keys.now ≡ read_set (B.cell look.now) (SubjectSide name) }
+    requires pointers { pointers.now ≡ lookup_pointers (B.cell look.now) name }
+    ensures findings { IfOk result (λ findings. findings.items ≡ findings_of_subject (B.cell look.now) (SubjectSide name)) }
+    ensures steps { steps.new ≤ steps.old + (1 + length (read_set (B.cell look.now) (SubjectSide name))) }
+{
+    if !is_edge(look, name, steps) {
+        return Ok(Vec::new(alloc));
+    }
+    let uses = uses_of(alloc, look, name, keys, pointers, steps)?;
+    side_findings(alloc, &uses)
+}
+
 /// The findings about the two sides of an edge, ascending by kind and numbers, and their read set: the edge, the pointers
 /// to it and the records that have them. The kinds are Orphan, SideOverlap, SideUnbalanced and FalseTruncation. A name
 /// that no edge has gives no finding.
 ///
 /// It makes at most four look-ups for each key of the read set; each record that points to the edge is looked up once. An
 /// `Err` means out of memory.
-#[tactic(auto, using(crate::proofs::SideRows::some_side_key), unfolding(rule_spec::specs::Findings::findings_of_subject))]
+#[tactic(auto, using(crate::proofs::SideRows::some_side_key))]
 pub fn verdict_side<B: Look, L: Ledger>(
     alloc: Global,
     look: &B,
@@ -61,15 +84,7 @@ pub fn verdict_side<B: Look, L: Ledger>(
 {
     let pointers = look.refs(name, steps);
     let reads = side_reads(alloc, name, pointers)?;
-    if !is_edge(look, name, steps) {
-        return Ok(Row {
-            subject: Subject::Side(name),
-            findings: Findings::make(alloc),
-            reads,
-        });
-    }
-    let uses = uses_of(alloc, look, name, reads.as_slice(), pointers, steps)?;
-    let findings = side_findings(alloc, &uses)?;
+    let findings = findings_of(alloc, look, name, reads.as_slice(), pointers, steps)?;
     Ok(Row {
         subject: Subject::Side(name),
         findings: Items::of_vec(findings),
