@@ -9,7 +9,7 @@ returns c =
     let out = c.args.out.now.items in
     let opening = codes "<path class='" in
     let class = c.args.class.now in
-    let data = codes "' d='M " in
+    let moved = codes "' d='M " in
     let sample = c.args.sample.now in
     let text = codes "h0'/><text transform='translate(" in
     let place = c.args.place.now in
@@ -17,9 +17,9 @@ returns c =
     let name = c.args.name.now in
     let closing = codes "</text>\n" in
     on_ok_weaker c.push_text-9.result
-    (λ last. after out opening (class ++ (data ++ (sample ++ (text ++ (place ++ (behind ++ (name ++ closing))))))) c.in_ok-push_text.ensures.ok
-    (after c.push_text.new.out.items class (data ++ (sample ++ (text ++ (place ++ (behind ++ (name ++ closing)))))) c.in_ok-push_text-2.ensures.ok
-    (after c.push_text-2.new.out.items data (sample ++ (text ++ (place ++ (behind ++ (name ++ closing))))) c.in_ok-push_text-3.ensures.ok
+    (λ last. after out opening (class ++ (moved ++ (sample ++ (text ++ (place ++ (behind ++ (name ++ closing))))))) c.in_ok-push_text.ensures.ok
+    (after c.push_text.new.out.items class (moved ++ (sample ++ (text ++ (place ++ (behind ++ (name ++ closing)))))) c.in_ok-push_text-2.ensures.ok
+    (after c.push_text-2.new.out.items moved (sample ++ (text ++ (place ++ (behind ++ (name ++ closing))))) c.in_ok-push_text-3.ensures.ok
     (after c.push_text-3.new.out.items sample (text ++ (place ++ (behind ++ (name ++ closing)))) c.in_ok-push_text-4.ensures.ok
     (after c.push_text-4.new.out.items text (place ++ (behind ++ (name ++ closing))) c.in_ok-push_text-5.ensures.ok
     (after c.push_text-5.new.out.items place (behind ++ (name ++ closing)) c.in_ok-push_text-6.ensures.ok
