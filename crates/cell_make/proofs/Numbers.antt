@@ -9,7 +9,7 @@ use Rattle.s57_types.specs.declared.name.RecName.{RecName}
 use Rattle.s57_types.specs.declared.record.Rec.{Rec}
 use Rattle.cell_spec.specs.Lookup.{name_of}
 use Rattle.cell_spec.specs.Names.{same_name, kind_rank}
-use Rattle.cell_make.specs.Parts.{name}
+use Rattle.cell_parts.specs.Parts.{name}
 use Rattle.cell_make.specs.Squares.{row_of, each_place}
 use Rattle.cell_make.specs.GeneratedCell.{node_at, east_edge, north_edge, depth_area, coverage_area, generated_nodes, generated_edges, generated_areas}
 use Rattle.cell_make.proofs.Ranges.{range_join}

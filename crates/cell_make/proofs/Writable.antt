@@ -16,7 +16,7 @@ use Rattle.s57_types.specs.declared.record.Rec.{Rec}
 use Rattle.cell_spec.specs.Lookup.{all_records, name_of}
 use Rattle.cell_spec.specs.Names.{same_name}
 use Rattle.cell_spec.specs.Writable.{AreFit, IsWritable}
-use Rattle.cell_make.specs.Parts.{name}
+use Rattle.cell_parts.specs.Parts.{name}
 use Rattle.cell_make.specs.Squares.{row_of, each_place}
 use Rattle.cell_make.specs.GeneratedCell.{node_at, east_edge, north_edge, depth_area, coverage_area, generated_nodes, generated_edges, generated_areas}
 use Rattle.cell_make.specs.GeneratedCell.{generated_cell}

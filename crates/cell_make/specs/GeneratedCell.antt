@@ -4,7 +4,7 @@ use Rattle.s57_types.specs.declared.cell.Cell.{Cell}
 use Rattle.s57_types.specs.declared.record.Attr.{Attr}
 use Rattle.s57_types.specs.declared.record.Rec.{Rec}
 use Rattle.s57_types.specs.declared.record.Spot.{Spot}
-use Rattle.cell_make.specs.Parts.{area, edge, head, node, outer}
+use Rattle.cell_parts.specs.Parts.{area, edge, head, node, outer}
 use Rattle.cell_make.specs.Squares.{side, node_id, east_id, north_id, area_id, coverage_id, first, each_place}
 
 abbrev pub node_at : ℕ → ℕ → ℕ → Rec

@@ -8,7 +8,7 @@ use Rattle.cell_spec.specs.declared.edit.Edit.{Edit}
 use Rattle.cell_spec.specs.declared.edit.Edit.TheVariants.{Set, Del}
 use Rattle.text_spec.specs.declared.command.Command.{Command}
 use Rattle.text_spec.specs.declared.command.Command.TheVariants.{View, Commit, Push}
-use Rattle.cell_make.specs.Parts.{name}
+use Rattle.cell_parts.specs.Parts.{name}
 use Rattle.cell_make.specs.Squares.{side}
 
 -- the number by which a round of a script chooses its record

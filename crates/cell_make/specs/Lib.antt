@@ -1,4 +1,3 @@
-pub mod Parts
 pub mod Square
 pub mod Squares
 pub mod GeneratedCell

@@ -2,7 +2,7 @@
 use Rattle.std.specs.Prelude.{List, [], ◌∷◌, codes}
 use Rattle.s57_types.specs.declared.cell.Cell.{Cell}
 use Rattle.s57_types.specs.declared.record.Spot.{Spot}
-use Rattle.cell_make.specs.Parts.{head, node, edge, outer, area}
+use Rattle.cell_parts.specs.Parts.{head, node, edge, outer, area}
 
 abbrev pub boundary : List Spot
 boundary = outer 3 1 ∷ outer 2 1 ∷ outer 4 2 ∷ outer 1 2 ∷ []

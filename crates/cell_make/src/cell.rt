@@ -2,7 +2,7 @@
 
 ghost use Rattle.std.specs.Prelude.{◌≡◌, ◌+◌, ◌≤◌, ◌<◌, ◌++◌, ◌∷◌, [], IfOk, OnOk};
 ghost use Rattle.cell_spec.specs.Writable.{IsWritable};
-ghost use Rattle.cell_make.specs.Parts.{head as head_of};
+ghost use Rattle.cell_parts.specs.Parts.{head as head_of};
 ghost use Rattle.cell_make.specs.Squares.{each_place, row_of};
 ghost use Rattle.cell_make.specs.GeneratedCell.{depth_area as depth_area_at, east_edge as east_edge_at, generated_areas, generated_cell};
 ghost use Rattle.cell_make.specs.GeneratedCell.{generated_edges, generated_nodes, node_at, north_edge as north_edge_at};

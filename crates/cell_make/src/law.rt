@@ -4,7 +4,7 @@ ghost use Rattle.std.specs.Prelude.{◌≡◌, ◌+◌, ◌*◌, ℕ, map};
 ghost use Rattle.std.specs.List.{range_with_len};
 ghost use Rattle.s57_types.specs.declared.name.Kind.TheVariants.{Vc, Ve, Fe};
 ghost use Rattle.cell_spec.specs.Lookup.{name_of};
-ghost use Rattle.cell_make.specs.Parts.{name};
+ghost use Rattle.cell_parts.specs.Parts.{name};
 ghost use Rattle.cell_make.specs.Square.{square};
 ghost use Rattle.cell_make.specs.GeneratedCell.{generated_areas, generated_cell, generated_edges, generated_nodes};
 

@@ -52,47 +52,45 @@ description_tail =
 abbrev pub description_text : Box4 → List ℕ
 description_text around = description_head ++ (north_west_text around ++ (south_east_text around ++ description_tail))
 
--- colours that people who don't see red and green alike can tell apart
-abbrev pub line_style : List ℕ
-line_style =
+-- how all is drawn, in colours that people who don't see red and green alike can tell apart
+abbrev pub style_text : List ℕ
+style_text =
     codes "<style>svg{background:#fff}path{fill:none;stroke-linecap:round;stroke-linejoin:round}\n"
     ++ (codes ".frame{stroke:#000;stroke-width:8}.edge{stroke:#666;stroke-width:14}.node{stroke:#004a80;stroke-width:56}\n"
     ++ (codes ".isolated{stroke:#004a80;stroke-width:70;stroke-linecap:square}.sounding{stroke:#3b8fc4;stroke-width:50}\n"
-    ++ (codes ".group1,.coverage{fill-rule:evenodd}.group1{fill:#56b4e9;fill-opacity:.25}.coverage{fill:url(#hatch)}.hatch{stroke:#999;stroke-width:12}\n")))
-
-abbrev pub mark_style : List ℕ
-mark_style =
-    codes ".mark,.spot{stroke:#d55e00;stroke-width:100;stroke-opacity:.45}.spot{stroke-width:80;stroke-opacity:.85}\n"
+    ++ (codes ".group1,.coverage{fill-rule:evenodd}.group1{fill:#56b4e9;fill-opacity:.25}.coverage{fill:url(#hatch)}.hatch{stroke:#999;stroke-width:12}\n"
+    ++ (codes ".mark,.spot{stroke:#d55e00;stroke-width:100;stroke-opacity:.45}.spot{stroke-width:80;stroke-opacity:.85}\n"
     ++ (codes ".lead{stroke:#8a3b00;stroke-width:12}text{font-family:sans-serif;font-size:150px}\n"
     ++ (codes ".label{font-weight:bold;font-size:190px;text-anchor:middle;dominant-baseline:central;\n"
-    ++ (codes "paint-order:stroke;stroke:#fff;stroke-width:50}.heading{font-size:260px}</style>\n")))
+    ++ (codes "paint-order:stroke;stroke:#fff;stroke-width:50}.heading{font-size:260px}</style>\n")))))))
 
 -- how coverage is filled
 abbrev pub hatch_text : List ℕ
 hatch_text =
     codes "<pattern id='hatch' patternUnits='userSpaceOnUse' width='180' height='180'><path class='hatch' d='M 0 180 180 0h0'/></pattern>\n"
 
--- what each sort of shape stands for
+-- an entry of the key: a sample of a class of shapes, and at a place behind it what these stand for
+abbrev pub key_entry : List ℕ → List ℕ → List ℕ → List ℕ → List ℕ
+key_entry class sample place name =
+    codes "<path class='" ++ (class ++ (codes "' d='M " ++ (sample ++ (codes "h0'/><text transform='translate(" ++ (place ++ (codes ")'>" ++ (name
+    ++ codes "</text>\n")))))))
+
 abbrev pub key_text : List ℕ
 key_text =
-    codes "<path class='edge' d='M 600 590 850 590h0'/><text transform='translate(950 640)'>edge</text>\n"
-    ++ (codes "<path class='node' d='M 1700 590h0'/><text transform='translate(1800 640)'>connected node</text>\n"
-    ++ (codes "<path class='isolated' d='M 3300 590h0'/><text transform='translate(3400 640)'>isolated node</text>\n"
-    ++ (codes "<path class='sounding' d='M 4750 590h0'/><text transform='translate(4850 640)'>sounding</text>\n")))
-
-abbrev pub area_key_text : List ℕ
-area_key_text =
-    codes "<path class='group1' d='M 5800 500 6050 500 6050 680 5800 680h0'/><text transform='translate(6150 640)'>Group 1 area</text>\n"
-    ++ (codes "<path class='coverage' d='M 7450 500 7700 500 7700 680 7450 680h0'/><text transform='translate(7800 640)'>coverage</text>\n"
-    ++ (codes "<path class='mark' d='M 8800 590 9050 590h0'/><text transform='translate(9150 640)'>finding, listed by its number</text>\n"))
+    key_entry (codes "edge") (codes "600 590 850 590") (codes "950 640") (codes "edge")
+    ++ (key_entry (codes "node") (codes "1700 590") (codes "1800 640") (codes "connected node")
+    ++ (key_entry (codes "isolated") (codes "3300 590") (codes "3400 640") (codes "isolated node")
+    ++ (key_entry (codes "sounding") (codes "4750 590") (codes "4850 640") (codes "sounding")
+    ++ (key_entry (codes "group1") (codes "5800 500 6050 500 6050 680 5800 680") (codes "6150 640") (codes "Group 1 area")
+    ++ (key_entry (codes "coverage") (codes "7450 500 7700 500 7700 680 7450 680") (codes "7800 640") (codes "coverage")
+    ++ (key_entry (codes "mark") (codes "8800 590 9050 590") (codes "9150 640") (codes "finding, listed by its number")))))))
 
 abbrev pub heading_text : Cell → ℕ → List ℕ
 heading_text c total = text_at (codes "heading") PAGE_LEFT 330 ++ (counted_text c total ++ codes "</text>\n")
 
 abbrev pub head_text : Box4 → Cell → ℕ → List ℕ
 head_text around c total =
-    opening_text total ++ (names_text c total ++ (description_text around ++ (line_style ++ (mark_style ++ (hatch_text ++ (heading_text c total
-    ++ (key_text ++ area_key_text)))))))
+    opening_text total ++ (names_text c total ++ (description_text around ++ (style_text ++ (hatch_text ++ (heading_text c total ++ key_text)))))
 
 -- the frame, with the coordinates of its sides, and the head of the list
 abbrev pub corner_text : ℕ → List ℕ → List ℕ

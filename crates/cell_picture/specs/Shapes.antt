@@ -96,9 +96,12 @@ spot_at line (Some p) = spot line p ∷ []
 abbrev pub spot_of : Cell → Box4 → SubjectFinding → List Shape
 spot_of c around f = spot_at (line_of f) (anchor_of (place_of c around f))
 
+abbrev pub spots_of : Cell → Box4 → List SubjectFinding → List Shape
+spots_of c around fs = flat_map (spot_of c around) fs
+
 -- the findings where they are, each with its number where there aren't too many
 abbrev pub finding_shapes : Cell → Box4 → List SubjectFinding → List Shape
-finding_shapes c around fs = if nat_le (length fs) MARK_LIMIT then marks_from c around [] 1 fs else flat_map (spot_of c around) fs
+finding_shapes c around fs = if nat_le (length fs) MARK_LIMIT then marks_from c around [] 1 fs else spots_of c around fs
 
 -- where a row of the list stands
 abbrev pub row_of : ℕ → SubjectFinding → Row

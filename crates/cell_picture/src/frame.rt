@@ -2,9 +2,9 @@
 
 ghost use Rattle.std.specs.Prelude.{◌≡◌, ◌++◌, ◌∷◌, [], OnOk, codes, decimal};
 ghost use Rattle.text_spec.specs.Lines.{spaced_words};
-ghost use Rattle.cell_picture.specs.Picture.{area_key_text, corner_text, counted_text, description_head, description_tail, description_text, frame_text};
-ghost use Rattle.cell_picture.specs.Picture.{hatch_text, head_text, heading_text, key_text, line_style, mark_style, names_text, north_west_text};
-ghost use Rattle.cell_picture.specs.Picture.{opening_text, page_height as spec_page_height, side_words, south_east_text};
+ghost use Rattle.cell_picture.specs.Picture.{corner_text, counted_text, description_head, description_tail, description_text, frame_text};
+ghost use Rattle.cell_picture.specs.Picture.{hatch_text, head_text, heading_text, key_entry, key_text, names_text, north_west_text};
+ghost use Rattle.cell_picture.specs.Picture.{opening_text, page_height as spec_page_height, side_words, south_east_text, style_text};
 ghost use Rattle.cell_picture.specs.ShapeText.{text_at};
 
 use crate::escape::push_escaped;
@@ -122,9 +122,9 @@ fn push_description(out: &mut Vec<u8>, around: Box4) -> Result<(), AllocError>
     push_description_tail(out)
 }
 
-/// Appends how records are drawn.
-fn push_line_style(out: &mut Vec<u8>) -> Result<(), AllocError>
-    ensures { OnOk result (out.new.items ≡ out.old.items ++ line_style) }
+/// Appends how all is drawn.
+fn push_style(out: &mut Vec<u8>) -> Result<(), AllocError>
+    ensures { OnOk result (out.new.items ≡ out.old.items ++ style_text) }
 {
     push_text(
         out,
@@ -141,13 +141,7 @@ fn push_line_style(out: &mut Vec<u8>) -> Result<(), AllocError>
     push_text(
         out,
         ".group1,.coverage{fill-rule:evenodd}.group1{fill:#56b4e9;fill-opacity:.25}.coverage{fill:url(#hatch)}.hatch{stroke:#999;stroke-width:12}\n",
-    )
-}
-
-/// Appends how findings and texts are drawn.
-fn push_mark_style(out: &mut Vec<u8>) -> Result<(), AllocError>
-    ensures { OnOk result (out.new.items ≡ out.old.items ++ mark_style) }
-{
+    )?;
     push_text(
         out,
         ".mark,.spot{stroke:#d55e00;stroke-width:100;stroke-opacity:.45}.spot{stroke-width:80;stroke-opacity:.85}\n",
@@ -176,43 +170,55 @@ fn push_hatch(out: &mut Vec<u8>) -> Result<(), AllocError>
     )
 }
 
-/// Appends what each sort of line and dot stands for.
+/// Appends an entry of the key: a sample of a class of shapes, and at a place behind it what these stand for.
+fn push_key_entry(
+    out: &mut Vec<u8>,
+    class: &str,
+    sample: &str,
+    place: &str,
+    name: &str,
+) -> Result<(), AllocError>
+    ensures { OnOk result (out.new.items ≡ out.old.items ++ key_entry class.now sample.now place.now name.now) }
+{
+    push_text(out, "<path class='")?;
+    push_text(out, class)?;
+    push_text(out, "' d='M ")?;
+    push_text(out, sample)?;
+    push_text(out, "h0'/><text transform='translate(")?;
+    push_text(out, place)?;
+    push_text(out, ")'>")?;
+    push_text(out, name)?;
+    push_text(out, "</text>\n")
+}
+
+/// Appends what each sort of shape stands for.
 fn push_key(out: &mut Vec<u8>) -> Result<(), AllocError>
     ensures { OnOk result (out.new.items ≡ out.old.items ++ key_text) }
 {
-    push_text(
+    push_key_entry(out, "edge", "600 590 850 590", "950 640", "edge")?;
+    push_key_entry(out, "node", "1700 590", "1800 640", "connected node")?;
+    push_key_entry(out, "isolated", "3300 590", "3400 640", "isolated node")?;
+    push_key_entry(out, "sounding", "4750 590", "4850 640", "sounding")?;
+    push_key_entry(
         out,
-        "<path class='edge' d='M 600 590 850 590h0'/><text transform='translate(950 640)'>edge</text>\n",
+        "group1",
+        "5800 500 6050 500 6050 680 5800 680",
+        "6150 640",
+        "Group 1 area",
     )?;
-    push_text(
+    push_key_entry(
         out,
-        "<path class='node' d='M 1700 590h0'/><text transform='translate(1800 640)'>connected node</text>\n",
+        "coverage",
+        "7450 500 7700 500 7700 680 7450 680",
+        "7800 640",
+        "coverage",
     )?;
-    push_text(
+    push_key_entry(
         out,
-        "<path class='isolated' d='M 3300 590h0'/><text transform='translate(3400 640)'>isolated node</text>\n",
-    )?;
-    push_text(
-        out,
-        "<path class='sounding' d='M 4750 590h0'/><text transform='translate(4850 640)'>sounding</text>\n",
-    )
-}
-
-/// Appends what each filling and a mark stand for.
-fn push_area_key(out: &mut Vec<u8>) -> Result<(), AllocError>
-    ensures { OnOk result (out.new.items ≡ out.old.items ++ area_key_text) }
-{
-    push_text(
-        out,
-        "<path class='group1' d='M 5800 500 6050 500 6050 680 5800 680h0'/><text transform='translate(6150 640)'>Group 1 area</text>\n",
-    )?;
-    push_text(
-        out,
-        "<path class='coverage' d='M 7450 500 7700 500 7700 680 7450 680h0'/><text transform='translate(7800 640)'>coverage</text>\n",
-    )?;
-    push_text(
-        out,
-        "<path class='mark' d='M 8800 590 9050 590h0'/><text transform='translate(9150 640)'>finding, listed by its number</text>\n",
+        "mark",
+        "8800 590 9050 590",
+        "9150 640",
+        "finding, listed by its number",
     )
 }
 
@@ -236,12 +242,10 @@ pub(crate) fn push_head(
     push_svg(out, total)?;
     push_names(out, cell, total)?;
     push_description(out, around)?;
-    push_line_style(out)?;
-    push_mark_style(out)?;
+    push_style(out)?;
     push_hatch(out)?;
     push_heading(out, cell, total)?;
-    push_key(out)?;
-    push_area_key(out)
+    push_key(out)
 }
 
 fn push_corner_head(out: &mut Vec<u8>, y: u64) -> Result<(), AllocError>

@@ -10,8 +10,8 @@ ghost use Rattle.picture_places.specs.Labels.{anchor_of as spec_anchor_of};
 ghost use Rattle.cell_picture.specs.Picture.{picture, picture_around};
 ghost use Rattle.cell_picture.specs.ShapeText.{figure_text, mark_text, row_text, shape_text, spot_text};
 ghost use Rattle.cell_picture.specs.Shapes.{area_figure, class_by, drawing_order, feature_shapes, finding_shapes, mark_at, mark_in, marks_from};
-ghost use Rattle.cell_picture.specs.Shapes.{node_class, place_of as spec_place_of, record_shapes, row_of, rows_from, shapes, spot_at, spot_of, taken_with};
-ghost use Rattle.cell_picture.specs.Shapes.{vector_figure};
+ghost use Rattle.cell_picture.specs.Shapes.{node_class, place_of as spec_place_of, record_shapes, row_of, rows_from, shapes, spot_at, spot_of, spots_of};
+ghost use Rattle.cell_picture.specs.Shapes.{taken_with, vector_figure};
 
 use crate::frame::{push_frame, push_head};
 use crate::shape::{Class, Figure, LIST_TOP, MARK_LIMIT, Mark, ROW_HEIGHT, Row};
@@ -22,8 +22,7 @@ use chain_topo::{ListLook, Steps};
 use check_words::{is_coverage_area, is_group1_area, number};
 use geometry_spec::Box4;
 use picture_places::{
-    Held, PagePoint, Strokes, anchor_of, area_strokes_of, extent_of, field_of, free_field,
-    label_point, mark_anchor, place_of, vector_strokes_of,
+    Held, PagePoint, Strokes, View, anchor_of, extent_of, field_of, free_field, label_point,
 };
 use s57_types::{Cell, Feature, Kind, Rec, Text, Vector};
 use std::alloc::{AllocError, Global};
@@ -158,29 +157,28 @@ fn draw_rows(alloc: Global, out: &mut Vec<u8>, findings: &[SubjectFinding]) -> D
     Ok(())
 }
 
-/// What is drawn: the part of a cell that lies in a box.
+/// What is drawn: the part of a cell that is shown.
 #[derive(Drop)]
 struct Scene<'a, 'b> {
-    alloc: Global,
-    look: &'a ListLook<'b>,
-    around: Box4,
+    view: View<'a, 'b>,
 }
 
 impl<'a, 'b> Scene<'a, 'b> {
     /// A vector record as it is drawn.
     fn figure<L: Ledger>(&self, vector: &Vector, steps: &mut Steps<L>) -> Result<Figure, AllocError>
-        ensures { IfOk result (λ figure. figure ≡ vector_figure self.now.look.now self.now.around vector.now) }
+        ensures { IfOk result (λ figure. figure ≡ vector_figure self.now.view.look.now self.now.view.around vector.now) }
     {
         Ok(Figure {
             class: class_of(vector),
             name: vector.name,
-            strokes: vector_strokes_of(self.alloc, self.look, self.around, vector, steps)?,
+            strokes: self.view.vector_strokes_of(vector, steps)?,
         })
     }
 
     /// Appends a vector record as it is drawn.
     fn vector<L: Ledger>(&self, out: &mut Vec<u8>, vector: &Vector, steps: &mut Steps<L>) -> Drawn
-        ensures { OnOk result (out.new.items ≡ out.old.items ++ flat_map shape_text (record_shapes self.now.look.now self.now.around (V vector.now))) }
+        ensures { OnOk result (out.new.items ≡ out.old.items
+            ++ flat_map shape_text (record_shapes self.now.view.look.now self.now.view.around (V vector.now))) }
     {
         let figure = self.figure(vector, steps)?;
         push_figure(out, &figure)
@@ -194,9 +192,9 @@ impl<'a, 'b> Scene<'a, 'b> {
         feature: &Feature,
         steps: &mut Steps<L>,
     ) -> Drawn
-        ensures { OnOk result (out.new.items ≡ out.old.items ++ figure_text (area_figure self.now.look.now self.now.around class feature.now)) }
+        ensures { OnOk result (out.new.items ≡ out.old.items ++ figure_text (area_figure self.now.view.look.now self.now.view.around class feature.now)) }
     {
-        let strokes = area_strokes_of(self.alloc, self.look, self.around, feature, steps)?;
+        let strokes = self.view.area_strokes_of(feature, steps)?;
         let figure = Figure {
             class,
             name: feature.name,
@@ -212,7 +210,7 @@ impl<'a, 'b> Scene<'a, 'b> {
         feature: &Feature,
         steps: &mut Steps<L>,
     ) -> Drawn
-        ensures { OnOk result (out.new.items ≡ out.old.items ++ flat_map shape_text (feature_shapes self.now.look.now self.now.around feature.now)) }
+        ensures { OnOk result (out.new.items ≡ out.old.items ++ flat_map shape_text (feature_shapes self.now.view.look.now self.now.view.around feature.now)) }
     {
         if is_group1_area(feature) {
             return self.area(out, Class::Group1, feature, steps);
@@ -225,7 +223,7 @@ impl<'a, 'b> Scene<'a, 'b> {
 
     /// Appends a record, if it is drawn.
     fn record<L: Ledger>(&self, out: &mut Vec<u8>, rec: &Rec, steps: &mut Steps<L>) -> Drawn
-        ensures { OnOk result (out.new.items ≡ out.old.items ++ flat_map shape_text (record_shapes self.now.look.now self.now.around rec.now)) }
+        ensures { OnOk result (out.new.items ≡ out.old.items ++ flat_map shape_text (record_shapes self.now.view.look.now self.now.view.around rec.now)) }
     {
         match rec {
             Rec::V(vector) => self.vector(out, vector, steps),
@@ -237,7 +235,8 @@ impl<'a, 'b> Scene<'a, 'b> {
     /// Appends records, one after the other.
     #[tactic(auto, using(crate::proofs::Marks::nested_more))]
     fn records<L: Ledger>(&self, out: &mut Vec<u8>, recs: &[Rec], steps: &mut Steps<L>) -> Drawn
-        ensures { OnOk result (out.new.items ≡ out.old.items ++ flat_map shape_text (flat_map (record_shapes self.now.look.now self.now.around) recs.now)) }
+        ensures { OnOk result (out.new.items ≡ out.old.items
+            ++ flat_map shape_text (flat_map (record_shapes self.now.view.look.now self.now.view.around) recs.now)) }
     {
         for rec in recs {
             self.record(out, rec, steps)?;
@@ -248,7 +247,7 @@ impl<'a, 'b> Scene<'a, 'b> {
     /// Appends the records of a cell in the order in which they are drawn.
     fn all_records<L: Ledger>(&self, out: &mut Vec<u8>, cell: &Cell, steps: &mut Steps<L>) -> Drawn
         ensures { OnOk result (out.new.items ≡ out.old.items
-            ++ flat_map shape_text (flat_map (record_shapes self.now.look.now self.now.around) (drawing_order cell.now))) }
+            ++ flat_map shape_text (flat_map (record_shapes self.now.view.look.now self.now.view.around) (drawing_order cell.now))) }
     {
         self.records(out, cell.fe.as_slice(), steps)?;
         self.records(out, cell.ve.as_slice(), steps)?;
@@ -266,21 +265,14 @@ impl<'a, 'b> Scene<'a, 'b> {
         steps: &mut Steps<L>,
     ) -> Drawn
         ensures text { OnOk result (out.new.items ≡ out.old.items
-            ++ flat_map shape_text (mark_at number (spec_line_of found) (spec_place_of self.now.look.now self.now.around found) taken.old.items
-            (spec_anchor_of (spec_place_of self.now.look.now self.now.around found)))) }
+            ++ flat_map shape_text (mark_at number (spec_line_of found) (spec_place_of self.now.view.look.now self.now.view.around found) taken.old.items
+            (spec_anchor_of (spec_place_of self.now.view.look.now self.now.view.around found)))) }
         ensures taken { OnOk result (taken.new.items
-            ≡ taken_with taken.old.items (spec_anchor_of (spec_place_of self.now.look.now self.now.around found))) }
+            ≡ taken_with taken.old.items (spec_anchor_of (spec_place_of self.now.view.look.now self.now.view.around found))) }
     {
-        let strokes = place_of(
-            self.alloc,
-            self.look,
-            self.around,
-            found.subject,
-            found.finding,
-            steps,
-        )?;
+        let strokes = self.view.place_of(found.subject, found.finding, steps)?;
         let anchor = anchor_of(strokes.as_slice());
-        draw_mark_at(self.alloc, out, taken, number, found, strokes, anchor)
+        draw_mark_at(self.view.alloc, out, taken, number, found, strokes, anchor)
     }
 
     /// Appends the marks of findings.
@@ -291,9 +283,9 @@ impl<'a, 'b> Scene<'a, 'b> {
         steps: &mut Steps<L>,
     ) -> Drawn
         ensures { OnOk result (out.new.items ≡ out.old.items
-            ++ flat_map shape_text (marks_from self.now.look.now self.now.around [] 1 findings.now)) }
+            ++ flat_map shape_text (marks_from self.now.view.look.now self.now.view.around [] 1 findings.now)) }
     {
-        let mut taken = Vec::new(self.alloc);
+        let mut taken = Vec::new(self.view.alloc);
         for (k, found) in findings.iter().enumerate() {
             let serial = number(k + 1)?;
             self.mark(out, &mut taken, serial, *found, steps)?;
@@ -309,20 +301,14 @@ impl<'a, 'b> Scene<'a, 'b> {
         held: &mut Option<Held>,
         steps: &mut Steps<L>,
     ) -> Drawn
-        requires { IsHeld self.now.look.now self.now.around held.old }
-        ensures text { OnOk result (out.new.items ≡ out.old.items ++ flat_map shape_text (spot_of self.now.look.now self.now.around found)) }
-        ensures held { IsHeld self.now.look.now self.now.around held.new }
+        requires { IsHeld self.now.view.look.now self.now.view.around held.old }
+        ensures text { OnOk result (out.new.items ≡ out.old.items ++ flat_map shape_text (spot_of self.now.view.look.now self.now.view.around found)) }
+        ensures held { IsHeld self.now.view.look.now self.now.view.around held.new }
     {
-        let at = mark_anchor(
-            self.alloc,
-            self.look,
-            self.around,
-            found.subject,
-            found.finding,
-            held,
-            steps,
-        )?;
-        draw_spot_at(self.alloc, out, found, at)
+        let at = self
+            .view
+            .mark_anchor(found.subject, found.finding, held, steps)?;
+        draw_spot_at(self.view.alloc, out, found, at)
     }
 
     /// Appends very many findings as dots.
@@ -333,7 +319,7 @@ impl<'a, 'b> Scene<'a, 'b> {
         findings: &[SubjectFinding],
         steps: &mut Steps<L>,
     ) -> Drawn
-        ensures { OnOk result (out.new.items ≡ out.old.items ++ flat_map shape_text (flat_map (spot_of self.now.look.now self.now.around) findings.now)) }
+        ensures { OnOk result (out.new.items ≡ out.old.items ++ flat_map shape_text (spots_of self.now.view.look.now self.now.view.around findings.now)) }
     {
         let mut held = None;
         for found in findings {
@@ -349,7 +335,7 @@ impl<'a, 'b> Scene<'a, 'b> {
         found: &[SubjectFinding],
         steps: &mut Steps<L>,
     ) -> Drawn
-        ensures { OnOk result (out.new.items ≡ out.old.items ++ flat_map shape_text (finding_shapes self.now.look.now self.now.around found.now)) }
+        ensures { OnOk result (out.new.items ≡ out.old.items ++ flat_map shape_text (finding_shapes self.now.view.look.now self.now.view.around found.now)) }
     {
         if found.len() <= MARK_LIMIT as usize {
             return self.marks(out, found, steps);
@@ -365,12 +351,12 @@ impl<'a, 'b> Scene<'a, 'b> {
         findings: &[SubjectFinding],
         steps: &mut Steps<L>,
     ) -> Drawn
-        requires { self.now.look.now ≡ cell.now }
-        ensures { OnOk result (out.new.items ≡ out.old.items ++ flat_map shape_text (shapes cell.now self.now.around findings.now)) }
+        requires { self.now.view.look.now ≡ cell.now }
+        ensures { OnOk result (out.new.items ≡ out.old.items ++ flat_map shape_text (shapes cell.now self.now.view.around findings.now)) }
     {
         self.all_records(out, cell, steps)?;
         self.findings(out, findings, steps)?;
-        draw_rows(self.alloc, out, findings)
+        draw_rows(self.view.alloc, out, findings)
     }
 }
 
@@ -388,9 +374,11 @@ fn draw_around<L: Ledger>(
 {
     let look = ListLook::make(alloc, cell)?;
     let scene = Scene {
-        alloc,
-        look: &look,
-        around,
+        view: View {
+            alloc,
+            look: &look,
+            around,
+        },
     };
     let total = number(findings.len())?;
     push_head(out, around, cell, total)?;

@@ -2,8 +2,6 @@
 
 ghost use Rattle.std.specs.Prelude.{◌≡◌, ◌≤◌, ◌++◌, All, IfOk, OnOk, length, map};
 ghost use Rattle.std.specs.Borrow.{Bor};
-ghost use Rattle.s57_types.specs.declared.record.End.{End as SpecEnd};
-ghost use Rattle.s57_types.specs.declared.record.Spot.{Spot as SpecSpot};
 ghost use Rattle.s57_types.specs.declared.record.Rec.{Rec as SpecRec};
 ghost use Rattle.s57_types.specs.RecordFields.{length_limit};
 ghost use Rattle.cell_spec.specs.Lookup.{all_records, name_of as spec_name};
@@ -48,30 +46,45 @@ pub fn records_of(alloc: Global, cell: &Cell) -> Result<Vec<&Rec>, AllocError>
     Ok(list)
 }
 
-// Appends the target of each of a record's ends, with the place of the end.
-fn add_ends(list: &mut Vec<(RecName, Ref)>, from: RecName, ends: &[End]) -> Result<(), AllocError>
-    requires { length ends.now ≤ length_limit }
-    ensures { OnOk result (list.new.items ≡ list.old.items ++ pointers_from from 1 (map (λ (e : SpecEnd). e.to) ends.now)) }
-{
-    for (k, end) in ends.iter().enumerate() {
-        let place = (k + 1) as u32;
-        list.push((end.to, Ref { from, place }))?;
-    }
-    Ok(())
+/// A pointer of a record to another.
+trait Pointer {
+    ghost use Rattle.s57_types.specs.declared.name.RecName.{RecName as SpecName};
+
+    ghost target: { Self → SpecName };
+
+    /// The name of the record that it points to.
+    fn target_name(&self) -> RecName
+        ensures { result ≡ target self.now };
 }
 
-// Appends the target of each of a record's spots, with the place of the spot.
-fn add_spots(
+impl Pointer for End {
+    ghost target = { λ end. end.to };
+
+    fn target_name(&self) -> RecName {
+        self.to
+    }
+}
+
+impl Pointer for Spot {
+    ghost target = { λ spot. spot.to };
+
+    fn target_name(&self) -> RecName {
+        self.to
+    }
+}
+
+// Appends the target of each of a record's pointers, with the place of the pointer.
+fn add_targets<P: Pointer>(
     list: &mut Vec<(RecName, Ref)>,
     from: RecName,
-    spots: &[Spot],
+    pointers: &[P],
 ) -> Result<(), AllocError>
-    requires { length spots.now ≤ length_limit }
-    ensures { OnOk result (list.new.items ≡ list.old.items ++ pointers_from from 1 (map (λ (s : SpecSpot). s.to) spots.now)) }
+    requires { length pointers.now ≤ length_limit }
+    ensures { OnOk result (list.new.items ≡ list.old.items ++ pointers_from from 1 (map P.target pointers.now)) }
 {
-    for (k, spot) in spots.iter().enumerate() {
+    for (k, pointer) in pointers.iter().enumerate() {
         let place = (k + 1) as u32;
-        list.push((spot.to, Ref { from, place }))?;
+        list.push((pointer.target_name(), Ref { from, place }))?;
     }
     Ok(())
 }
@@ -82,8 +95,8 @@ fn add_pointers(list: &mut Vec<(RecName, Ref)>, rec: &Rec) -> Result<(), AllocEr
     ensures { OnOk result (list.new.items ≡ list.old.items ++ pointers_of rec.now) }
 {
     match rec {
-        Rec::V(vector) => add_ends(list, vector.name, vector.ends.as_slice()),
-        Rec::F(feature) => add_spots(list, feature.name, feature.places.as_slice()),
+        Rec::V(vector) => add_targets(list, vector.name, vector.ends.as_slice()),
+        Rec::F(feature) => add_targets(list, feature.name, feature.places.as_slice()),
         Rec::H(_) => Ok(()),
     }
 }

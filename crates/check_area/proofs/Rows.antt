@@ -7,14 +7,14 @@ use Rattle.std.proofs.lemmas.List.{append-nil, take-map, drop-map}
 use Rattle.cell_spec.specs.declared.finding.Finding.{Finding}
 use Rattle.rule_spec.specs.declared.kind.TheConstants.{MIXED_RING, OPEN_RING, OUTER_COUNT, WRONG_TURN}
 use Rattle.rule_spec.specs.declared.line.BoundaryRow.{BoundaryRow}
-use Rattle.rule_spec.specs.Boundary.{arc_of, first_place, is_clean, is_exterior, is_interior, is_interior_row, is_mixed, loops_of, mixed_ring_of}
-use Rattle.rule_spec.specs.Boundary.{open_ring_of, outer_count_of, turns_wrongly, wrong_turn_of}
+use Rattle.rule_spec.specs.Boundary.{all_interior, arc_of, first_place, is_clean, is_exterior, is_interior, is_mixed, loops_of, mixed_ring_of}
+use Rattle.rule_spec.specs.Boundary.{none_interior, open_ring_of, outer_count_of, partly_interior, turns_wrongly, usage_of_row, wrong_turn_of}
 use Rattle.rule_spec.specs.Findings.{finding}
 use Rattle.rule_spec.specs.Loops.{blocks_of, first_open_place, loop_lengths}
 use Rattle.rule_spec.specs.Rule.{Found, found_at, found_if}
 use Rattle.check_area.specs.declared.part.Part.{Part}
-use Rattle.check_area.specs.Parts.{arc_of_part, exterior_count, findings_by, findings_of_parts, is_exterior_loop, is_interior_loop, is_interior_part}
-use Rattle.check_area.specs.Parts.{is_mixed_loop, loops_of_parts, mixed_loops, part_of, place_of_loop, turns_against_usage, wrong_loops}
+use Rattle.check_area.specs.Parts.{arc_of_part, exterior_count, findings_by, findings_of_parts}
+use Rattle.check_area.specs.Parts.{loops_of_parts, mixed_loops, part_of, place_of_loop, turns_against_usage, usage_of_part, wrong_loops}
 use Rattle.check_area.proofs.Turns.{HasPoints, turn-rows}
 
 blocks-map : {X Y : Type 0} (f : X → Y) (lengths : List ℕ) (xs : List X) → blocks_of lengths (map f xs) ≡ map (map f) (blocks_of lengths xs)
@@ -79,18 +79,19 @@ count-map p q (loop ∷ loops) h =
     count_by (p (map part_of loop)) (q loop) loop (filter p (map (map part_of) loops)) (filter q loops) h.0 (count-map p q loops h.1)
 
 -- ---- the tests
-interior-map : (loop : List BoundaryRow) → is_interior_loop (map part_of loop) ≡ is_interior loop
+interior-map : (loop : List BoundaryRow) → all_interior usage_of_part (map part_of loop) ≡ is_interior loop
 interior-map [] = refl
-interior-map (row ∷ rows) = ap (λ b. is_interior_row row && b) (interior-map rows)
+interior-map (row ∷ rows) = ap (λ b. (row.usag == 2) && b) (interior-map rows)
 
-any-map : (loop : List BoundaryRow) → list_any is_interior_part (map part_of loop) ≡ list_any is_interior_row loop
+any-map : (loop : List BoundaryRow) → list_any (λ (p : Part). usage_of_part p == 2) (map part_of loop) ≡
+    list_any (λ (row : BoundaryRow). usage_of_row row == 2) loop
 any-map [] = refl
-any-map (row ∷ rows) = ap (λ b. is_interior_row row || b) (any-map rows)
+any-map (row ∷ rows) = ap (λ b. (row.usag == 2) || b) (any-map rows)
 
-exterior-map : (loop : List BoundaryRow) → is_exterior_loop (map part_of loop) ≡ is_exterior loop
+exterior-map : (loop : List BoundaryRow) → none_interior usage_of_part (map part_of loop) ≡ is_exterior loop
 exterior-map loop = ap not (any-map loop)
 
-mixed-map : (loop : List BoundaryRow) → is_mixed_loop (map part_of loop) ≡ is_mixed loop
+mixed-map : (loop : List BoundaryRow) → partly_interior usage_of_part (map part_of loop) ≡ is_mixed loop
 mixed-map loop = λ i. not (interior-map loop i) && not (exterior-map loop i)
 
 wrong-map : (loop : List BoundaryRow) → AllByRecursion HasPoints loop → turns_against_usage (map part_of loop) ≡ turns_wrongly loop
@@ -109,13 +110,15 @@ abbrev parted : List (List BoundaryRow) → List (List Part)
 parted loops = map (map part_of) loops
 
 mixed_same : (loops : List (List BoundaryRow)) → mixed_loops (parted loops) ≡ map first_place (filter is_mixed loops)
-mixed_same loops = places-map is_mixed_loop is_mixed loops (each (λ loop. is_mixed_loop (map part_of loop) ≡ is_mixed loop) mixed-map loops)
+mixed_same loops =
+    places-map (partly_interior usage_of_part) is_mixed loops
+    (each (λ loop. partly_interior usage_of_part (map part_of loop) ≡ is_mixed loop) mixed-map loops)
 
 count_same : (loops : List (List BoundaryRow)) → exterior_count (parted loops) ≡ (let outer = length (filter is_exterior loops) in
     found_if (not (outer == 1)) (outer ∷ []))
 count_same loops =
-    ap (λ outer. found_if (not (outer == 1)) (outer ∷ [])) (count-map is_exterior_loop is_exterior loops
-    (each (λ loop. is_exterior_loop (map part_of loop) ≡ is_exterior loop) exterior-map loops))
+    ap (λ outer. found_if (not (outer == 1)) (outer ∷ [])) (count-map (none_interior usage_of_part) is_exterior loops
+    (each (λ loop. none_interior usage_of_part (map part_of loop) ≡ is_exterior loop) exterior-map loops))
 
 wrong_same : (loops : List (List BoundaryRow)) → AllByRecursion (AllByRecursion HasPoints) loops
     → wrong_loops (parted loops) ≡ map first_place (filter turns_wrongly loops)

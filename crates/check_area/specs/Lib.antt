@@ -1,3 +1,4 @@
 pub mod Sweeps
 pub mod Parts
 pub mod Lines
+pub mod NearFeature

@@ -1,13 +1,12 @@
 -- The boundary of an area as parts without their points (S-57 Part 3, 7.6.8; Appendix B.1).
-use Rattle.std.specs.Prelude.{ℕ, ◌+◌, ◌-◌, ◌==◌, ◌&&◌, Bool, not, List, [], ◌∷◌, ◌++◌, Option, None, Some, length, map, filter, ℤ, pos, ◌+ℤ◌, int_lt}
+use Rattle.std.specs.Prelude.{ℕ, ◌+◌, ◌-◌, ◌==◌, Bool, not, List, [], ◌∷◌, ◌++◌, Option, None, Some, length, map, filter, ℤ, pos, ◌+ℤ◌, int_lt}
 use Rattle.std.specs.Prelude.{if◌then◌else◌}
-use Rattle.std.specs.List.{list_any, list_all}
 use Rattle.geometry_spec.specs.Areas.{twice_area_step}
 use Rattle.geometry_spec.specs.Points.{Point}
 use Rattle.cell_spec.specs.declared.finding.Finding.{Finding}
 use Rattle.rule_spec.specs.declared.kind.TheConstants.{MIXED_RING, OPEN_RING, OUTER_COUNT, WRONG_TURN}
 use Rattle.rule_spec.specs.declared.line.BoundaryRow.{BoundaryRow}
-use Rattle.rule_spec.specs.Boundary.{is_clean}
+use Rattle.rule_spec.specs.Boundary.{all_interior, is_clean, none_interior, partly_interior}
 use Rattle.rule_spec.specs.Findings.{finding}
 use Rattle.rule_spec.specs.Loops.{Arc, loop_lengths, first_open_place, blocks_of}
 use Rattle.rule_spec.specs.Rule.{Found, found_if}
@@ -21,18 +20,8 @@ part_of row = record { place = row.place; usag = row.usag; sweep = sweep_of row.
 abbrev pub arc_of_part : Part → Arc
 arc_of_part p = (p.sweep.begins, p.sweep.ends)
 
--- usage 2 is interior
-abbrev pub is_interior_part : Part → Bool
-is_interior_part p = p.usag == 2
-
-abbrev pub is_interior_loop : List Part → Bool
-is_interior_loop loop = list_all is_interior_part loop
-
-abbrev pub is_exterior_loop : List Part → Bool
-is_exterior_loop loop = not (list_any is_interior_part loop)
-
-abbrev pub is_mixed_loop : List Part → Bool
-is_mixed_loop loop = not (is_interior_loop loop) && not (is_exterior_loop loop)
+abbrev pub usage_of_part : Part → ℕ
+usage_of_part p = p.usag
 
 -- the area on from a point along parts and home, with the steps from each part to the next
 abbrev pub area_home : Point → Point → List Part → ℤ
@@ -46,7 +35,7 @@ turn_of_parts (p ∷ rest) = area_home p.sweep.first p.sweep.first (p ∷ rest)
 
 -- an exterior loop that isn't clockwise, or an interior loop that isn't counterclockwise
 abbrev pub turns_against_usage : List Part → Bool
-turns_against_usage loop = if is_interior_loop loop then not (int_lt (pos 0) (turn_of_parts loop)) else not (int_lt (turn_of_parts loop) (pos 0))
+turns_against_usage loop = if all_interior usage_of_part loop then not (int_lt (pos 0) (turn_of_parts loop)) else not (int_lt (turn_of_parts loop) (pos 0))
 
 -- the first place of a loop
 abbrev pub place_of_loop : List Part → List ℕ
@@ -61,11 +50,11 @@ abbrev pub length_of_block : Block → ℕ
 length_of_block b = b.to + 1 - b.from
 
 abbrev pub mixed_loops : List (List Part) → Found
-mixed_loops loops = map place_of_loop (filter is_mixed_loop loops)
+mixed_loops loops = map place_of_loop (filter (partly_interior usage_of_part) loops)
 
 -- the number of exterior loops where it isn't 1
 abbrev pub exterior_count : List (List Part) → Found
-exterior_count loops = let outer = length (filter is_exterior_loop loops) in found_if (not (outer == 1)) (outer ∷ [])
+exterior_count loops = let outer = length (filter (none_interior usage_of_part) loops) in found_if (not (outer == 1)) (outer ∷ [])
 
 abbrev pub wrong_loops : List (List Part) → Found
 wrong_loops loops = map place_of_loop (filter turns_against_usage loops)

@@ -5,20 +5,16 @@ ghost use Rattle.std.specs.BTreeMap.{get};
 ghost use Rattle.std.specs.List.{All};
 ghost use Rattle.std.specs.Ordering.{nat_cmp};
 ghost use Rattle.s57_types.specs.declared.cell.Cell.{Cell as SpecCell};
-ghost use Rattle.s57_types.specs.declared.name.RecName.{RecName as SpecName};
-ghost use Rattle.s57_types.specs.declared.record.Rec.TheVariants.{F};
 ghost use Rattle.s57_types.specs.declared.record.Spot.{Spot as SpecSpot};
 ghost use Rattle.cell_spec.specs.declared.key.Key.{Key as SpecKey};
-ghost use Rattle.cell_spec.specs.declared.key.Subject.TheVariants.{Rec as SubjectRec};
-ghost use Rattle.cell_spec.specs.Lookup.{lookup_record};
 ghost use Rattle.near_records.specs.Near.{IsNear};
 ghost use Rattle.rule_spec.specs.declared.kind.TheConstants.{MIXED_RING, OPEN_RING, OUTER_COUNT, WRONG_TURN};
 ghost use Rattle.rule_spec.specs.Boundary.{mixed_ring, open_ring, outer_count, wrong_turn};
 ghost use Rattle.rule_spec.specs.Features.{bad_codes, dangling_ref, prim_refs};
 ghost use Rattle.rule_spec.specs.Findings.{finding};
-ghost use Rattle.rule_spec.specs.Reads.{read_set};
 ghost use Rattle.check_area.specs.Lines.{AsksForLine, HoldsSweeps, edge_name, part_along as spec_part_along, part_at as spec_part_at};
 ghost use Rattle.check_area.specs.Lines.{parts_of as spec_parts_of, sweep_named as spec_sweep_named};
+ghost use Rattle.check_area.specs.NearFeature.{WhereNear};
 
 use crate::line::sweep_named;
 use crate::part::Part;
@@ -144,12 +140,11 @@ pub fn area_findings(
     near: &NearRecords,
     feature: &Feature,
 ) -> Result<Vec<Finding>, AllocError>
-    ensures { (c : SpecCell) (n : SpecName) (keys : List SpecKey) → IsNear c keys near.now → keys ≡ read_set c (SubjectRec n)
-        → lookup_record c n ≡ Some (F feature.now)
-        → (feature.now.prim == 3) ≡ true → prim_refs c feature.now ≡ [] → dangling_ref c feature.now ≡ [] → bad_codes c feature.now ≡ []
+    ensures { WhereNear near.now feature.now (λ c. (feature.now.prim == 3) ≡ true
+        → prim_refs c feature.now ≡ [] → dangling_ref c feature.now ≡ [] → bad_codes c feature.now ≡ []
         → IfOk result (λ findings. findings.items ≡ map (finding OPEN_RING) (open_ring c feature.now)
         ++ (map (finding MIXED_RING) (mixed_ring c feature.now)
-        ++ (map (finding OUTER_COUNT) (outer_count c feature.now) ++ map (finding WRONG_TURN) (wrong_turn c feature.now)))) }
+        ++ (map (finding OUTER_COUNT) (outer_count c feature.now) ++ map (finding WRONG_TURN) (wrong_turn c feature.now))))) }
 {
     match parts_of(alloc, near, feature.places.as_slice())? {
         Some(parts) => ring_findings(alloc, &parts),

@@ -2,7 +2,8 @@
 
 ghost use Rattle.std.specs.Prelude.{◌≡◌, ◌+ℤ◌, IfOk};
 ghost use Rattle.geometry_spec.specs.Areas.{twice_area_step as twice_area_step_of};
-ghost use Rattle.check_area.specs.Parts.{is_exterior_loop, is_interior_loop, is_mixed_loop, turn_of_parts, turns_against_usage};
+ghost use Rattle.rule_spec.specs.Boundary.{all_interior, none_interior, partly_interior};
+ghost use Rattle.check_area.specs.Parts.{turn_of_parts, turns_against_usage, usage_of_part};
 
 use crate::sums::plus;
 use crate::sweep::{LineSweep, Way, way_to};
@@ -23,14 +24,14 @@ pub(crate) struct Part {
 
 /// Whether every part of a loop is interior.
 pub(crate) fn is_interior(parts: &[Part]) -> bool
-    ensures { result ≡ is_interior_loop parts.now }
+    ensures { result ≡ all_interior usage_of_part parts.now }
 {
     parts.iter().all(|part| part.usag == INTERIOR)
 }
 
 /// Whether no part of a loop is interior.
 pub(crate) fn is_exterior(parts: &[Part]) -> bool
-    ensures { result ≡ is_exterior_loop parts.now }
+    ensures { result ≡ none_interior usage_of_part parts.now }
 {
     for part in parts {
         if part.usag == INTERIOR {
@@ -42,7 +43,7 @@ pub(crate) fn is_exterior(parts: &[Part]) -> bool
 
 /// Whether a loop has interior and other parts.
 pub(crate) fn is_mixed(parts: &[Part]) -> bool
-    ensures { result ≡ is_mixed_loop parts.now }
+    ensures { result ≡ partly_interior usage_of_part parts.now }
 {
     let interior = is_interior(parts);
     let exterior = is_exterior(parts);

@@ -2,10 +2,11 @@
 
 ghost use Rattle.std.specs.Prelude.{◌≡◌, ◌++◌, ◌∷◌, [], IfOk, OnOk, map, filter, take, drop, length};
 ghost use Rattle.rule_spec.specs.declared.kind.TheConstants.{MIXED_RING, OPEN_RING, OUTER_COUNT, WRONG_TURN};
+ghost use Rattle.rule_spec.specs.Boundary.{none_interior};
 ghost use Rattle.rule_spec.specs.Findings.{finding};
 ghost use Rattle.rule_spec.specs.Loops.{blocks_of};
-ghost use Rattle.check_area.specs.Parts.{arc_of_part, exterior_count as spec_exterior_count, findings_of_loops, findings_of_parts, is_exterior_loop};
-ghost use Rattle.check_area.specs.Parts.{length_of_block, mixed_loops, place_of_loop, wrong_loops};
+ghost use Rattle.check_area.specs.Parts.{arc_of_part, exterior_count as spec_exterior_count, findings_of_loops, findings_of_parts};
+ghost use Rattle.check_area.specs.Parts.{length_of_block, mixed_loops, place_of_loop, usage_of_part, wrong_loops};
 
 use crate::part::{Part, is_exterior, is_mixed, turns_wrongly};
 use cell_spec::Finding;
@@ -83,7 +84,7 @@ fn push_mixed(
 }
 
 fn exterior_count(lengths: &[usize], parts: &[Part]) -> usize
-    ensures { result ≡ length (filter is_exterior_loop (blocks_of lengths.now parts.now)) }
+    ensures { result ≡ length (filter (none_interior usage_of_part) (blocks_of lengths.now parts.now)) }
 {
     let mut count = 0usize;
     let mut rest = parts;

@@ -1,14 +1,7 @@
 //! The boundary of an area (S-57 Part 3, 7.6.8; Appendix B.1).
 
-ghost use Rattle.std.specs.Prelude.{◌≡◌, ◌==◌, ◌&&◌, ◌++◌, List, OnOk, Some, length};
-ghost use Rattle.s57_types.specs.declared.cell.Cell.{Cell as SpecCell};
-ghost use Rattle.s57_types.specs.declared.name.RecName.{RecName as SpecName};
-ghost use Rattle.s57_types.specs.declared.record.Rec.TheVariants.{F};
-ghost use Rattle.cell_spec.specs.declared.key.Key.{Key as SpecKey};
-ghost use Rattle.cell_spec.specs.declared.key.Subject.TheVariants.{Rec as SubjectRec};
-ghost use Rattle.cell_spec.specs.Lookup.{lookup_record};
-ghost use Rattle.rule_spec.specs.Reads.{read_set};
-ghost use Rattle.near_records.specs.Near.{IsNear};
+ghost use Rattle.std.specs.Prelude.{◌≡◌, ◌==◌, ◌&&◌, ◌++◌, OnOk, length};
+ghost use Rattle.check_area.specs.NearFeature.{WhereNear};
 ghost use Rattle.check_feature.specs.FeatureFindings.{boundary_findings, pointer_findings};
 
 use cell_spec::Finding;
@@ -33,9 +26,8 @@ pub(crate) fn push_boundary_findings(
     near: &NearRecords,
     feature: &Feature,
 ) -> Result<(), AllocError>
-    ensures { (c : SpecCell) (n : SpecName) (keys : List SpecKey) → IsNear c keys near.now → keys ≡ read_set c (SubjectRec n)
-        → lookup_record c n ≡ Some (F feature.now) → findings.old.items ≡ pointer_findings c feature.now
-        → OnOk result (findings.new.items ≡ findings.old.items ++ boundary_findings c feature.now) }
+    ensures { WhereNear near.now feature.now (λ c. findings.old.items ≡ pointer_findings c feature.now
+        → OnOk result (findings.new.items ≡ findings.old.items ++ boundary_findings c feature.now)) }
 {
     if !may_be_judged(findings.as_slice(), feature) {
         return Ok(());

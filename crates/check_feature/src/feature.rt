@@ -1,24 +1,18 @@
 //! The findings about a feature.
 
-ghost use Rattle.std.specs.Prelude.{◌≡◌, IfOk, List, Some};
-ghost use Rattle.s57_types.specs.declared.cell.Cell.{Cell as SpecCell};
-ghost use Rattle.s57_types.specs.declared.name.RecName.{RecName as SpecName};
-ghost use Rattle.s57_types.specs.declared.record.Rec.TheVariants.{F};
-ghost use Rattle.cell_spec.specs.declared.key.Key.{Key as SpecKey};
-ghost use Rattle.cell_spec.specs.declared.key.Subject.TheVariants.{Rec as SubjectRec};
-ghost use Rattle.cell_spec.specs.Lookup.{lookup_record};
+ghost use Rattle.std.specs.Prelude.{◌≡◌, IfOk};
 ghost use Rattle.rule_spec.specs.Findings.{findings_of_rules};
-ghost use Rattle.rule_spec.specs.Reads.{read_set};
 ghost use Rattle.rule_spec.specs.Rules.{feature_rules};
-ghost use Rattle.near_records.specs.Near.{IsNear};
+ghost use Rattle.check_area.specs.NearFeature.{WhereNear};
 
 use crate::boundary::push_boundary_findings;
 use crate::codes::{push_bad_codes, push_bad_level};
 use crate::group::push_wrong_group;
-use crate::partners::push_dangling_features;
-use crate::places::{push_dangling_refs, push_prim_refs};
+use crate::naming::push_dangling;
+use crate::places::push_prim_refs;
 use cell_spec::Finding;
 use near_records::NearRecords;
+use rule_spec::{DANGLING_FEATURE, DANGLING_REF};
 use s57_types::Feature;
 use std::alloc::{AllocError, Global};
 
@@ -32,16 +26,19 @@ pub fn feature_findings(
     near: &NearRecords,
     feature: &Feature,
 ) -> Result<Vec<Finding>, AllocError>
-    ensures { (c : SpecCell) (n : SpecName) (keys : List SpecKey) → IsNear c keys near.now → keys ≡ read_set c (SubjectRec n)
-        → lookup_record c n ≡ Some (F feature.now) → IfOk result
-        (λ found. found.items ≡ findings_of_rules (λ rule. rule c feature.now) feature_rules) }
+    ensures { WhereNear near.now feature.now (λ c. IfOk result (λ found. found.items ≡ findings_of_rules (λ rule. rule c feature.now) feature_rules)) }
 {
     let mut findings = Vec::new(alloc);
     push_prim_refs(&mut findings, feature)?;
-    push_dangling_refs(&mut findings, near, feature)?;
+    push_dangling(&mut findings, DANGLING_REF, near, feature.places.as_slice())?;
     push_bad_codes(&mut findings, feature)?;
     push_boundary_findings(alloc, &mut findings, near, feature)?;
-    push_dangling_features(&mut findings, near, feature)?;
+    push_dangling(
+        &mut findings,
+        DANGLING_FEATURE,
+        near,
+        feature.partners.as_slice(),
+    )?;
     push_wrong_group(&mut findings, feature)?;
     push_bad_level(&mut findings, near, feature)?;
     Ok(findings)

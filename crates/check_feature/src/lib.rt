@@ -6,6 +6,7 @@ mod codes;
 mod feature;
 mod found;
 mod group;
+mod naming;
 mod partners;
 mod places;
 

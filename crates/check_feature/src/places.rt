@@ -1,22 +1,18 @@
 //! The spatial pointers of a feature (FSPT, S-57 Part 3, 7.6.8).
 
-ghost use Rattle.std.specs.Prelude.{◌≡◌, ◌++◌, IfOk, List, OnOk, is_some, map, not, true};
-ghost use Rattle.std.specs.List.{All, list_any};
+ghost use Rattle.std.specs.Prelude.{◌≡◌, ◌++◌, OnOk, map};
+ghost use Rattle.std.specs.List.{list_any};
 ghost use Rattle.s57_types.specs.declared.cell.Cell.{Cell as SpecCell};
-ghost use Rattle.s57_types.specs.declared.record.Spot.{Spot as SpecSpot};
-ghost use Rattle.cell_spec.specs.declared.key.Key.{Key as SpecKey};
-ghost use Rattle.cell_spec.specs.declared.key.Key.TheVariants.{Name as KeyName};
-ghost use Rattle.cell_spec.specs.Lookup.{lookup_record};
-ghost use Rattle.rule_spec.specs.declared.kind.TheConstants.{DANGLING_REF, PRIM_REFS};
-ghost use Rattle.rule_spec.specs.Features.{dangling_ref, fits_primitive as spec_fits, prim_refs, target};
+ghost use Rattle.rule_spec.specs.declared.kind.TheConstants.{PRIM_REFS};
+ghost use Rattle.rule_spec.specs.Features.{fits_primitive as spec_fits, prim_refs, target};
 ghost use Rattle.rule_spec.specs.Findings.{finding};
 ghost use Rattle.rule_spec.specs.Records.{is_edge_name, is_node_name};
-ghost use Rattle.near_records.specs.Near.{IsNear, has_key};
 
-use crate::found::{push_if, push_place_if};
+use crate::found::push_if;
+use crate::naming::Naming;
 use cell_spec::Finding;
 use near_records::NearRecords;
-use rule_spec::{DANGLING_REF, PRIM_REFS};
+use rule_spec::PRIM_REFS;
 use s57_types::{Feature, Kind, Spot};
 use std::alloc::AllocError;
 
@@ -65,28 +61,20 @@ pub(crate) fn push_prim_refs(
     push_if(findings, PRIM_REFS, !fits)
 }
 
-fn dangles(near: &NearRecords, spot: &Spot) -> bool
-    ensures { (c : SpecCell) (keys : List SpecKey) → IsNear c keys near.now → has_key keys (KeyName spot.now.to) ≡ true
-        → result ≡ not (is_some (lookup_record c (target spot.now))) }
-{
-    match near.record(spot.to) {
-        Some(_) => false,
-        None => true,
-    }
-}
+impl Naming for Spot {
+    ghost use Rattle.std.specs.Prelude.{is_some, not};
+    ghost use Rattle.cell_spec.specs.declared.key.Key.TheVariants.{Name as KeyName};
+    ghost use Rattle.cell_spec.specs.Lookup.{lookup_record};
+    ghost use Rattle.rule_spec.specs.Features.{target};
 
-/// DanglingRef: appends its findings about a feature, where each record that a place names is near.
-pub(crate) fn push_dangling_refs(
-    findings: &mut Vec<Finding>,
-    near: &NearRecords,
-    feature: &Feature,
-) -> Result<(), AllocError>
-    ensures { (c : SpecCell) (keys : List SpecKey) → IsNear c keys near.now
-        → All (λ (s : SpecSpot). has_key keys (KeyName s.to) ≡ true) feature.now.places
-        → OnOk result (findings.new.items ≡ findings.old.items ++ map (finding DANGLING_REF) (dangling_ref c feature.now)) }
-{
-    for (k, spot) in feature.places.as_slice().iter().enumerate() {
-        push_place_if(findings, DANGLING_REF, dangles(near, spot), k + 1)?;
+    ghost key = { λ spot. KeyName spot.to };
+
+    ghost is_dangling = { λ c spot. not (is_some (lookup_record c (target spot))) };
+
+    fn dangles(&self, near: &NearRecords) -> bool {
+        match near.record(self.to) {
+            Some(_) => false,
+            None => true,
+        }
     }
-    Ok(())
 }

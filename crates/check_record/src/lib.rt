@@ -1,6 +1,7 @@
 //! The rules on a single record of a chart cell: its findings, and the read set that they depend on.
 #![tactic(auto)]
 
+mod asked;
 mod blocks;
 mod ends;
 mod line;

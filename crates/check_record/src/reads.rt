@@ -68,24 +68,8 @@ fn push_ends_of<B: Look, L: Ledger>(
     }
 }
 
-/// Appends the names that the ends of the edges name that keys ask for. Each key is looked up once.
-fn push_all_ends<B: Look, L: Ledger>(
-    keys: &mut Vec<Key>,
-    look: &B,
-    named: &[Key],
-    steps: &mut Steps<L>,
-) -> Result<(), AllocError>
-    ensures keys { OnOk result (keys.new.items ≡ keys.old.items ++ flat_map (ends_of_key (B.cell look.now)) named.now) }
-    ensures steps { steps.new ≤ steps.old + length named.now }
-{
-    for key in named {
-        push_ends_of(keys, look, *key, steps)?;
-    }
-    Ok(())
-}
-
-/// The names that the ends of an area's edges name, each once; of another feature none. There is room for as many keys as are named here
-/// and for `more`, where each edge has two ends.
+/// The names that the ends of an area's edges name, each once; of another feature none. Each key is looked up once. There is room for as
+/// many keys as are named here and for `more`, where each edge has two ends.
 fn boundary_keys<B: Look, L: Ledger>(
     alloc: Global,
     look: &B,
@@ -102,7 +86,9 @@ fn boundary_keys<B: Look, L: Ledger>(
     }
     let room = named.len().saturating_mul(2).saturating_add(more);
     let mut keys = Vec::with_capacity(alloc, room)?;
-    push_all_ends(&mut keys, look, named, steps)?;
+    for key in named {
+        push_ends_of(&mut keys, look, *key, steps)?;
+    }
     Ok(ascending_keys(keys))
 }
 

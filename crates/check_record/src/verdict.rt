@@ -10,8 +10,8 @@ ghost use Rattle.rule_spec.specs.Findings.{findings_of_subject};
 ghost use Rattle.rule_spec.specs.Reads.{read_set};
 ghost use Rattle.check_record.specs.RecordRow.{IsRecordRow};
 
+use crate::asked::Asked;
 use crate::reads::{feature_reads, vector_reads};
-use crate::vector::vector_findings;
 use cell_spec::{Findings, Key, Row, Subject, ascending_keys};
 use chain_topo::{Look, Steps};
 use check_feature::feature_findings;
@@ -19,14 +19,6 @@ use near_records::gather;
 use s57_types::{Feature, Items, Rec, RecName, Vector};
 use std::alloc::{AllocError, Global};
 use std::sync::ledger::Ledger;
-
-/// A name whose record is judged, and where it was looked up.
-#[derive(Drop)]
-struct Asked<'a, B: Look> {
-    alloc: Global,
-    look: &'a B,
-    name: RecName,
-}
 
 impl<'a, B: Look> Asked<'a, B> {
     /// The row of a vector record.
@@ -37,7 +29,7 @@ impl<'a, B: Look> Asked<'a, B> {
     {
         let reads = vector_reads(self.alloc, self.name, vector)?;
         let keys = reads.as_slice();
-        let findings = vector_findings(self.alloc, self.look, self.name, vector, keys, steps)?;
+        let findings = self.vector_findings(vector, keys, steps)?;
         Ok(Row {
             subject: Subject::Rec(self.name),
             findings: Items::of_vec(findings),

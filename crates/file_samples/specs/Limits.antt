@@ -15,7 +15,7 @@ use Rattle.file_spec.specs.DecodedCell.{record_behind, record_values}
 use Rattle.file_spec.specs.RecordReading.{record_type}
 use Rattle.file_spec.specs.declared.fault.RecordFault.TheVariants as faults
 use Rattle.file_spec.specs.declared.tag.RecordType.{RecordType}
-use Rattle.cell_make.specs.Parts.{head, name, node}
+use Rattle.cell_parts.specs.Parts.{head, name, node}
 use Rattle.file_samples.specs.SmallFiles.{vrid}
 
 -- a node of so many points

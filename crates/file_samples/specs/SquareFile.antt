@@ -7,7 +7,7 @@ use Rattle.file_spec.specs.FileRecords.{FileRecord, file_records}
 use Rattle.file_spec.specs.DescriptiveRecord.{descriptive_fields}
 use Rattle.file_spec.specs.EncodedCell.{encoded_cell, record_bytes}
 use Rattle.file_spec.specs.DecodedCell.{decoded_cell}
-use Rattle.cell_make.specs.Parts.{head, node}
+use Rattle.cell_parts.specs.Parts.{head, node}
 use Rattle.cell_make.specs.Square.{square}
 use Rattle.file_samples.specs.SquareBytes.{square_bytes, square_with, node_bytes, wide_node_bytes, zero_bytes, descriptive_bytes, general_bytes}
 use Rattle.file_samples.specs.SquareBytes.{geographic_bytes, no_counts}

@@ -1,72 +1,27 @@
 -- Good files of unusual form: records in any order, record identifiers anywhere, fields that join, fields without a row.
 use Rattle.std.specs.Prelude.{ℕ, List, [], ◌∷◌, pos, codes, Ok}
 use Rattle.s57_types.specs.declared.cell.Cell.{Cell}
-use Rattle.s57_types.specs.declared.head.Head.{Head}
 use Rattle.s57_types.specs.declared.name.Kind.{Kind}
-use Rattle.s57_types.specs.declared.name.Kind.TheVariants.{Vi, Vc, Ve, Fe}
+use Rattle.s57_types.specs.declared.name.Kind.TheVariants.{Vi, Vc, Ve}
 use Rattle.s57_types.specs.declared.record.Attr.{Attr}
 use Rattle.s57_types.specs.declared.record.Partner.{Partner}
 use Rattle.s57_types.specs.declared.record.Rec.{Rec}
 use Rattle.s57_types.specs.declared.record.Rec.TheVariants.{V, F}
 use Rattle.s57_types.specs.declared.record.Spot.{Spot}
 use Rattle.frame_spec.specs.RecordFrame.{Field}
-use Rattle.cell_make.specs.Parts.{name, end_at, outer}
+use Rattle.cell_parts.specs.Parts.{bare_feature, bare_head, name, end_at, outer}
 use Rattle.file_samples.specs.Fields.{attribute}
 use Rattle.file_samples.specs.SmallFiles.{AreDecoded, field, number, dsid, dssi, dspm, vrid, frid, foid, attributes, file, file_with, geographic}
 
--- the head of the small files
-abbrev pub small_head : Head
-small_head = record {
-  dsid_rcid = 1;
-  intu = 5;
-  dsnm = [];
-  edtn = [];
-  updn = [];
-  uadt = codes "20240101";
-  isdt = codes "20240101";
-  sted = codes "03.1";
-  prsp = 1;
-  psdn = [];
-  pred = [];
-  prof = 1;
-  agen = 1;
-  dsid_comt = [];
-  aall = 0;
-  nall = 0;
-  dspm_rcid = 1;
-  hdat = 2;
-  vdat = 23;
-  sdat = 23;
-  cscl = 10000;
-  duni = 1;
-  huni = 1;
-  puni = 1;
-  coun = 1;
-  comf = 10000000;
-  somf = 10;
-  dspm_comt = [];
-}
-
 abbrev pub small_cell : Cell
-small_cell = record { head = small_head; vi = []; vc = []; ve = []; fe = [] }
+small_cell = record { head = bare_head; vi = []; vc = []; ve = []; fe = [] }
 
 abbrev pub bare_vector : Kind → ℕ → Rec
 bare_vector kind n = V (record { name = name kind n; rver = 1; attrs = []; ends = []; plane = []; deep = [] })
 
 -- a feature without geometry, with its attributes, partners and places
-abbrev pub bare_feature : List Attr → List Attr → List Partner → List Spot → Rec
-bare_feature attf natf partners places = F (record {
-  name = name Fe 1;
-  prim = 255;
-  grup = 2;
-  objl = 42;
-  rver = 1;
-  foid = record { agen = 1; fidn = 1; fids = 1 };
-  attf = attf;
-  natf = natf;
-  partners = partners;
-  places = places;
-})
+abbrev pub plain_feature : List Attr → List Attr → List Partner → List Spot → Rec
+plain_feature attf natf partners places = F (record (bare_feature 1 255 2 42) { attf = attf; natf = natf; partners = partners; places = places })
 
 -- points, soundings and pointers of one row each
 abbrev pub point : ℕ → Field
@@ -96,8 +51,7 @@ RecordsMayMix = AreDecoded (
         vi = bare_vector Vi 1 ∷ [];
         vc = bare_vector Vc 9 ∷ bare_vector Vc 1 ∷ [];
         ve = bare_vector Ve 1 ∷ [];
-        fe =
-            bare_feature [] [] [] [] ∷ [];
+        fe = plain_feature [] [] [] [] ∷ [];
       }),
     ) ∷ [])
 
@@ -107,7 +61,7 @@ FieldsMayMix = AreDecoded (
     (file ((number ∷ dsid 1 ∷ number ∷ dssi 2 0 ∷ []) ∷ (dspm ∷ number ∷ []) ∷ []), Ok small_cell) ∷
     (file ((field (codes "0001") (31 ∷ []) ∷ field (codes "0001") (30 ∷ 30 ∷ []) ∷ dsid 1 ∷ dssi 2 0 ∷ []) ∷ geographic ∷ []), Ok small_cell) ∷ (
       file_with ((number ∷ frid 1 1 ∷ spatial_pointer 5 1 ∷ attributes (codes "NATF") 65 ∷ attributes (codes "ATTF") 66 ∷ number ∷ foid ∷ []) ∷ []),
-      Ok (record small_cell { fe = bare_feature (attribute 1 (66 ∷ []) ∷ []) (attribute 1 (65 ∷ []) ∷ []) [] (outer 5 1 ∷ []) ∷ [] }),
+      Ok (record small_cell { fe = plain_feature (attribute 1 (66 ∷ []) ∷ []) (attribute 1 (65 ∷ []) ∷ []) [] (outer 5 1 ∷ []) ∷ [] }),
     ) ∷ [])
 
 -- repeated coordinates and pointers join in order; a field without a row is as if left out
@@ -127,5 +81,5 @@ FieldsJoin = AreDecoded ((
 ) ∷ (
   file_with ((frid 1 1 ∷ foid ∷ spatial_pointer 2 2 ∷ feature_pointer 9 ∷ field (codes "ATTF")
       (30 ∷ []) ∷ spatial_pointer 1 1 ∷ feature_pointer 8 ∷ field (codes "NATF") (30 ∷ []) ∷ []) ∷ []),
-  Ok (record small_cell { fe = bare_feature [] [] (partner 9 ∷ partner 8 ∷ []) (outer 2 2 ∷ outer 1 1 ∷ []) ∷ [] }),
+  Ok (record small_cell { fe = plain_feature [] [] (partner 9 ∷ partner 8 ∷ []) (outer 2 2 ∷ outer 1 1 ∷ []) ∷ [] }),
 ) ∷ [])

@@ -15,7 +15,7 @@ use Rattle.cell_spec.specs.Names.{is_of_kind, same_name}
 use Rattle.cell_spec.specs.Writable.{IsWritable, record_limit}
 use Rattle.file_samples.specs.Fields.{attribute}
 use Rattle.file_samples.specs.Limits.{crowd, points}
-use Rattle.cell_make.specs.Parts.{head, name, node, end_at, edge, area}
+use Rattle.cell_parts.specs.Parts.{head, name, node, end_at, edge, area}
 use Rattle.cell_make.specs.Square.{square}
 use Rattle.file_samples.specs.SquareFile.{no_records}
 use Rattle.file_samples.specs.WrittenFiles.{full_cell}

@@ -1,7 +1,7 @@
 -- What is written: control bytes by lexical level, counts by object class, record numbers, and a cell with every field.
 use Rattle.std.specs.Prelude.{◌≡◌, ℕ, List, [], ◌∷◌, ◌++◌, map, take, drop, negsuc, pos, codes, Ok}
 use Rattle.s57_types.specs.declared.cell.Cell.{Cell}
-use Rattle.s57_types.specs.declared.name.Kind.TheVariants.{Vi, Fe}
+use Rattle.s57_types.specs.declared.name.Kind.TheVariants.{Vi}
 use Rattle.s57_types.specs.declared.record.Rec.{Rec}
 use Rattle.s57_types.specs.declared.record.Rec.TheVariants.{V, F}
 use Rattle.frame_spec.specs.RecordFrame.{Field}
@@ -9,7 +9,7 @@ use Rattle.file_spec.specs.DescriptiveRecord.{descriptive_fields}
 use Rattle.file_spec.specs.EncodedCell.{encoded_cell, record_counts, record_bytes}
 use Rattle.file_spec.specs.DecodedCell.{decoded_cell}
 use Rattle.file_samples.specs.Fields.{attribute, wide_attribute, wide_attribute_bytes, soundings, soundings_bytes, partners, partners_bytes}
-use Rattle.cell_make.specs.Parts.{head, name, node, area, outer, end_at}
+use Rattle.cell_parts.specs.Parts.{bare_feature, head, name, node, area, outer, end_at}
 
 -- the controls of ATTF and NATF, the eighth and the ninth description, at the levels AALL and NALL
 abbrev pub attribute_controls : ℕ → ℕ → List (List ℕ)
@@ -66,12 +66,7 @@ full_vector_bytes =
     ++ soundings_bytes
 
 abbrev pub full_feature : Rec
-full_feature = F (record {
-  name = name Fe 16909060;
-  prim = 255;
-  grup = 2;
-  objl = 772;
-  rver = 1;
+full_feature = F (record (bare_feature 16909060 255 2 772) {
   foid = record { agen = 513; fidn = 67305985; fids = 1029 };
   attf = attribute 1 [] ∷ attribute 2 (codes "x") ∷ [];
   natf = wide_attribute ∷ [];

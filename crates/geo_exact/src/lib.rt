@@ -10,4 +10,4 @@ pub use area::twice_area_step;
 pub use contact::{meeting, on_segment};
 pub use geometry_spec::{Box4, MeetCase, Point, TileRange};
 pub use side::orient;
-pub use tiling::{box_of, tiles_of};
+pub use tiling::{are_disjoint, box_of, tiles_of};

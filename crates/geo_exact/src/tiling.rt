@@ -35,8 +35,8 @@ fn share_no_longitude(a: Box4, b: Box4) -> bool
     a.east < b.west || b.east < a.west
 }
 
-/// Whether two boxes have no point in common.
-pub(crate) fn are_disjoint(a: Box4, b: Box4) -> bool
+/// Whether two boxes have no point in common. Boxes that share an edge or a corner have one.
+pub fn are_disjoint(a: Box4, b: Box4) -> bool
     ensures { result ≡ are_boxes_disjoint a b }
 {
     share_no_latitude(a, b) || share_no_longitude(a, b)

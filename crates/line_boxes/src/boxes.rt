@@ -1,31 +1,11 @@
-//! Boxes of segments, and whether two boxes have a point in common.
+//! Boxes of segments.
 
 ghost use Rattle.std.specs.Prelude.{◌≡◌};
-ghost use Rattle.geometry_spec.specs.Boxes.{are_disjoint as spec_are_disjoint, are_disjoint_ranges};
 ghost use Rattle.line_boxes.specs.LineBoxes.{box_of_segment as spec_box_of_segment, box_with, line_box, united as spec_united};
 
 use check_words::Numbered;
 use geo_exact::box_of;
 use geometry_spec::Box4;
-
-fn share_no_latitude(a: Box4, b: Box4) -> bool
-    ensures { result ≡ are_disjoint_ranges a.south a.north b.south b.north }
-{
-    a.north < b.south || b.north < a.south
-}
-
-fn share_no_longitude(a: Box4, b: Box4) -> bool
-    ensures { result ≡ are_disjoint_ranges a.west a.east b.west b.east }
-{
-    a.east < b.west || b.east < a.west
-}
-
-/// Whether two boxes have no point in common. Boxes that share an edge or a corner have one.
-pub fn are_disjoint(a: Box4, b: Box4) -> bool
-    ensures { result ≡ spec_are_disjoint a b }
-{
-    share_no_latitude(a, b) || share_no_longitude(a, b)
-}
 
 /// The least box that holds two boxes.
 pub fn united(a: Box4, b: Box4) -> Box4

@@ -6,4 +6,5 @@
 
 mod boxes;
 
-pub use boxes::{are_disjoint, box_of_line, box_of_segment, united};
+pub use boxes::{box_of_line, box_of_segment, united};
+pub use geo_exact::are_disjoint;

@@ -11,14 +11,15 @@ ghost use Rattle.picture_places.specs.Strokes.{dot_at, drawn_points, stroke_of a
 
 use crate::label::{anchor_of, half_way};
 use crate::page::{PagePoint, page_point};
-use crate::place::{is_at_place, is_contact, place_of, pointer_at};
+use crate::place::{is_at_place, is_contact, pointer_at};
+use crate::view::View;
 use cell_spec::{Finding, Subject};
-use chain_topo::{ListLook, Look, Steps, edge_points};
+use chain_topo::{Look, Steps, edge_points};
 use check_words::is_edge_name;
 use geometry_spec::{Box4, Point};
 use rule_spec::{SELF_MEET, STACKED};
 use s57_types::{Rec, RecName, Spot, Vector};
-use std::alloc::{AllocError, Global};
+use std::alloc::AllocError;
 use std::sync::ledger::Ledger;
 
 /// Where a mark is held, if it is anywhere, or out of memory.
@@ -108,14 +109,6 @@ fn whole_of(subject: Subject, finding: Finding) -> Option<RecName>
         }
         Subject::Ident(_) => None,
     }
-}
-
-/// What marks are on: the part of a cell that lies in a box.
-#[derive(Drop)]
-struct View<'a, 'b> {
-    alloc: Global,
-    look: &'a ListLook<'b>,
-    around: Box4,
 }
 
 impl<'a, 'b> View<'a, 'b> {
@@ -217,33 +210,26 @@ impl<'a, 'b> View<'a, 'b> {
                 return self.at_place(name, finding.nums[0], steps);
             }
         }
-        let strokes = place_of(self.alloc, self.look, self.around, subject, finding, steps)?;
+        let strokes = self.place_of(subject, finding, steps)?;
         Ok(anchor_of(strokes.as_slice()))
     }
-}
 
-/// Where the mark of a finding on a subject is held, if it is anywhere. `held` is the record at which the last one was held that was about
-/// one as a whole: findings on one record follow each other.
-pub fn mark_anchor<L: Ledger>(
-    alloc: Global,
-    look: &ListLook,
-    around: Box4,
-    subject: Subject,
-    finding: Finding,
-    held: &mut Option<Held>,
-    steps: &mut Steps<L>,
-) -> Result<Option<PagePoint>, AllocError>
-    requires { IsHeld look.now around held.old }
-    ensures at { IfOk result (λ at. at ≡ spec_anchor_of (place_about look.now around subject finding)) }
-    ensures held { IsHeld look.now around held.new }
-{
-    let view = View {
-        alloc,
-        look,
-        around,
-    };
-    match whole_of(subject, finding) {
-        Some(name) => view.held(name, held, steps),
-        None => view.part(subject, finding, steps),
+    /// Where the mark of a finding on a subject is held, if it is anywhere. `held` is the record at which the last one was held that was about
+    /// one as a whole: findings on one record follow each other.
+    pub fn mark_anchor<L: Ledger>(
+        &self,
+        subject: Subject,
+        finding: Finding,
+        held: &mut Option<Held>,
+        steps: &mut Steps<L>,
+    ) -> Result<Option<PagePoint>, AllocError>
+        requires { IsHeld self.now.look.now self.now.around held.old }
+        ensures at { IfOk result (λ at. at ≡ spec_anchor_of (place_about self.now.look.now self.now.around subject finding)) }
+        ensures held { IsHeld self.now.look.now self.now.around held.new }
+    {
+        match whole_of(subject, finding) {
+            Some(name) => self.held(name, held, steps),
+            None => self.part(subject, finding, steps),
+        }
     }
 }

@@ -21,7 +21,7 @@ pub const COLUMNS: u32 = 27;
 pub const ROWS: u32 = 40;
 
 /// How many fields there are.
-pub const FIELDS: u32 = 1_080;
+pub const FIELDS: u32 = COLUMNS * ROWS;
 
 fn half_of_sum(a: u32, b: u32) -> u32
     ensures { result ≡ (a + b) / 2 }

@@ -10,12 +10,12 @@ mod meet;
 mod page;
 mod place;
 mod stroke;
+mod view;
 
-pub use area::area_strokes_of;
 pub use extent::extent_of;
-pub use hold::{Held, mark_anchor};
+pub use hold::Held;
 pub use label::{anchor_of, field_of, free_field, label_point};
 pub use law::north_is_up;
 pub use page::{PAGE_LEFT, PAGE_WIDTH, PagePoint};
-pub use place::place_of;
-pub use stroke::{Stroke, Strokes, vector_strokes_of};
+pub use stroke::{Stroke, Strokes};
+pub use view::View;

@@ -48,18 +48,28 @@ arc_of row = (row.line.begins, row.line.ends)
 abbrev pub loops_of : List BoundaryRow → List (List BoundaryRow)
 loops_of rows = blocks_of (loop_lengths (map arc_of rows)) rows
 
--- usage 2 is interior
-abbrev pub is_interior_row : BoundaryRow → Bool
-is_interior_row row = row.usag == 2
+-- whether all things of a loop have the usage 2, which is interior; whether none has; and whether some have, and not all
+abbrev pub all_interior : {X : Type 0} → (X → ℕ) → List X → Bool
+all_interior {X} usage loop = list_all (λ (x : X). usage x == 2) loop
+
+abbrev pub none_interior : {X : Type 0} → (X → ℕ) → List X → Bool
+none_interior {X} usage loop = not (list_any (λ (x : X). usage x == 2) loop)
+
+abbrev pub partly_interior : {X : Type 0} → (X → ℕ) → List X → Bool
+partly_interior usage loop = not (all_interior usage loop) && not (none_interior usage loop)
+
+-- the same of the rows of a loop
+abbrev pub usage_of_row : BoundaryRow → ℕ
+usage_of_row row = row.usag
 
 abbrev pub is_interior : List BoundaryRow → Bool
-is_interior loop = list_all is_interior_row loop
+is_interior loop = all_interior usage_of_row loop
 
 abbrev pub is_exterior : List BoundaryRow → Bool
-is_exterior loop = not (list_any is_interior_row loop)
+is_exterior loop = none_interior usage_of_row loop
 
 abbrev pub is_mixed : List BoundaryRow → Bool
-is_mixed loop = not (is_interior loop) && not (is_exterior loop)
+is_mixed loop = partly_interior usage_of_row loop
 
 -- twice the area that a loop goes round, negative where it goes clockwise; a point that stands twice in a row adds nothing
 abbrev pub turn_of_loop : List BoundaryRow → ℤ

@@ -13,18 +13,19 @@ use Rattle.s57_types.specs.declared.record.Rec.{Rec}
 use Rattle.s57_types.specs.declared.record.Rec.TheVariants.{V, F}
 use Rattle.s57_types.specs.declared.record.Spot.{Spot}
 use Rattle.geometry_spec.specs.Points.{Point}
+use Rattle.cell_parts.specs.Parts.{bare_feature, bare_head, name}
 
 abbrev pub vi : ℕ → RecName
-vi n = record { kind = Vi; id = n }
+vi n = name Vi n
 
 abbrev pub vc : ℕ → RecName
-vc n = record { kind = Vc; id = n }
+vc n = name Vc n
 
 abbrev pub ve : ℕ → RecName
-ve n = record { kind = Ve; id = n }
+ve n = name Ve n
 
 abbrev pub fe : ℕ → RecName
-fe n = record { kind = Fe; id = n }
+fe n = name Fe n
 
 abbrev pub lnam : ℕ → Lnam
 lnam n = record { agen = 1; fidn = n; fids = 1 }
@@ -60,29 +61,15 @@ abbrev pub partner : ℕ → Partner
 partner n = record { to = lnam n; rind = 2; comt = [] }
 
 abbrev pub feature : ℕ → ℕ → ℕ → ℕ → List Attr → List Spot → Rec
-feature n prim grup objl attf places =
-    F (record { name = fe n; prim = prim; grup = grup; objl = objl; rver = 1; foid = lnam n; attf = attf; natf = []; partners = []; places = places })
+feature n prim grup objl attf places = F (record (bare_feature n prim grup objl) { attf = attf; places = places })
 
 -- a feature without geometry that has partners
 abbrev pub partnered : ℕ → List ℕ → Rec
-partnered n partners =
-    F (record { name = fe n; prim = 255; grup = 2; objl = 400; rver = 1; foid = lnam n; attf = []; natf = []; partners = map partner partners; places = [] })
+partnered n partners = F (record (bare_feature n 255 2 400) { partners = map partner partners })
 
 -- a feature without geometry that bears another's identifier
 abbrev pub named_alike : ℕ → ℕ → Rec
-named_alike n other = F (record {
-  name = fe n;
-  prim = 255;
-  grup = 2;
-  objl = 400;
-  rver = 1;
-  foid = lnam other;
-  attf = [];
-  natf =
-      [];
-  partners = [];
-  places = [];
-})
+named_alike n other = F (record (bare_feature n 255 2 400) { foid = lnam other })
 
 -- a depth area of Group 1
 abbrev pub depth_area : ℕ → List Spot → Rec
@@ -101,36 +88,7 @@ abbrev pub objnam : List ℕ → Attr
 objnam bytes = record { code = 116; value = bytes }
 
 abbrev pub head : Head
-head = record {
-  dsid_rcid = 1;
-  intu = 5;
-  dsnm = [];
-  edtn = [];
-  updn = [];
-  uadt = replicate 8 48;
-  isdt = replicate 8 48;
-  sted = replicate 4 48;
-  prsp = 1;
-  psdn = [];
-  pred = [];
-  prof = 1;
-  agen = 1;
-  dsid_comt = [];
-  aall = 0;
-  nall = 0;
-  dspm_rcid = 1;
-  hdat = 2;
-  vdat = 23;
-  sdat = 23;
-  cscl = 10000;
-  duni = 1;
-  huni = 1;
-  puni = 1;
-  coun = 1;
-  comf = 10000000;
-  somf = 10;
-  dspm_comt = [];
-}
+head = record bare_head { uadt = replicate 8 48; isdt = replicate 8 48; sted = replicate 4 48 }
 
 -- the values of that head with a level of texts
 abbrev pub head_values : Level → HeadEdit

@@ -9,6 +9,7 @@ use crate::area::AreaSort;
 use crate::balance::unbalanced_sides;
 use crate::law::{balanced_sides_equal_winding, winding_sum_by_edges};
 use crate::sheet::{ProbeSheet, probe_sort};
+use crate::winding::Probe;
 use cell_bench::Bench;
 use chain_topo::Steps;
 use geo_exact::Point;
@@ -38,8 +39,14 @@ fn sheet_at<L: Ledger>(
     bench.known();
     winding_sum_by_edges();
     balanced_sides_equal_winding();
-    let group1 = probe_sort(alloc, bench, AreaSort::Group1, at, steps)?;
-    let cover = probe_sort(alloc, bench, AreaSort::Coverage, at, steps)?;
+    let store = bench.store();
+    let probe = Probe {
+        alloc,
+        look: store,
+        at,
+    };
+    let group1 = probe_sort(&probe, AreaSort::Group1, steps)?;
+    let cover = probe_sort(&probe, AreaSort::Coverage, steps)?;
     let unbalanced = unbalanced_of(bench);
     Ok(ProbeSheet {
         group1: group1.rounds,

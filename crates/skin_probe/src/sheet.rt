@@ -7,10 +7,8 @@ ghost use Rattle.skin_probe.specs.Totals.{winding_total};
 ghost use Rattle.skin_probe.specs.Winding.{sum_of};
 
 use crate::area::{AreaSort, areas_of};
-use crate::winding::{area_winding, plus};
-use cell_bench::Bench;
+use crate::winding::{Probe, plus};
 use chain_topo::Steps;
-use geo_exact::Point;
 use record_store::RecordStore;
 use s57_types::{Feature, Items};
 use std::alloc::{AllocError, Global};
@@ -41,31 +39,27 @@ pub(crate) struct SortWinds {
 
 /// An area with its winding number.
 fn wind_at<L: Ledger>(
-    alloc: Global,
-    store: &RecordStore,
+    probe: &Probe<'_, RecordStore>,
     area: &Feature,
-    at: Point,
     steps: &mut Steps<L>,
 ) -> Result<(u32, i64), AllocError>
-    ensures { IfOk result (λ wind. wind ≡ wind_of store.now at area.now) }
+    ensures { IfOk result (λ wind. wind ≡ wind_of probe.now.look.now probe.now.at area.now) }
 {
-    let winding = area_winding(alloc, store, area, at, steps)?;
+    let winding = probe.area(area, steps)?;
     Ok((area.name.id, winding))
 }
 
 /// Each of some areas with its winding number.
 fn winds_of<L: Ledger>(
-    alloc: Global,
-    store: &RecordStore,
+    probe: &Probe<'_, RecordStore>,
     areas: &[&Feature],
-    at: Point,
     steps: &mut Steps<L>,
 ) -> Result<Vec<(u32, i64)>, AllocError>
-    ensures { IfOk result (λ winds. winds.items ≡ map (wind_of store.now at) (map (λ f. f.now) areas.now)) }
+    ensures { IfOk result (λ winds. winds.items ≡ map (wind_of probe.now.look.now probe.now.at) (map (λ f. f.now) areas.now)) }
 {
-    let mut winds = Vec::new(alloc);
+    let mut winds = Vec::new(probe.alloc);
     for area in areas {
-        winds.push(wind_at(alloc, store, area, at, steps)?)?;
+        winds.push(wind_at(probe, area, steps)?)?;
     }
     Ok(winds)
 }
@@ -95,21 +89,18 @@ fn going_round(alloc: Global, winds: &[(u32, i64)]) -> Result<Winds, AllocError>
 
 /// The areas of a sort that go round a point, and the sum of the winding numbers of all of them.
 pub(crate) fn probe_sort<L: Ledger>(
-    alloc: Global,
-    bench: &Bench,
+    probe: &Probe<'_, RecordStore>,
     sort: AreaSort,
-    at: Point,
     steps: &mut Steps<L>,
 ) -> Result<SortWinds, AllocError>
-    ensures rounds { IfOk result (λ winds. winds.rounds ≡ winds_round (is_of_sort sort) bench.now at) }
-    ensures total { IfOk result (λ winds. winds.total ≡ winding_total (is_of_sort sort) bench.now at) }
+    ensures rounds { IfOk result (λ winds. winds.rounds ≡ winds_round (is_of_sort sort) probe.now.look.now probe.now.at) }
+    ensures total { IfOk result (λ winds. winds.total ≡ winding_total (is_of_sort sort) probe.now.look.now probe.now.at) }
 {
-    let store = bench.store();
-    let areas = areas_of(alloc, store, sort)?;
+    let areas = areas_of(probe.alloc, probe.look, sort)?;
     let areas = areas.as_slice();
-    let winds = winds_of(alloc, store, areas, at, steps)?;
+    let winds = winds_of(probe, areas, steps)?;
     let winds = winds.as_slice();
     let total = total_of(winds)?;
-    let rounds = going_round(alloc, winds)?;
+    let rounds = going_round(probe.alloc, winds)?;
     Ok(SortWinds { rounds, total })
 }

@@ -64,72 +64,62 @@ fn winding_along(alloc: Global, at: Point, ornt: u8, points: &[Point]) -> Result
     }
 }
 
-/// What a spatial pointer adds: nothing where it names no edge with points.
-fn pointer_winding<B: Look, L: Ledger>(
-    alloc: Global,
-    look: &B,
-    at: Point,
-    spot: &Spot,
-    steps: &mut Steps<L>,
-) -> Result<i64, AllocError>
-    ensures { IfOk result (λ winding. winding ≡ winding_of_pointer (B.cell look.now) at spot.now) }
-{
-    match edge_points(alloc, look, spot.to, steps)? {
-        Some(points) => winding_along(alloc, at, spot.ornt, points.as_slice()),
-        None => Ok(0),
+/// A point, latitude first, in integer coordinate units, and the cell whose areas may go round it.
+#[derive(Drop)]
+pub struct Probe<'a, B: Look> {
+    pub alloc: Global,
+    pub look: &'a B,
+    pub at: Point,
+}
+
+impl<'a, B: Look> Probe<'a, B> {
+    /// What a spatial pointer adds: nothing where it names no edge with points.
+    fn pointer<L: Ledger>(&self, spot: &Spot, steps: &mut Steps<L>) -> Result<i64, AllocError>
+        ensures { IfOk result (λ winding. winding ≡ winding_of_pointer (B.cell self.now.look.now) self.now.at spot.now) }
+    {
+        match edge_points(self.alloc, self.look, spot.to, steps)? {
+            Some(points) => winding_along(self.alloc, self.at, spot.ornt, points.as_slice()),
+            None => Ok(0),
+        }
     }
-}
 
-/// What spatial pointers add up to.
-fn pointers_winding<B: Look, L: Ledger>(
-    alloc: Global,
-    look: &B,
-    at: Point,
-    spots: &[Spot],
-    steps: &mut Steps<L>,
-) -> Result<i64, AllocError>
-    ensures { IfOk result (λ winding. winding ≡ sum_of (winding_of_pointer (B.cell look.now) at) spots.now) }
-{
-    let mut winding = 0;
-    for spot in spots {
-        let more = pointer_winding(alloc, look, at, spot, steps)?;
-        winding = plus(winding, more)?;
+    /// What spatial pointers add up to.
+    fn pointers<L: Ledger>(&self, spots: &[Spot], steps: &mut Steps<L>) -> Result<i64, AllocError>
+        ensures { IfOk result (λ winding. winding ≡ sum_of (winding_of_pointer (B.cell self.now.look.now) self.now.at) spots.now) }
+    {
+        let mut winding = 0;
+        for spot in spots {
+            let more = self.pointer(spot, steps)?;
+            winding = plus(winding, more)?;
+        }
+        Ok(winding)
     }
-    Ok(winding)
-}
 
-/// The winding number of an area.
-pub(crate) fn area_winding<B: Look, L: Ledger>(
-    alloc: Global,
-    look: &B,
-    area: &Feature,
-    at: Point,
-    steps: &mut Steps<L>,
-) -> Result<i64, AllocError>
-    ensures { IfOk result (λ winding. winding ≡ winding_number (B.cell look.now) at area.now) }
-{
-    pointers_winding(alloc, look, at, area.places.as_slice(), steps)
-}
+    /// The winding number of an area.
+    pub(crate) fn area<L: Ledger>(
+        &self,
+        area: &Feature,
+        steps: &mut Steps<L>,
+    ) -> Result<i64, AllocError>
+        ensures { IfOk result (λ winding. winding ≡ winding_number (B.cell self.now.look.now) self.now.at area.now) }
+    {
+        self.pointers(area.places.as_slice(), steps)
+    }
 
-/// The winding number of an area round a point, its latitude `y` and its longitude `x` in integer coordinate units: how often the area's
-/// boundary goes round the point clockwise. It is counted by the crossings of the ray that runs from the point to the east, exactly:
-/// downwards 1, upwards -1; a segment has its lower end and not its upper one, and crosses only strictly east of the point. Edges are taken
-/// as the spatial pointers (FSPT, S-57 Part 3, 7.6.8) go along them, and an edge without points adds nothing.
-///
-/// An `Err` means out of memory.
-pub fn wind<B: Look, L: Ledger>(
-    alloc: Global,
-    look: &B,
-    area: RecName,
-    y: i32,
-    x: i32,
-    steps: &mut Steps<L>,
-) -> Result<i64, AllocError>
-    requires { is_some (feature_named (B.cell look.now) area) ≡ true }
-    ensures { IfOk result (λ winding. winding ≡ option_map_or (winding_number (B.cell look.now) (y, x)) (feature_named (B.cell look.now) area) (pos 0)) }
-{
-    match look.get(area, steps) {
-        Some(Rec::F(feature)) => area_winding(alloc, look, feature, (y, x), steps),
-        _ => Ok(0),
+    /// The winding number of the area of a name round the point: how often the area's boundary goes round the point clockwise. It is
+    /// counted by the crossings of the ray that runs from the point to the east, exactly: downwards 1, upwards -1; a segment has its lower
+    /// end and not its upper one, and crosses only strictly east of the point. Edges are taken as the spatial pointers (FSPT, S-57 Part 3,
+    /// 7.6.8) go along them, and an edge without points adds nothing.
+    ///
+    /// An `Err` means out of memory.
+    pub fn wind<L: Ledger>(&self, area: RecName, steps: &mut Steps<L>) -> Result<i64, AllocError>
+        requires { is_some (feature_named (B.cell self.now.look.now) area) ≡ true }
+        ensures { IfOk result (λ winding. winding ≡ option_map_or (winding_number (B.cell self.now.look.now) self.now.at)
+            (feature_named (B.cell self.now.look.now) area) (pos 0)) }
+    {
+        match self.look.get(area, steps) {
+            Some(Rec::F(feature)) => self.area(feature, steps),
+            _ => Ok(0),
+        }
     }
 }

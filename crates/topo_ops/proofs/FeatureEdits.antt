@@ -1,9 +1,7 @@
 -- The edits of features that point to some names.
-use Rattle.std.proofs.Common.{◌≡◌, ℕ, Bool, true, false, ◌||◌, List, [], ◌∷◌, ◌++◌, Option, None, Some, cond, get_or, length, map, is_some, take, ◌+◌, ◌<◌}
+use Rattle.std.proofs.Common.{◌≡◌, Bool, true, false, ◌||◌, List, [], ◌∷◌, Option, None, Some, cond, map, is_some}
 use Rattle.std.proofs.Common.{refl, sym, ap, ◌∙◌}
-use Rattle.std.specs.Prelude.{filter_map, flat_map, option_map, option_to_list}
-use Rattle.std.proofs.lemmas.List.{take_more}
-use Rattle.std.proofs.lemmas.List.Elements.{filter_map-append}
+use Rattle.std.specs.Prelude.{filter_map, flat_map, option_map}
 use Rattle.std.specs.List.{cons_option, list_all, list_any}
 use Rattle.std.proofs.lemmas.Bool.{and_from, both_ways as contradiction, false_from_ne_true}
 use Rattle.s57_types.specs.declared.name.RecName.{RecName}
@@ -122,14 +120,3 @@ unfolding features_at
 feature_there c targets n f named points =
     let hit = passing (λ m. same_name m n) (names_pointing c targets) points in
     among_mapped (feature_named c) hit.item f (names_pointing c targets) hit.among (ap (feature_named c) (one_when_same hit.item n hit.passes) ∙ named)
-
--- what one name more gives
-one_found : {Y : Type 0} (o : Option Y) → cons_option o [] ≡ option_to_list o
-one_found None = refl
-one_found (Some y) = refl
-
-pub found_more : {X Y : Type 0} (h : X → Option Y) (xs : List X) (i : ℕ) (d : X) → i < length xs
-    → filter_map h (take (i + 1) xs) ≡ filter_map h (take i xs) ++ option_to_list (h (get_or xs i d))
-found_more h xs i d within =
-    ap (filter_map h) (take_more xs i d within) ∙ filter_map-append h (take i xs) (get_or xs i d ∷ [])
-    ∙ ap (λ l. filter_map h (take i xs) ++ l) (one_found (h (get_or xs i d)))

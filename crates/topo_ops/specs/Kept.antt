@@ -1,8 +1,9 @@
 -- What splitting and joining edges keep: where features run, and how often areas use the sides of edges (S-57 Appendix B.1, 3.10.1). This
 -- project's own rules.
-use Rattle.std.specs.Prelude.{◌≡◌, ℕ, true, false, [], None}
+use Rattle.std.specs.Prelude.{◌≡◌, ℕ, true, false, List, [], Option, None}
 use Rattle.s57_types.specs.declared.name.RecName.{RecName}
 use Rattle.s57_types.specs.declared.cell.Cell.{Cell}
+use Rattle.cell_spec.specs.declared.edit.Edit.{Edit}
 use Rattle.cell_spec.specs.Edits.{apply_edits, find_their_records}
 use Rattle.cell_spec.specs.Names.{same_name}
 use Rattle.edit_sets.specs.FormFault.{GuardedEdits}
@@ -13,6 +14,7 @@ use Rattle.topo_ops.specs.Join.{join_edits, join_refusal}
 use Rattle.topo_ops.specs.Split.{split_edits, split_refusal}
 use Rattle.topo_ops.specs.declared.operation.EdgeJoin.{EdgeJoin}
 use Rattle.topo_ops.specs.declared.operation.EdgeSplit.{EdgeSplit}
+use Rattle.topo_ops.specs.declared.refusal.OpRefusal.{OpRefusal}
 
 -- how often Group 1 areas and coverage areas use an edge forward and in reverse
 abbrev pub counts_of : Cell → RecName → EdgeSideCounts
@@ -35,20 +37,19 @@ pub record JoinKeeps (c d : Cell) (j : EdgeJoin) : Type 0 where
   pub first : counts_of d j.edge ≡ counts_of c j.edge
   pub second : counts_of d j.edge ≡ counts_of c j.other
 
--- the edit set of a split that nothing refuses: its edits find their records, and the edited cell keeps what a split keeps
-pub record IsSplit (nall : ℕ) (c : Cell) (s : EdgeSplit) (set : GuardedEdits) : Type 0 where
-  pub not_refused : split_refusal nall c s ≡ None
-  pub edits_are : set.edits ≡ split_edits c s
+-- the edit set of an operation that nothing refuses: its edits find their records, and the edited cell keeps what the operation keeps
+pub record IsDone (nall : ℕ) (c : Cell) (refusal : Option OpRefusal) (edits : List Edit) (Keeps : Cell → Type 0) (set : GuardedEdits) : Type 0 where
+  pub not_refused : refusal ≡ None
+  pub edits_are : set.edits ≡ edits
   pub guards_are : set.guards ≡ []
   pub nall_is : set.nall ≡ nall
   pub found : find_their_records set.edits c ≡ true
-  pub kept : SplitKeeps c (apply_edits set.edits c) s
+  pub kept : Keeps (apply_edits set.edits c)
 
--- the same for a join
-pub record IsJoin (nall : ℕ) (c : Cell) (j : EdgeJoin) (set : GuardedEdits) : Type 0 where
-  pub not_refused : join_refusal nall c j ≡ None
-  pub edits_are : set.edits ≡ join_edits c j
-  pub guards_are : set.guards ≡ []
-  pub nall_is : set.nall ≡ nall
-  pub found : find_their_records set.edits c ≡ true
-  pub kept : JoinKeeps c (apply_edits set.edits c) j
+-- that of a split
+abbrev pub IsSplit : ℕ → Cell → EdgeSplit → GuardedEdits → Type 0
+IsSplit nall c s = IsDone nall c (split_refusal nall c s) (split_edits c s) (λ d. SplitKeeps c d s)
+
+-- and of a join
+abbrev pub IsJoin : ℕ → Cell → EdgeJoin → GuardedEdits → Type 0
+IsJoin nall c j = IsDone nall c (join_refusal nall c j) (join_edits c j) (λ d. JoinKeeps c d j)

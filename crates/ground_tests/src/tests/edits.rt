@@ -60,19 +60,6 @@ fn fault(alloc: Global, edits: &[Edit], guards: &[RecName]) -> Option<FormFault>
     }
 }
 
-/// A copy of a set, which the set does not outlive.
-fn twin_of(
-    alloc: Global,
-    edits: &[Edit],
-    guards: &[RecName],
-    nall: u8,
-) -> Result<EditSet, FormRefusal>
-    requires edits_are_counted { length edits.now < 2 ^ 32 }
-    requires guards_are_counted { length guards.now < 2 ^ 32 }
-{
-    Ok(EditSet::make(alloc, edits, guards, nall)?.copy(alloc)?)
-}
-
 /// The name of the edit that a set finds by a name, and whether it leaves a record.
 fn found(set: &EditSet, name: RecName) -> Option<(RecName, bool)> {
     let edit = set.find(name)?;
@@ -100,7 +87,8 @@ fn check_found(rt: &impl Abort, set: &EditSet, edits: &[Edit]) {
 #[test]
 fn a_set_has_its_edits_and_finds_them_by_name(rt: HostRuntime) -> Result<(), Fail> {
     let edits = four_edits(rt.alloc());
-    let twin = twin_of(rt.alloc(), &edits, &[], 2)?;
+    // (the copy outlives the set)
+    let twin = EditSet::make(rt.alloc(), &edits, &[], 2)?.copy(rt.alloc())?;
     assert_eq!(rt; (twin.nall(), twin.edits().len()), (2, 4));
     check_found(&rt, &twin, &edits);
     assert_eq!(rt;
@@ -124,7 +112,7 @@ fn check_guards(rt: &impl Abort, twin: &EditSet, guards: [RecName; 4]) {
 fn guards_stand_beside_the_edits(rt: HostRuntime) -> Result<(), Fail> {
     let edits = [Edit::Del(name(7)), Edit::Del(name(3))];
     let guards = [RecName::of_head(), name(5), name(3), name(5)];
-    let twin = twin_of(rt.alloc(), &edits, &guards, 0)?;
+    let twin = EditSet::make(rt.alloc(), &edits, &guards, 0)?.copy(rt.alloc())?;
     check_guards(&rt, &twin, guards);
     Ok(())
 }

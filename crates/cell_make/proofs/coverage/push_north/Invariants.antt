@@ -1,6 +1,6 @@
 use Rattle.std.proofs.Common.{◌≡◌, ◌++◌, map}
 use Rattle.std.specs.List.{range_with_len}
-use Rattle.cell_make.specs.Parts.{outer}
+use Rattle.cell_parts.specs.Parts.{outer}
 use Rattle.cell_make.specs.Squares.{east_id}
 use Rattle.cell_make.proofs.coverage.push_north.Given as goal
 

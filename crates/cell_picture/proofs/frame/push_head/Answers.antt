@@ -1,5 +1,5 @@
 use Rattle.std.proofs.Common.{◌++◌}
-use Rattle.cell_picture.specs.Picture.{area_key_text, description_text, hatch_text, heading_text, key_text, line_style, mark_style, names_text, opening_text}
+use Rattle.cell_picture.specs.Picture.{description_text, hatch_text, heading_text, key_text, names_text, opening_text, style_text}
 use Rattle.std.proofs.lemmas.Result.{on_ok_weaker}
 use Rattle.cell_picture.proofs.Pushes.{after}
 use Rattle.cell_picture.proofs.frame.push_head.Goals as goal
@@ -11,17 +11,13 @@ returns c =
     let names = names_text c.args.cell.now c.args.total in
     let description = description_text c.args.around in
     let heading = heading_text c.args.cell.now c.args.total in
-    let keys = key_text ++ area_key_text in
-    let behind_hatch = heading ++ keys in
-    let behind_marks = hatch_text ++ behind_hatch in
-    let behind_lines = mark_style ++ behind_marks in
-    on_ok_weaker c.push_area_key.result
-    (λ last. after out opening (names ++ (description ++ (line_style ++ behind_lines))) c.in_ok-push_svg.ensures
-    (after c.push_svg.new.out.items names (description ++ (line_style ++ behind_lines)) c.in_ok-push_names.ensures
-    (after c.push_names.new.out.items description (line_style ++ behind_lines) c.in_ok-push_description.ensures
-    (after c.push_description.new.out.items line_style behind_lines c.in_ok-push_line_style.ensures
-    (after c.push_line_style.new.out.items mark_style behind_marks c.in_ok-push_mark_style.ensures
-    (after c.push_mark_style.new.out.items hatch_text behind_hatch c.in_ok-push_hatch.ensures
-    (after c.push_hatch.new.out.items heading keys c.in_ok-push_heading.ensures
-    (after c.push_heading.new.out.items key_text area_key_text c.in_ok-push_key.ensures last))))))))
-    c.push_area_key.ensures
+    let behind_hatch = heading ++ key_text in
+    let behind_style = hatch_text ++ behind_hatch in
+    on_ok_weaker c.push_key.result
+    (λ last. after out opening (names ++ (description ++ (style_text ++ behind_style))) c.in_ok-push_svg.ensures
+    (after c.push_svg.new.out.items names (description ++ (style_text ++ behind_style)) c.in_ok-push_names.ensures
+    (after c.push_names.new.out.items description (style_text ++ behind_style) c.in_ok-push_description.ensures
+    (after c.push_description.new.out.items style_text behind_style c.in_ok-push_style.ensures
+    (after c.push_style.new.out.items hatch_text behind_hatch c.in_ok-push_hatch.ensures
+    (after c.push_hatch.new.out.items heading key_text c.in_ok-push_heading.ensures last))))))
+    c.push_key.ensures

@@ -6,7 +6,8 @@ use Rattle.s57_types.specs.declared.name.Kind.TheVariants.{Vi}
 use Rattle.s57_types.specs.declared.record.Feature.{Feature}
 use Rattle.cell_spec.specs.declared.key.Ref.{Ref}
 use Rattle.rule_spec.specs.Sides.{use_by, use_of_row}
-use Rattle.check_group1.proofs.Referrers.{referrer_is_read, use_more}
+use Rattle.check_words.proofs.FoundItems.{found_more}
+use Rattle.check_group1.proofs.Referrers.{referrer_is_read}
 use Rattle.check_group1.proofs.uses.uses_of.Goals as goal
 
 -- what stands past a list's end
@@ -30,4 +31,4 @@ loop-pointer-preserved g c =
     ∙ ap (option_and_then (λ (f : Feature). option_map (use_of_row pointer f) (slice_get f.places (pointer.place - 1)))) found in
     c.in_ok-push_use.ensures
     ∙ (λ i. c.loop-pointer.invariant i ++ option_to_list (use_is i))
-    ∙ sym (use_more (use_by cell) c.args.pointers.now c.loop-pointer.pointer-index no_pointer c.loop-pointer-test.true)
+    ∙ sym (found_more (use_by cell) c.args.pointers.now c.loop-pointer.pointer-index no_pointer c.loop-pointer-test.true)

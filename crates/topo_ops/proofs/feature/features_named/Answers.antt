@@ -3,7 +3,7 @@ use Rattle.std.specs.Prelude.{option_to_list}
 use Rattle.s57_types.specs.declared.name.Kind.TheVariants.{Vi}
 use Rattle.s57_types.specs.declared.name.RecName.{RecName}
 use Rattle.rule_spec.specs.Records.{feature_named}
-use Rattle.topo_ops.proofs.FeatureEdits.{found_more}
+use Rattle.check_words.proofs.FoundItems.{found_more}
 use Rattle.topo_ops.proofs.feature.features_named.Goals as goal
 
 -- what stands past a list's end

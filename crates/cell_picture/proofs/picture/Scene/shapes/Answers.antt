@@ -10,9 +10,9 @@ use Rattle.cell_picture.proofs.picture.Scene.shapes.Goals as goal
 pub returns : goal.returns
 returns g c =
     let out = c.args.out.now.items in
-    let around = c.args.self.now.around in
+    let around = c.args.self.now.view.around in
     let cell = c.args.cell.now in
-    let seen = c.args.self.now.look.now in
+    let seen = c.args.self.now.view.look.now in
     let findings = c.args.findings.now in
     on_ok_weaker c.draw_rows.result
     (λ last. two_more out (flat_map shape_text (flat_map (record_shapes seen around) (drawing_order cell)))

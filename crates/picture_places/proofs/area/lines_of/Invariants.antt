@@ -1,7 +1,0 @@
-use Rattle.std.proofs.Common.{◌≡◌, take}
-use Rattle.std.specs.List.{flat_map}
-use Rattle.picture_places.specs.Areas.{lines_at}
-use Rattle.picture_places.proofs.area.lines_of.Given as goal
-
-abbrev pub invariant-loop-spot : goal.invariant-loop-spot
-invariant-loop-spot g l = l.lines.items ≡ flat_map (lines_at l.look) (take l.spot-index l.feature.places)

@@ -1,7 +1,0 @@
-use Rattle.std.proofs.Common.{◌≡◌, ◌++◌, take}
-use Rattle.std.specs.List.{flat_map}
-use Rattle.picture_places.specs.Strokes.{target_strokes}
-use Rattle.picture_places.proofs.stroke.push_targets.Given as goal
-
-abbrev pub invariant-loop-spot : goal.invariant-loop-spot
-invariant-loop-spot g l = l.strokes ≡ l.initial.strokes ++ flat_map (target_strokes l.look l.around) (take l.spot-index l.spots)

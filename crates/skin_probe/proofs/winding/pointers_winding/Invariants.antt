@@ -1,8 +1,0 @@
-use Rattle.std.proofs.Common.{◌≡◌, ◌+ℤ◌, drop}
-use Rattle.skin_probe.specs.Winding.{pointer_winding, sum_of}
-use Rattle.skin_probe.proofs.winding.pointers_winding.Given as goal
-
-abbrev pub invariant-loop-spot : goal.invariant-loop-spot
-invariant-loop-spot g l =
-    (l.winding +ℤ sum_of (pointer_winding (g.B.Look.cell l.look) l.at) (drop l.spot-index l.spots)) ≡
-    sum_of (pointer_winding (g.B.Look.cell l.look) l.at) l.spots
