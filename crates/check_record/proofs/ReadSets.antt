@@ -19,7 +19,7 @@ use Rattle.s57_types.specs.declared.cell.Cell.{Cell}
 use Rattle.s57_types.specs.declared.head.Head.{Head as CellHead}
 use Rattle.s57_types.specs.Heads.{head_name}
 use Rattle.cell_spec.specs.declared.key.Key.{Key}
-use Rattle.cell_spec.specs.declared.key.Key.TheVariants.{Name, Foid}
+use Rattle.cell_spec.specs.declared.key.Key.TheVariants.{Name, Refs, Foid}
 use Rattle.cell_spec.specs.declared.key.Subject.TheVariants.{Rec}
 use Rattle.cell_spec.specs.Ascending.{ascending}
 use Rattle.cell_spec.specs.declared.finding.Finding.{Finding}
@@ -30,7 +30,9 @@ use Rattle.rule_spec.specs.Reads.{end_keys, end_keys_at, feature_keys, keys_read
 use Rattle.rule_spec.specs.Records.{feature_of, is_edge_name, vector_of}
 use Rattle.cell_spec.proofs.Ascending.{holds-ascending, same_when_sorted, sorted-ascending}
 use Rattle.cell_spec.proofs.Orders.{exact_keys, total_keys}
-use Rattle.check_record.specs.EndKeys.{ends_of_key}
+use Rattle.near_records.specs.Near.{answer_held, answer_to}
+use Rattle.near_records.specs.declared.near.Answer.{Answer}
+use Rattle.check_record.specs.EndKeys.{ends_found, ends_of_answer, ends_of_key, named_by}
 use Rattle.check_record.specs.Nodes.{is_node_key}
 use Rattle.cell_spec.proofs.Ascending.{any-ascending, longer_ascending}
 use Rattle.check_record.proofs.FewerPass.{fewer_pass}
@@ -163,6 +165,33 @@ feature_set c n f found held is =
     (sorted-ascending key_order total_keys (all own)) (sorted-ascending key_order total_keys (keys_read c (Rec n)))
     (λ q. holds-ascending key_order exact_keys q (all own) ∙ any_read c n f found (λ y. is_eq (key_order q y))
     ∙ sym (holds-ascending key_order exact_keys q (keys_read c (Rec n))))
+
+flat_map-through : {X Y : Type 0} (f : Y → List Key) (g : X → Y) (xs : List X) → flat_map (λ x. f (g x)) xs ≡ flat_map f (map g xs)
+flat_map-through f g [] = refl
+flat_map-through f g (x ∷ xs) =
+    flat_map-cons (λ y. f (g y)) x xs ∙ ap (λ ys. f (g x) ++ ys) (flat_map-through f g xs) ∙ sym (flat_map-cons f (g x) (map g xs))
+
+ends_asked : (c : Cell) (key : Key) → ends_found (answer_to c key) ≡ ends_of_key c key
+ends_asked c (Name n) = refl
+ends_asked c (Refs n) = refl
+ends_asked c (Foid l) = refl
+
+ascending_twice : (keys : List Key) → ascending key_order (ascending key_order keys) ≡ ascending key_order keys
+ascending_twice keys =
+    let held = ascending key_order keys in
+    same_when_sorted key_order total_keys exact_keys (ascending key_order held) held (sorted-ascending key_order total_keys held)
+    (sorted-ascending key_order total_keys keys) (λ q. holds-ascending key_order exact_keys q held)
+
+-- the ends of the edges that are answers are those of the edges that were asked for
+pub ends_by_answers : (c : Cell) (n : RecName) (f : Feature) (named : List Key) (answers : List Answer) → named ≡ named_by n f
+    → map answer_held answers ≡ map (answer_to c) (ascending key_order named) → flat_map ends_of_answer answers ≡ flat_map (ends_of_key c) named
+ends_by_answers c n f named answers is all =
+    let own = Name n ∷ (Name head_name ∷ map (λ (s : Spot). Name s.to) f.places) in
+    let once : ascending key_order named ≡ named = ap (ascending key_order) is ∙ ascending_twice own ∙ sym is in
+    flat_map-through ends_found answer_held answers
+    ∙ ap (flat_map ends_found) (all ∙ ap (map (answer_to c)) once)
+    ∙ sym (flat_map-through ends_found (answer_to c) named)
+    ∙ (λ i. flat_map (λ key. ends_asked c key i) named)
 
 -- the read set of a name that no record has
 pub absent_set : (c : Cell) (n : RecName) → lookup_record c n ≡ None → read_set c (Rec n) ≡ ascending key_order (Name n ∷ [])

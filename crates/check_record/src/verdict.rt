@@ -11,11 +11,11 @@ ghost use Rattle.rule_spec.specs.Reads.{read_set};
 ghost use Rattle.check_record.specs.RecordRow.{IsRecordRow};
 
 use crate::asked::Asked;
-use crate::reads::{feature_reads, vector_reads};
+use crate::reads::{feature_reads, named_keys, vector_reads};
 use cell_spec::{Findings, Key, Row, Subject, ascending_keys};
 use chain_topo::{Look, Steps};
 use check_feature::feature_findings;
-use near_records::gather;
+use near_records::{gather, gather_beside};
 use s57_types::{Feature, Items, Rec, RecName, Vector};
 use std::alloc::{AllocError, Global};
 use std::sync::ledger::Ledger;
@@ -43,8 +43,10 @@ impl<'a, B: Look> Asked<'a, B> {
         ensures row { IfOk result (IsRecordRow (B.cell self.now.look.now) self.now.name) }
         ensures steps { steps.new + 1 ≤ steps.old + 4 * length (read_set (B.cell self.now.look.now) (SubjectRec self.now.name)) }
     {
-        let reads = feature_reads(self.alloc, self.look, self.name, feature, steps)?;
-        let near = gather(self.alloc, self.look, reads.as_slice(), steps)?;
+        let named = named_keys(self.alloc, self.name, feature)?;
+        let known = gather(self.alloc, self.look, named.as_slice(), steps)?;
+        let reads = feature_reads(self.alloc, feature, named.as_slice(), known.answers())?;
+        let near = gather_beside(self.alloc, self.look, reads.as_slice(), &known, steps)?;
         let findings = feature_findings(self.alloc, &near, feature)?;
         Ok(Row {
             subject: Subject::Rec(self.name),

@@ -16,8 +16,9 @@ use Rattle.cell_spec.specs.Ascending.{put_in_order, ascending}
 use Rattle.cell_spec.specs.Names.{key_order}
 use Rattle.cell_spec.proofs.Ascending.{holds-ascending, sorted-ascending}
 use Rattle.cell_spec.proofs.Orders.{exact_keys, total_keys}
-use Rattle.near_records.specs.Near.{KeyAnswer, answer_held, answer_to, has_key}
+use Rattle.near_records.specs.Near.{AreAnswers, IsNear, KeyAnswer, answer_held, answer_to, has_key}
 use Rattle.near_records.specs.declared.near.Answer.{Answer}
+use Rattle.near_records.specs.declared.near.NearRecords.{NearRecords}
 
 -- ---- an ascending list is no longer than what it is made of
 module _ {X : Type 0} (order : X → X → Ordering) where
@@ -37,6 +38,18 @@ module _ {X : Type 0} (order : X → X → Ordering) where
 
   pub shorter_ascending : (xs : List X) → length (ascending order xs) ≤ length xs
   shorter_ascending xs = omega (arith, all_put [] xs)
+
+-- ---- what is near are answers, each to its own key
+pub near_are_answers : (c : Cell) (keys : List Key) (near : NearRecords) → IsNear c keys near → AreAnswers c near.answers.items
+near_are_answers c keys near is = λ k d within.
+    let answers = near.answers.items in
+    let asked = ascending key_order keys in
+    let there : k < length asked = omega (arith, within, length-map answers answer_held, ap length is.answers, length-map asked (answer_to c)) in
+    let at : answer_held (get_or answers k d) ≡ answer_to c (get_or asked k d.key) =
+    sym (get_or-map answer_held answers k d (answer_held d) within)
+    ∙ ap (λ xs. get_or xs k (answer_held d)) is.answers
+    ∙ get_or-map (answer_to c) asked k d.key (answer_held d) there in
+    at ∙ ap (answer_to c) (sym (ap (λ (x : KeyAnswer). x.key) at))
 
 -- ---- the keys of answers
 abbrev pub key_in : Answer → Key

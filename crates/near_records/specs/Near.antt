@@ -1,6 +1,6 @@
 -- What a cell answers to some keys. This project's own.
 use Rattle.std.specs.Prelude.{◌≡◌, Bool, false, List, Option, None, length, map, nat_lt}
-use Rattle.std.specs.List.{list_any}
+use Rattle.std.specs.List.{All, list_any}
 use Rattle.std.specs.Option.{option_copied}
 use Rattle.std.specs.Ordering.{is_eq}
 use Rattle.s57_types.specs.declared.record.Rec.{Rec}
@@ -38,6 +38,10 @@ answer_to c key = record { key = key; found = record_of_key c key; borne = is_bo
 -- an answer as it is kept
 abbrev pub answer_held : Answer → KeyAnswer
 answer_held a = record { key = a.key; found = option_copied a.record; borne = a.is_borne }
+
+-- each is what a cell answers to its key
+abbrev pub AreAnswers : Cell → List Answer → Type 0
+AreAnswers c answers = All (λ (a : Answer). answer_held a ≡ answer_to c a.key) answers
 
 -- whether a key is among some
 abbrev pub has_key : List Key → Key → Bool

@@ -3,4 +3,4 @@
 
 mod near;
 
-pub use near::{NearRecords, gather};
+pub use near::{Answer, NearRecords, gather, gather_beside};

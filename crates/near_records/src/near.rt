@@ -9,7 +9,7 @@ ghost use Rattle.cell_spec.specs.declared.key.Key.TheVariants.{Foid as KeyFoid, 
 ghost use Rattle.cell_spec.specs.Ascending.{ascending};
 ghost use Rattle.cell_spec.specs.Names.{key_order};
 ghost use Rattle.cell_spec.specs.Lookup.{lookup_identity, lookup_record};
-ghost use Rattle.near_records.specs.Near.{IsNear, answer_held, answer_to as spec_answer, has_key};
+ghost use Rattle.near_records.specs.Near.{AreAnswers, IsNear, answer_held, answer_to as spec_answer, has_key};
 
 use cell_spec::{Key, Keys, ascending_keys, orders_are_by_parts};
 use chain_topo::{Look, Steps};
@@ -18,7 +18,7 @@ use std::alloc::{AllocError, Global};
 use std::sync::ledger::Ledger;
 
 /// What a cell answers to a key: the record of a name, and whether a feature bears an identifier.
-pub(crate) struct Answer<'a> {
+pub struct Answer<'a> {
     pub(crate) key: Key,
     pub(crate) record: Option<&'a Rec>,
     pub(crate) is_borne: bool,
@@ -31,6 +31,15 @@ impl<'a> Drop for Answer<'a> {
             record: _,
             is_borne: _,
         } = self;
+    }
+}
+
+impl<'a> Answer<'a> {
+    /// The record of the name that was asked for, or none.
+    pub fn record(&self) -> Option<&'a Rec>
+        ensures { option_copied result ≡ (answer_held self.now).found }
+    {
+        self.record
     }
 }
 
@@ -107,6 +116,58 @@ fn ascending_copy(alloc: Global, keys: &[Key]) -> Result<Keys, AllocError>
     Ok(ascending_keys(held))
 }
 
+/// Whether two keys are one.
+fn is_same(key: Key, other: Key) -> bool
+    ensures { result ≡ true → key ≡ other }
+{
+    orders_are_by_parts();
+    key.cmp(&other).is_eq()
+}
+
+/// What a cell answers to a key: the next of the answers that are known, where it is the key's, or else as it is looked up.
+fn answer_beside<'a, B: Look, L: Ledger>(
+    look: &'a B,
+    known: &[Answer<'a>],
+    next: &mut usize,
+    key: Key,
+    steps: &mut Steps<L>,
+) -> Answer<'a>
+    requires { AreAnswers (B.cell look.now) known.now }
+    ensures answer { answer_held result ≡ spec_answer (B.cell look.now) key }
+    ensures steps { steps.new ≤ steps.old + 1 }
+{
+    match known.get(*next) {
+        Some(answer) if is_same(answer.key, key) => {
+            *next += 1;
+            Answer {
+                key,
+                record: answer.record,
+                is_borne: answer.is_borne,
+            }
+        }
+        _ => answer_to(look, key, steps),
+    }
+}
+
+fn answers_beside<'a, B: Look, L: Ledger>(
+    alloc: Global,
+    look: &'a B,
+    keys: &[Key],
+    known: &[Answer<'a>],
+    steps: &mut Steps<L>,
+) -> Result<Vec<Answer<'a>>, AllocError>
+    requires { AreAnswers (B.cell look.now) known.now }
+    ensures answers { IfOk result (λ answers. map answer_held answers.items ≡ map (spec_answer (B.cell look.now)) keys.now) }
+    ensures steps { steps.new ≤ steps.old + length keys.now }
+{
+    let mut answers = Vec::with_capacity(alloc, keys.len())?;
+    let mut next = 0;
+    for key in keys {
+        answers.push(answer_beside(look, known, &mut next, *key, steps))?;
+    }
+    Ok(answers)
+}
+
 /// What the cell answers to the keys, each looked up once.
 ///
 /// An `Err` means out of memory.
@@ -129,6 +190,28 @@ pub fn gather<'a, B: Look, L: Ledger>(
     Ok(NearRecords { answers })
 }
 
+/// The same as `gather`, where the answers to some of the keys are known: keys that ascend are looked up only where they aren't among these.
+///
+/// An `Err` means out of memory.
+pub fn gather_beside<'a, B: Look, L: Ledger>(
+    alloc: Global,
+    look: &'a B,
+    keys: &[Key],
+    known: &NearRecords<'a>,
+    steps: &mut Steps<L>,
+) -> Result<NearRecords<'a>, AllocError>
+    requires { AreAnswers (B.cell look.now) known.now.answers.items }
+    ensures near { IfOk result (λ near. IsNear (B.cell look.now) keys.now near) }
+    ensures steps { steps.new ≤ steps.old + length keys.now }
+{
+    if ascend(keys) {
+        return Ok(NearRecords {
+            answers: answers_beside(alloc, look, keys, &known.answers, steps)?,
+        });
+    }
+    gather(alloc, look, keys, steps)
+}
+
 fn find_answer<'a, 'b>(answers: &'b [Answer<'a>], key: Key) -> Option<&'b Answer<'a>>
     ensures { (c : SpecCell) (keys : List SpecKey) → map answer_held answers.now ≡ map (spec_answer c) (ascending key_order keys)
         → has_key keys key ≡ true → option_map answer_held (option_copied result) ≡ Some (spec_answer c key) }
@@ -141,6 +224,13 @@ fn find_answer<'a, 'b>(answers: &'b [Answer<'a>], key: Key) -> Option<&'b Answer
 }
 
 impl<'a> NearRecords<'a> {
+    /// The answers, ascending by their keys.
+    pub fn answers(&self) -> &[Answer<'a>]
+        ensures { result.now ≡ self.now.answers.items }
+    {
+        &self.answers
+    }
+
     /// The record of a name among the keys, or none.
     pub fn record(&self, name: RecName) -> Option<&'a Rec>
         ensures { (c : SpecCell) (keys : List SpecKey) → IsNear c keys self.now → has_key keys (KeyName name) ≡ true
