@@ -110,7 +110,7 @@ module _ {V E O : Type 0} (origin : V → O) (entries : V → List E) (number : 
               mark = k.mark;
               draws = λ _. (r.0, r.1, next);
             } (λ j u other e. let y = h.each j u e in stays_sound number start c c.given c.keeper (get_or s.words 0 0) (get_or (set s.words 0 n) 0 0)
-                s.homes s.homes j u y y.own y.mark (λ b. absurd (other (sym (y.draws b).0 ∙ r.0))))),
+            s.homes s.homes j u y y.own y.mark (λ b. absurd (other (sym (y.draws b).0 ∙ r.0))))),
         refl,
       )
 
@@ -161,7 +161,7 @@ module _ {V E O : Type 0} (origin : V → O) (entries : V → List E) (number : 
         mark = k.mark;
         draws = λ _. (r.0, ap (λ (z : ℕ). z + 1) r.1, omega arith);
       } (λ j u other e. let y = h.each j u e in stays_sound number start c (c.given + 1) (put c.keeper c.given n) (get_or s.words 0 0) (get_or s.words 0 0)
-          s.homes s.homes j u y (stay j u y.own) y.mark (λ b. absurd (other (sym (y.draws b).0 ∙ r.0)))) in
+      s.homes s.homes j u y (stay j u y.own) y.mark (λ b. absurd (other (sym (y.draws b).0 ∙ r.0)))) in
       let new : K n o = record {
         observed = k.observed;
         joined = All-nil (λ (l : List E). IsPrefix l v.observed);

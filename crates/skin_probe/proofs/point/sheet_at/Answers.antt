@@ -15,9 +15,9 @@ returns-clause-sheet g c =
       cover = (c.in_ok-cover.ensures.rounds ∙ ap (λ (cell : Cell). winds_round is_coverage_area cell c.args.at) c.store-store.ensures) i;
       sums = (
         (to_z-of_z w64 c.in_ok-group1.group1.total one ∙ c.in_ok-group1.ensures.total
-        ∙ ap (λ (cell : Cell). winding_total is_group1_area cell c.args.at) c.store-store.ensures) i,
+            ∙ ap (λ (cell : Cell). winding_total is_group1_area cell c.args.at) c.store-store.ensures) i,
         (to_z-of_z w64 c.in_ok-cover.cover.total two ∙ c.in_ok-cover.ensures.total
-        ∙ ap (λ (cell : Cell). winding_total is_coverage_area cell c.args.at) c.store-store.ensures) i,
+            ∙ ap (λ (cell : Cell). winding_total is_coverage_area cell c.args.at) c.store-store.ensures) i,
       );
       unbalanced = c.unbalanced_of-unbalanced.ensures i;
     }
