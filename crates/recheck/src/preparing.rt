@@ -18,6 +18,7 @@ use std::alloc::{AllocError, Global};
 use std::marker::Brand;
 use std::sync::ledger::{Blank, Ledger};
 use std::thread::Threads;
+use subject_rows::part_names;
 
 /// The rows of the affected subjects of the cell that edits leave.
 fn rows_after<R: Threads + Sync, L: Ledger>(
@@ -36,7 +37,9 @@ fn rows_after<R: Threads + Sync, L: Ledger>(
     bench.known();
     let over = Overlay::make(alloc, bench.store(), edits, steps)?;
     let subjects = reach.judged.as_slice();
-    let parts = parts_of(rt, alloc, &over, subjects)?;
+    let names = part_names(alloc, subjects)?;
+    let names = names.as_slice();
+    let parts = parts_of(rt, alloc, &over, names)?;
     judge_all(rt, alloc, &over, &parts, subjects)
 }
 
