@@ -13,7 +13,7 @@ use Rattle.cell_findings.specs.Judged.{subject_findings}
 use Rattle.cell_findings.specs.Near.{leaf_names, leaves_in, near_pairs, pairs_near}
 use Rattle.cell_findings.proofs.LeafPairs.{all_by_part, flat_of_flat, pairs_by_leaf}
 use Rattle.cell_findings.proofs.NearPairs.{leaves_ascend, near_are_known, near_pairs_tell}
-use Rattle.cell_findings.proofs.pairing.push_pairs.Goals as goal
+use Rattle.cell_findings.proofs.search.Search.push_pairs.Goals as goal
 
 -- the pairs near the leaves of a tree, leaf by leaf
 near_by_leaf : (cell : Cell) (names : List RecName) → IsStrictlySortedBy name_order names → (leaves placed tree : List Leaf) → leaves ≡ placed
@@ -24,7 +24,7 @@ near_by_leaf cell names ascending leaves placed tree listed is moved =
 
 pub push_near_pairs-requires-clause-subjects : goal.push_near_pairs-requires-clause-subjects
 push_near_pairs-requires-clause-subjects g c =
-    let cell = c.args.look.now in
+    let cell = c.args.self.now.look.now in
     let are = λ (s : Subject). IsTrue (is_subject cell s) in
     let leaves = c.as_slice-leaves.result.now in
     let tree = c.in_ok-tree.tree in
@@ -36,7 +36,7 @@ push_near_pairs-requires-clause-subjects g c =
 
 pub returns : goal.returns
 returns g c =
-    let cell = c.args.look.now in
+    let cell = c.args.self.now.look.now in
     let before = c.args.gathered.now.items in
     let leaves = c.as_slice-leaves.result.now in
     let tree = c.in_ok-tree.tree in
@@ -48,5 +48,5 @@ returns g c =
     ∙ ap (λ ls. flat_map (subject_findings cell) (near_pairs ls)) is
     ∙ near_pairs_tell cell c.apart_pairs_are_clean.ensures c.args.names.now in
     subst (λ found. MatchResult c.push_near_pairs.result
-    (λ _. IsGathered c.args.limit (before ++ found) c.push_near_pairs.new.gathered.items) (IsOver c.args.limit (before ++ found)))
+    (λ _. IsGathered c.args.self.now.limit (before ++ found) c.push_near_pairs.new.gathered.items) (IsOver c.args.self.now.limit (before ++ found)))
     tell c.push_near_pairs.ensures
