@@ -16,23 +16,14 @@ use std::marker::Model;
 use tile_index::TileIndex;
 
 /// A writable cell with its findings, of which there are at most 262,144, and with what tells which of them edits can change: the tiles
-/// under its nodes and edges, and the keys that its subjects read. It is seen as the cell.
+/// under its nodes and edges, and the keys that its subjects read. It is seen as the cell. It stands behind the count of a bench, and
+/// nothing else drops it.
+#[derive(Drop)]
 pub(crate) struct IndexedCell {
     pub(crate) store: RecordStore,
     pub(crate) tiles: TileIndex,
     pub(crate) map: DependMap,
     pub(crate) verdicts: Verdicts,
-}
-
-impl Drop for IndexedCell {
-    fn drop(self) {
-        let IndexedCell {
-            store: _,
-            tiles: _,
-            map: _,
-            verdicts: _,
-        } = self;
-    }
 }
 
 impl Model for IndexedCell {
