@@ -1,6 +1,6 @@
 use Rattle.std.proofs.Common.{◌≡◌, ◌&&◌, not, take, is_eq}
 use Rattle.pair_set.specs.Pairs.{has_pair, is_lost}
-use Rattle.pair_set.proofs.set.PairSet.take_lost.Given as goal
+use Rattle.pair_set.proofs.set.PairSet.replace.Given as goal
 
 abbrev pub invariant-loop-first : goal.invariant-loop-first
 invariant-loop-first g l = (a : _) (b : _) → has_pair g.A.Ord.cmp g.B.Ord.cmp l.self a b
