@@ -8,6 +8,7 @@ ghost use Rattle.rule_spec.specs.Affected.{affected_list, change_by};
 ghost use Rattle.rule_spec.specs.Findings.{all_findings, finding_total};
 
 use crate::indexed::IndexedCell;
+use affected_subjects::affected_of;
 use cell_spec::{Findings, Subject, Subjects};
 use edit_sets::EditSet;
 use record_store::RecordStore;
@@ -89,7 +90,13 @@ impl Bench {
         requires found { find_their_records edits.now.edits self.now ≡ true }
         ensures { IfOk result (λ list. list ≡ affected_list (change_by edits.now.edits self.now)) }
     {
-        self.indexed.affected(alloc, edits)
+        affected_of(
+            alloc,
+            self.store(),
+            self.indexed.tiles(),
+            self.indexed.reads(),
+            edits,
+        )
     }
 
     /// A copy of the cell, for export and for texts. An `Err` is out of memory.

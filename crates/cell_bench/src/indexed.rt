@@ -1,45 +1,29 @@
 //! A cell with its indexes.
 
-ghost use Rattle.std.specs.Prelude.{◌≡◌, ◌≤◌, IfOk, true};
-ghost use Rattle.cell_spec.specs.Edits.{find_their_records};
+ghost use Rattle.std.specs.Prelude.{◌≡◌, ◌≤◌};
 ghost use Rattle.cell_spec.specs.Writable.{IsWritable};
+ghost use Rattle.finding_laws.specs.Tables.{IsCoveringsOf, IsReadsOf};
 ghost use Rattle.history_spec.specs.Steps.{finding_limit};
-ghost use Rattle.rule_spec.specs.Affected.{affected_list, change_by};
 ghost use Rattle.rule_spec.specs.Findings.{all_findings, finding_total};
-ghost use Rattle.cell_bench.specs.Benches.{IsReachOf};
 
 use crate::verdicts::Verdicts;
-use affected_subjects::{Reach, affected_of, reach_of};
-use cell_spec::{Findings, Subject, Subjects};
-use chain_topo::Steps;
+use cell_spec::{Findings, Subject};
 use depend_map::DependMap;
-use edit_sets::EditSet;
 use finding_laws::verdict_tables_are_all;
 use record_store::RecordStore;
 use shared_table::{Shared, SharedTable};
-use std::alloc::{AllocError, Global};
 use std::marker::Model;
-use std::sync::ledger::Ledger;
 use tile_index::TileIndex;
 
 /// A writable cell with its findings, of which there are at most 262,144, and with what tells which of them edits can change: the tiles
-/// under its nodes and edges, and the keys that its subjects read. It is seen as the cell.
+/// under its nodes and edges, and the keys that its subjects read. It is seen as the cell. It stands behind the count of a bench, and
+/// nothing else drops it.
+#[derive(Drop)]
 pub(crate) struct IndexedCell {
     pub(crate) store: RecordStore,
     pub(crate) tiles: TileIndex,
     pub(crate) map: DependMap,
     pub(crate) verdicts: Verdicts,
-}
-
-impl Drop for IndexedCell {
-    fn drop(self) {
-        let IndexedCell {
-            store: _,
-            tiles: _,
-            map: _,
-            verdicts: _,
-        } = self;
-    }
 }
 
 impl Model for IndexedCell {
@@ -86,31 +70,17 @@ impl IndexedCell {
         self.verdicts.count()
     }
 
-    /// The affected subjects of the cell that edits leave, in the order in which they are looked at first.
-    ///
-    /// An `Err` is out of memory.
-    pub(crate) fn affected(&self, alloc: Global, edits: &EditSet) -> Result<Subjects, AllocError>
-        requires level { edits.now.nall ≡ self.now.head.nall }
-        requires found { find_their_records edits.now.edits self.now ≡ true }
-        ensures { IfOk result (λ list. list ≡ affected_list (change_by edits.now.edits self.now)) }
+    /// The tiles under the cell's nodes and edges.
+    pub(crate) fn tiles(&self) -> &TileIndex
+        ensures { IsCoveringsOf self.now result.now }
     {
-        affected_of(alloc, &self.store, &self.tiles, &self.map, edits)
+        &self.tiles
     }
 
-    /// What edits that find their records reach. It looks up the name of each edit twice, and asks once for each key that they touch.
-    ///
-    /// An `Err` is out of memory.
-    pub(crate) fn reach<L: Ledger>(
-        &self,
-        alloc: Global,
-        edits: &EditSet,
-        steps: &mut Steps<L>,
-    ) -> Result<Reach, AllocError>
-        requires level { edits.now.nall ≡ self.now.head.nall }
-        requires found { find_their_records edits.now.edits self.now ≡ true }
-        ensures { IfOk result (IsReachOf edits.now.edits self.now) }
+    /// The keys that the cell's subjects read.
+    pub(crate) fn reads(&self) -> &DependMap
+        ensures { IsReadsOf self.now result.now }
     {
-        let reach = reach_of(alloc, &self.store, &self.tiles, &self.map, edits, steps)?;
-        Ok(reach)
+        &self.map
     }
 }

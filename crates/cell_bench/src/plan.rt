@@ -9,7 +9,7 @@ ghost use Rattle.cell_bench.specs.Rejudging.{planning_look_ups};
 use crate::bench::Bench;
 use crate::records::need_room;
 use crate::refusal::PlanRefusal;
-use affected_subjects::Reach;
+use affected_subjects::{Reach, reach_of};
 use cell_spec::{Key, Rows};
 use chain_topo::Steps;
 use edit_laws::refusals_tell_what_a_cell_takes;
@@ -104,7 +104,15 @@ impl Bench {
         requires found { find_their_records edits.now.edits self.now ≡ true }
         ensures { IfOk result (IsReachOf edits.now.edits self.now) }
     {
-        self.indexed.reach(alloc, edits, steps)
+        let reach = reach_of(
+            alloc,
+            self.store(),
+            self.indexed.tiles(),
+            self.indexed.reads(),
+            edits,
+            steps,
+        )?;
+        Ok(reach)
     }
 
     /// The bench after edits that the cell takes, from what they reach and from the rows of all affected subjects of the edited cell, in

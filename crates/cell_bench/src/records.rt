@@ -102,25 +102,13 @@ fn is_head_edit(edit: &Edit) -> bool
 fn additions(edits: &[Edit]) -> usize
     ensures { result ≡ count_by spec_is_addition edits.now }
 {
-    let mut count = 0;
-    for edit in edits {
-        if is_addition(edit) {
-            count += 1;
-        }
-    }
-    count
+    edits.iter().filter(|edit| is_addition(edit)).count()
 }
 
 fn deletions(edits: &[Edit]) -> usize
     ensures { result ≡ count_by spec_is_deletion edits.now }
 {
-    let mut count = 0;
-    for edit in edits {
-        if is_deletion(edit) {
-            count += 1;
-        }
-    }
-    count
+    edits.iter().filter(|edit| is_deletion(edit)).count()
 }
 
 fn has_head_edit(edits: &[Edit]) -> bool

@@ -9,6 +9,7 @@ mod names;
 mod pairing;
 mod part;
 mod refusal;
+mod search;
 mod single;
 mod text;
 mod threads;

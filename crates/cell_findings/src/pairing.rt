@@ -18,9 +18,10 @@ use crate::gather::push_found;
 use crate::list::SubjectFinding;
 use crate::part::{PlacedParts, parts_of};
 use crate::refusal::LoadRefusal;
+use crate::search::Search;
 use box_tree::{BoxTree, Leaf};
 use cell_spec::{Finding, Names, Subject, ascending_names, orders_are_by_parts};
-use chain_topo::{ListLook, Steps};
+use chain_topo::Steps;
 use check_pairs::{ChainPart, pair_findings};
 use finding_laws::apart_pairs_are_clean;
 use s57_types::RecName;
@@ -44,141 +45,131 @@ fn names_near(alloc: Global, tree: &BoxTree, leaf: Leaf) -> Result<Names, AllocE
     Ok(ascending_names(names))
 }
 
-/// The findings about two connected nodes or edges. One that isn't among the parts is looked up.
-fn found_of_pair<L: Ledger>(
-    alloc: Global,
-    look: &ListLook,
-    placed: &PlacedParts,
-    pair: (RecName, RecName),
-    steps: &mut Steps<L>,
-) -> Result<Vec<Finding>, AllocError>
-    requires subject { IsTrue (is_subject look.now (SubjectPair pair.0 pair.1)) }
-    requires parts { AreParts look.now placed.now }
-    ensures { IfOk result (λ findings. findings.items ≡ findings_of_subject look.now (SubjectPair pair.0 pair.1)) }
-{
-    if let Some(first) = placed.part(pair.0) {
-        if let Some(second) = placed.part(pair.1) {
-            return pair_findings(alloc, first, second);
+impl<'a, 'b> Search<'a, 'b> {
+    /// The findings about two connected nodes or edges. One that isn't among the parts is looked up.
+    fn found_of_pair<L: Ledger>(
+        &self,
+        placed: &PlacedParts,
+        pair: (RecName, RecName),
+        steps: &mut Steps<L>,
+    ) -> Result<Vec<Finding>, AllocError>
+        requires subject { IsTrue (is_subject self.now.look.now (SubjectPair pair.0 pair.1)) }
+        requires parts { AreParts self.now.look.now placed.now }
+        ensures { IfOk result (λ findings. findings.items ≡ findings_of_subject self.now.look.now (SubjectPair pair.0 pair.1)) }
+    {
+        if let Some(first) = placed.part(pair.0) {
+            if let Some(second) = placed.part(pair.1) {
+                return pair_findings(self.alloc, first, second);
+            }
         }
+        let first = ChainPart::find(self.alloc, self.look, pair.0, steps)?;
+        let second = ChainPart::find(self.alloc, self.look, pair.1, steps)?;
+        pair_findings(self.alloc, &first, &second)
     }
-    let first = ChainPart::find(alloc, look, pair.0, steps)?;
-    let second = ChainPart::find(alloc, look, pair.1, steps)?;
-    pair_findings(alloc, &first, &second)
-}
 
-fn push_pair<L: Ledger>(
-    alloc: Global,
-    gathered: &mut Vec<SubjectFinding>,
-    look: &ListLook,
-    placed: &PlacedParts,
-    pair: (RecName, RecName),
-    limit: usize,
-    steps: &mut Steps<L>,
-) -> Result<(), LoadRefusal>
-    requires subject { IsTrue (is_subject look.now (SubjectPair pair.0 pair.1)) }
-    requires parts { AreParts look.now placed.now }
-    ensures { MatchResult result
-        (λ _. IsGathered limit (gathered.old.items ++ subject_findings look.now (SubjectPair pair.0 pair.1)) gathered.new.items)
-        (IsOver limit (gathered.old.items ++ subject_findings look.now (SubjectPair pair.0 pair.1))) }
-{
-    let findings = found_of_pair(alloc, look, placed, pair, steps)?;
-    push_found(gathered, Subject::Pair(pair.0, pair.1), &findings, limit)
-}
-
-/// Appends the findings about the pairs of one with others.
-fn push_pairs_with<L: Ledger>(
-    alloc: Global,
-    gathered: &mut Vec<SubjectFinding>,
-    look: &ListLook,
-    placed: &PlacedParts,
-    name: RecName,
-    others: &[RecName],
-    limit: usize,
-    steps: &mut Steps<L>,
-) -> Result<(), LoadRefusal>
-    requires parts { AreParts look.now placed.now }
-    requires subjects { All (λ (other : SpecRecName). IsTrue (is_subject look.now (SubjectPair name other))) others.now }
-    requires within { length gathered.old.items ≤ limit }
-    ensures { MatchResult result
-        (λ _. IsGathered limit (gathered.old.items ++ flat_map (subject_findings look.now) (map (SubjectPair name) others.now)) gathered.new.items)
-        (IsOver limit (gathered.old.items ++ flat_map (subject_findings look.now) (map (SubjectPair name) others.now))) }
-{
-    for other in others {
-        push_pair(alloc, gathered, look, placed, (name, *other), limit, steps)?;
+    fn push_pair<L: Ledger>(
+        &self,
+        gathered: &mut Vec<SubjectFinding>,
+        placed: &PlacedParts,
+        pair: (RecName, RecName),
+        steps: &mut Steps<L>,
+    ) -> Result<(), LoadRefusal>
+        requires subject { IsTrue (is_subject self.now.look.now (SubjectPair pair.0 pair.1)) }
+        requires parts { AreParts self.now.look.now placed.now }
+        ensures { MatchResult result
+            (λ _. IsGathered self.now.limit (gathered.old.items ++ subject_findings self.now.look.now (SubjectPair pair.0 pair.1)) gathered.new.items)
+            (IsOver self.now.limit (gathered.old.items ++ subject_findings self.now.look.now (SubjectPair pair.0 pair.1))) }
+    {
+        let findings = self.found_of_pair(placed, pair, steps)?;
+        push_found(gathered, Subject::Pair(pair.0, pair.1), &findings, self.limit)
     }
-    Ok(())
-}
 
-/// Appends the findings about the pairs of a leaf with those above it whose boxes meet its box.
-fn push_pairs_of<L: Ledger>(
-    alloc: Global,
-    gathered: &mut Vec<SubjectFinding>,
-    look: &ListLook,
-    placed: &PlacedParts,
-    tree: &BoxTree,
-    leaf: Leaf,
-    limit: usize,
-    steps: &mut Steps<L>,
-) -> Result<(), LoadRefusal>
-    requires parts { AreParts look.now placed.now }
-    requires subjects { AreNearSubjects look.now tree.now leaf }
-    requires within { length gathered.old.items ≤ limit }
-    ensures { MatchResult result
-        (λ _. IsGathered limit (gathered.old.items ++ leaf_findings look.now tree.now leaf) gathered.new.items)
-        (IsOver limit (gathered.old.items ++ leaf_findings look.now tree.now leaf)) }
-{
-    let others = names_near(alloc, tree, leaf)?;
-    let others = others.as_slice();
-    push_pairs_with(
-        alloc, gathered, look, placed, leaf.name, others, limit, steps,
-    )
-}
-
-/// Appends the findings about the pairs of leaves, each with those above it whose boxes meet its box.
-pub(crate) fn push_near_pairs<L: Ledger>(
-    alloc: Global,
-    gathered: &mut Vec<SubjectFinding>,
-    look: &ListLook,
-    placed: &PlacedParts,
-    leaves: &[Leaf],
-    tree: &BoxTree,
-    limit: usize,
-    steps: &mut Steps<L>,
-) -> Result<(), LoadRefusal>
-    requires parts { AreParts look.now placed.now }
-    requires subjects { All (AreNearSubjects look.now tree.now) leaves.now }
-    requires within { length gathered.old.items ≤ limit }
-    ensures { MatchResult result
-        (λ _. IsGathered limit (gathered.old.items ++ flat_map (leaf_findings look.now tree.now) leaves.now) gathered.new.items)
-        (IsOver limit (gathered.old.items ++ flat_map (leaf_findings look.now tree.now) leaves.now)) }
-{
-    for leaf in leaves {
-        push_pairs_of(alloc, gathered, look, placed, tree, *leaf, limit, steps)?;
+    /// Appends the findings about the pairs of one with others.
+    fn push_pairs_with<L: Ledger>(
+        &self,
+        gathered: &mut Vec<SubjectFinding>,
+        placed: &PlacedParts,
+        name: RecName,
+        others: &[RecName],
+        steps: &mut Steps<L>,
+    ) -> Result<(), LoadRefusal>
+        requires parts { AreParts self.now.look.now placed.now }
+        requires subjects { All (λ (other : SpecRecName). IsTrue (is_subject self.now.look.now (SubjectPair name other))) others.now }
+        requires within { length gathered.old.items ≤ self.now.limit }
+        ensures { MatchResult result
+            (λ _. IsGathered self.now.limit (gathered.old.items ++ flat_map (subject_findings self.now.look.now) (map (SubjectPair name) others.now))
+            gathered.new.items)
+            (IsOver self.now.limit (gathered.old.items ++ flat_map (subject_findings self.now.look.now) (map (SubjectPair name) others.now))) }
+    {
+        for other in others {
+            self.push_pair(gathered, placed, (name, *other), steps)?;
+        }
+        Ok(())
     }
-    Ok(())
-}
 
-/// Appends the findings about each two of some connected nodes and edges, whose names ascend. Two whose boxes are disjoint
-/// have none, and aren't looked at.
-pub(crate) fn push_pairs<L: Ledger>(
-    alloc: Global,
-    gathered: &mut Vec<SubjectFinding>,
-    look: &ListLook,
-    names: &[RecName],
-    limit: usize,
-    steps: &mut Steps<L>,
-) -> Result<(), LoadRefusal>
-    requires parts { All (λ (n : SpecRecName). IsTrue (is_chain_part look.now n)) names.now }
-    requires subjects { All (λ (s : SpecSubject). IsTrue (is_subject look.now s)) (pairs_among names.now) }
-    requires ascending { IsStrictlySortedBy name_order names.now }
-    requires within { length gathered.old.items ≤ limit }
-    ensures { MatchResult result
-        (λ _. IsGathered limit (gathered.old.items ++ flat_map (subject_findings look.now) (pairs_among names.now)) gathered.new.items)
-        (IsOver limit (gathered.old.items ++ flat_map (subject_findings look.now) (pairs_among names.now))) }
-{
-    apart_pairs_are_clean();
-    let placed = parts_of(alloc, look, names, steps)?;
-    let tree = placed.tree(alloc)?;
-    let leaves = placed.leaves.as_slice();
-    push_near_pairs(alloc, gathered, look, &placed, leaves, &tree, limit, steps)
+    /// Appends the findings about the pairs of a leaf with those above it whose boxes meet its box.
+    fn push_pairs_of<L: Ledger>(
+        &self,
+        gathered: &mut Vec<SubjectFinding>,
+        placed: &PlacedParts,
+        tree: &BoxTree,
+        leaf: Leaf,
+        steps: &mut Steps<L>,
+    ) -> Result<(), LoadRefusal>
+        requires parts { AreParts self.now.look.now placed.now }
+        requires subjects { AreNearSubjects self.now.look.now tree.now leaf }
+        requires within { length gathered.old.items ≤ self.now.limit }
+        ensures { MatchResult result
+            (λ _. IsGathered self.now.limit (gathered.old.items ++ leaf_findings self.now.look.now tree.now leaf) gathered.new.items)
+            (IsOver self.now.limit (gathered.old.items ++ leaf_findings self.now.look.now tree.now leaf)) }
+    {
+        let others = names_near(self.alloc, tree, leaf)?;
+        let others = others.as_slice();
+        self.push_pairs_with(gathered, placed, leaf.name, others, steps)
+    }
+
+    /// Appends the findings about the pairs of leaves, each with those above it whose boxes meet its box.
+    pub(crate) fn push_near_pairs<L: Ledger>(
+        &self,
+        gathered: &mut Vec<SubjectFinding>,
+        placed: &PlacedParts,
+        leaves: &[Leaf],
+        tree: &BoxTree,
+        steps: &mut Steps<L>,
+    ) -> Result<(), LoadRefusal>
+        requires parts { AreParts self.now.look.now placed.now }
+        requires subjects { All (AreNearSubjects self.now.look.now tree.now) leaves.now }
+        requires within { length gathered.old.items ≤ self.now.limit }
+        ensures { MatchResult result
+            (λ _. IsGathered self.now.limit (gathered.old.items ++ flat_map (leaf_findings self.now.look.now tree.now) leaves.now) gathered.new.items)
+            (IsOver self.now.limit (gathered.old.items ++ flat_map (leaf_findings self.now.look.now tree.now) leaves.now)) }
+    {
+        for leaf in leaves {
+            self.push_pairs_of(gathered, placed, tree, *leaf, steps)?;
+        }
+        Ok(())
+    }
+
+    /// Appends the findings about each two of some connected nodes and edges, whose names ascend. Two whose boxes are disjoint
+    /// have none, and aren't looked at.
+    pub(crate) fn push_pairs<L: Ledger>(
+        &self,
+        gathered: &mut Vec<SubjectFinding>,
+        names: &[RecName],
+        steps: &mut Steps<L>,
+    ) -> Result<(), LoadRefusal>
+        requires parts { All (λ (n : SpecRecName). IsTrue (is_chain_part self.now.look.now n)) names.now }
+        requires subjects { All (λ (s : SpecSubject). IsTrue (is_subject self.now.look.now s)) (pairs_among names.now) }
+        requires ascending { IsStrictlySortedBy name_order names.now }
+        requires within { length gathered.old.items ≤ self.now.limit }
+        ensures { MatchResult result
+            (λ _. IsGathered self.now.limit (gathered.old.items ++ flat_map (subject_findings self.now.look.now) (pairs_among names.now)) gathered.new.items)
+            (IsOver self.now.limit (gathered.old.items ++ flat_map (subject_findings self.now.look.now) (pairs_among names.now))) }
+    {
+        apart_pairs_are_clean();
+        let placed = parts_of(self.alloc, self.look, names, steps)?;
+        let tree = placed.tree(self.alloc)?;
+        let leaves = placed.leaves.as_slice();
+        self.push_near_pairs(gathered, &placed, leaves, &tree, steps)
+    }
 }

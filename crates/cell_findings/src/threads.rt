@@ -15,10 +15,9 @@ use crate::block::{Block, Judged};
 use crate::findings::find_all;
 use crate::list::{Findings, SubjectFinding};
 use crate::names::{edge_names, identities_in, names_in, part_names};
-use crate::pairing::push_near_pairs;
 use crate::part::parts_of;
 use crate::refusal::LoadRefusal;
-use crate::single::{push_identities, push_records, push_sides};
+use crate::search::Search;
 use chain_topo::{ListLook, Steps};
 use finding_laws::apart_pairs_are_clean;
 use look_counter::start_counter;
@@ -37,37 +36,24 @@ const SHARES: usize = 16;
 
 /// Appends the findings about a block.
 fn push_block<L: Ledger>(
-    alloc: Global,
+    search: &Search,
     gathered: &mut Vec<SubjectFinding>,
-    look: &ListLook,
     judged: &Judged,
     block: Block,
-    limit: usize,
     steps: &mut Steps<L>,
 ) -> Result<(), LoadRefusal>
-    requires parts { AreParts look.now judged.now.placed }
-    requires subjects { AreSubjects look.now judged.now.tree block }
-    requires within { length gathered.old.items ≤ limit }
-    ensures { IfOk result (λ _. gathered.new.items ≡ gathered.old.items ++ block_findings look.now judged.now.tree block.entry) }
+    requires parts { AreParts search.now.look.now judged.now.placed }
+    requires subjects { AreSubjects search.now.look.now judged.now.tree block }
+    requires within { length gathered.old.items ≤ search.now.limit }
+    ensures { IfOk result (λ _. gathered.new.items ≡ gathered.old.items ++ block_findings search.now.look.now judged.now.tree block.entry) }
 {
     match block {
-        Block::Records(names) => push_records(alloc, gathered, look, names, limit, steps),
-        Block::Sides(edges) => push_sides(alloc, gathered, look, edges, limit, steps),
+        Block::Records(names) => search.push_records(gathered, names, steps),
+        Block::Sides(edges) => search.push_sides(gathered, edges, steps),
         Block::Pairs(leaves) => {
-            push_near_pairs(
-                alloc,
-                gathered,
-                look,
-                &judged.placed,
-                leaves,
-                &judged.tree,
-                limit,
-                steps,
-            )
+            search.push_near_pairs(gathered, &judged.placed, leaves, &judged.tree, steps)
         }
-        Block::Identities(identities) => {
-            push_identities(alloc, gathered, look, identities, limit, steps)
-        }
+        Block::Identities(identities) => search.push_identities(gathered, identities, steps),
     }
 }
 
@@ -88,8 +74,9 @@ fn counted<L: Ledger>(
     ensures { IfOk result (λ found. found ≡ block_findings look.now judged.now.tree block.entry) }
 {
     let mut steps = start_counter::<L>(blank);
+    let search = Search { alloc, look, limit };
     let mut gathered = Vec::new(alloc);
-    push_block(alloc, &mut gathered, look, judged, block, limit, &mut steps)?;
+    push_block(&search, &mut gathered, judged, block, &mut steps)?;
     Ok(Findings::of_vec(gathered))
 }
 

@@ -1,6 +1,6 @@
 //! The keys that edits touch.
 
-ghost use Rattle.std.specs.Prelude.{◌≡◌, ◌+◌, ◌≤◌, ◌++◌, IfOk, OnOk, flat_map, length};
+ghost use Rattle.std.specs.Prelude.{◌≡◌, ◌+◌, ◌≤◌, IfOk, flat_map, length};
 ghost use Rattle.cell_spec.specs.Edits.{keys_of_edit, touched_keys};
 
 use cell_spec::{Edit, Key, Keys, ascending_keys};
@@ -10,20 +10,21 @@ use edit_sets::EditSet;
 use std::alloc::{AllocError, Global};
 use std::sync::ledger::Ledger;
 
-// Appends the keys that each of the edits touches. It looks up the name of each.
-fn push_all<B: Look, L: Ledger>(
-    keys: &mut Vec<Key>,
+// The keys that each of the edits touches, in the order of the edits. It looks up the name of each.
+fn keys_of<B: Look, L: Ledger>(
+    alloc: Global,
     look: &B,
     edits: &[Edit],
     steps: &mut Steps<L>,
-) -> Result<(), AllocError>
-    ensures keys { OnOk result (keys.new.items ≡ keys.old.items ++ flat_map (keys_of_edit (B.cell look.now)) edits.now) }
+) -> Result<Vec<Key>, AllocError>
+    ensures keys { IfOk result (λ keys. keys.items ≡ flat_map (keys_of_edit (B.cell look.now)) edits.now) }
     ensures steps { steps.new ≤ steps.old + length edits.now }
 {
+    let mut keys = Vec::new(alloc);
     for edit in edits {
-        push_touched(keys, look.get(edit.name(), steps), edit)?;
+        push_touched(&mut keys, look.get(edit.name(), steps), edit)?;
     }
-    Ok(())
+    Ok(keys)
 }
 
 /// The keys whose answers the edits can change, ascending, each once. It looks up the name of each edit.
@@ -39,7 +40,6 @@ pub fn touched<B: Look, L: Ledger>(
     ensures keys { IfOk result (λ keys. keys ≡ touched_keys edits.now.edits (B.cell look.now)) }
     ensures steps { steps.new ≤ steps.old + length edits.now.edits }
 {
-    let mut keys = Vec::new(alloc);
-    push_all(&mut keys, look, edits.edits(), steps)?;
+    let keys = keys_of(alloc, look, edits.edits(), steps)?;
     Ok(ascending_keys(keys))
 }

@@ -156,6 +156,15 @@ impl DependMap {
         }
     }
 
+    // Whether a subject has these keys already. The rows ascend, so that one that is put again changes nothing.
+    fn keeps(&self, subject: &Subject, keys: &Keys) -> bool
+        ensures { IsTrue result → self.now ≡ with_row subject_order self.now subject.now keys.now }
+    {
+        orders_are_by_parts();
+        let _count = self.reads.len();
+        has_row(&self.reads, subject, keys)
+    }
+
     // The map with new keys of a subject.
     fn with_keys(
         self,
@@ -165,16 +174,14 @@ impl DependMap {
     ) -> Result<DependMap, AllocError>
         ensures { IfOk result (λ map. map ≡ with_row subject_order self subject keys.now) }
     {
+        if self.keeps(&subject, keys) {
+            return Ok(self);
+        }
         orders_are_by_parts();
         let DependMap {
             mut reads,
             mut readers,
         } = self;
-        // The rows ascend, so that one that is put again changes nothing.
-        let _count = reads.len();
-        if has_row(&reads, &subject, keys) {
-            return Ok(DependMap { reads, readers });
-        }
         let old = kept_keys(&reads, &subject);
         replace_keys(alloc, &mut readers, subject, old, keys.as_slice())?;
         reads.put(alloc, subject, Shared::make(alloc, keys.copy(alloc)?)?)?;

@@ -6,7 +6,7 @@ ghost use Rattle.std.specs.List.Sorted.{IsStrictlySortedBy};
 ghost use Rattle.cell_spec.specs.declared.key.Key.{Key as SpecKey};
 ghost use Rattle.cell_spec.specs.declared.key.Subject.{Subject as SpecSubject};
 ghost use Rattle.cell_spec.specs.Names.{key_order, same_subject};
-ghost use Rattle.depend_map.specs.Readers.{has_pair, holds_key, is_lost, same_pair};
+ghost use Rattle.depend_map.specs.Readers.{has_pair, holds_key, same_pair};
 
 use cell_spec::{Key, Subject, ascending_keys, distinct, orders_are_by_parts};
 use s57_types::Items;
@@ -62,26 +62,6 @@ fn holds(keys: &[Key], key: Key) -> bool
     keys.binary_search(&key).is_ok()
 }
 
-// Takes a subject's lost keys out: the old ones that aren't among the new ones.
-fn take_lost(
-    alloc: Global,
-    readers: &mut ReaderSet,
-    subject: Subject,
-    old: &[Key],
-    new: &[Key],
-) -> Result<(), AllocError>
-    requires { IsStrictlySortedBy key_order new.now }
-    ensures { OnOk result ((k : SpecKey) (s : SpecSubject) →
-        has_pair readers.new k s ≡ (not (same_subject subject s && is_lost old.now new.now k) && has_pair readers.old k s)) }
-{
-    for key in old {
-        if !holds(new, *key) {
-            take(alloc, readers, *key, subject)?;
-        }
-    }
-    Ok(())
-}
-
 // Puts a subject's gained keys: those that aren't there with it.
 fn put_gained(
     alloc: Global,
@@ -113,7 +93,12 @@ pub(crate) fn replace_keys(
         has_pair readers.new k s ≡ (if same_subject subject s then holds_key new.now k else has_pair readers.old k s)) }
 {
     let sorted = ascending_keys(Items::copy_of(alloc, new)?.into_vec());
-    take_lost(alloc, readers, subject, old, sorted.as_slice())?;
+    let ascending = sorted.as_slice();
+    for key in old {
+        if !holds(ascending, *key) {
+            take(alloc, readers, *key, subject)?;
+        }
+    }
     put_gained(alloc, readers, subject, new)
 }
 

@@ -4,7 +4,7 @@ ghost use Rattle.std.specs.Prelude.{◌≡◌, ◌&&◌, ◌||◌, [], IfOk, OnO
 ghost use Rattle.std.specs.List.Sorted.{IsStrictlySortedBy};
 ghost use Rattle.std.specs.Ordering.{is_eq, is_lt};
 ghost use Rattle.std.specs.declared.cmp.Ordering.TheVariants.{Equal};
-ghost use Rattle.pair_set.specs.Pairs.{has_pair, is_among, is_lost, same_pair};
+ghost use Rattle.pair_set.specs.Pairs.{has_pair, is_among, same_pair};
 
 use crate::seconds::Seconds;
 use shared_table::SharedTable;
@@ -90,27 +90,6 @@ impl<A: Ord + Copy + Drop, B: Ord + Copy + Drop> PairSet<A, B> {
         self.rows.take(alloc, &(first, second))
     }
 
-    // Takes the lost firsts of a second out: the old ones that aren't among the new ones.
-    fn take_lost(
-        &mut self,
-        alloc: Global,
-        second: B,
-        old: &[A],
-        new: &[A],
-    ) -> Result<(), AllocError>
-        requires exact { (a b : A) → A.cmp a b ≡ Equal → a ≡ b }
-        requires sorted { IsStrictlySortedBy A.cmp new.now }
-        ensures { OnOk result ((a : A) (b : B) →
-            has_pair A.cmp B.cmp self.new a b ≡ (not (is_eq (B.cmp second b) && is_lost A.cmp old.now new.now a) && has_pair A.cmp B.cmp self.old a b)) }
-    {
-        for first in old {
-            if !holds(new, first) {
-                self.take(alloc, *first, second)?;
-            }
-        }
-        Ok(())
-    }
-
     // Puts the gained firsts of a second: those that don't stand with it.
     fn put_gained(&mut self, alloc: Global, second: B, firsts: &[A]) -> Result<(), AllocError>
         requires exact { (a b : A) → A.cmp a b ≡ Equal → a ≡ b }
@@ -142,7 +121,11 @@ impl<A: Ord + Copy + Drop, B: Ord + Copy + Drop> PairSet<A, B> {
         ensures { OnOk result ((a : A) (b : B) →
             has_pair A.cmp B.cmp self.new a b ≡ (if is_eq (B.cmp second b) then is_among A.cmp new.now a else has_pair A.cmp B.cmp self.old a b)) }
     {
-        self.take_lost(alloc, second, old, new)?;
+        for first in old {
+            if !holds(new, first) {
+                self.take(alloc, *first, second)?;
+            }
+        }
         self.put_gained(alloc, second, new)
     }
 }

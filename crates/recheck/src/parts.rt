@@ -2,11 +2,9 @@
 
 ghost use Rattle.std.specs.Prelude.{◌≡◌, ◌<◌, All, IfOk, IsTrue};
 ghost use Rattle.check_pairs.specs.Parts.{IsPart};
-ghost use Rattle.rule_spec.specs.Findings.{is_subject};
 ghost use Rattle.rule_spec.specs.Records.{is_chain_part};
 
 use crate::judging::FEWEST;
-use cell_spec::Subject;
 use chain_topo::Look;
 use check_pairs::ChainPart;
 use look_counter::start_counter;
@@ -16,7 +14,6 @@ use std::alloc::{AllocError, Global};
 use std::marker::Brand;
 use std::sync::ledger::{Blank, Ledger};
 use std::thread::Threads;
-use subject_rows::part_names;
 
 /// The part of a name, with the look-ups counted.
 fn counted<'a, B: Look, L: Ledger>(
@@ -43,8 +40,10 @@ fn find<'a, B: Look>(alloc: Global, look: &'a B, name: RecName) -> Result<ChainP
     counted::<B, Brand>(alloc, look, name, Blank::new(1))
 }
 
-/// The parts of names, in their order. Threads share them where there are many.
-fn find_all<'a, R: Threads + Sync, B: Look + Sync>(
+/// The connected nodes and edges of names, in their order, each looked up once. Threads share them where there are many.
+///
+/// An `Err` is out of memory.
+pub(crate) fn parts_of<'a, R: Threads + Sync, B: Look + Sync>(
     rt: &R,
     alloc: Global,
     look: &'a B,
@@ -64,20 +63,4 @@ fn find_all<'a, R: Threads + Sync, B: Look + Sync>(
         )
         .collect::<Result<Vec<ChainPart>, AllocError>>(rt, alloc)?;
     parts
-}
-
-/// The connected nodes and edges of the pairs among subjects of a cell, in the order of their names. Each is looked up once.
-///
-/// An `Err` is out of memory.
-pub(crate) fn parts_of<'a, R: Threads + Sync, B: Look + Sync>(
-    rt: &R,
-    alloc: Global,
-    look: &'a B,
-    subjects: &[Subject],
-) -> Result<Vec<ChainPart<'a>>, AllocError>
-    requires { All (λ s. IsTrue (is_subject (B.cell look.now) s)) subjects.now }
-    ensures { IfOk result (λ parts. All (IsPart (B.cell look.now)) parts.items) }
-{
-    let names = part_names(alloc, subjects)?;
-    find_all(rt, alloc, look, names.as_slice())
 }

@@ -5,7 +5,7 @@ ghost use Rattle.std.specs.Prelude.{◌≡◌, ◌<◌, ◌≤◌};
 use super::rows::Change::{Add, Del, Set};
 use super::rows::Item::{Edge, Line, Node};
 use super::rows::{Row, check_rows};
-use cell_spec::{Finding, Subject};
+use cell_spec::Subject;
 use look_counter::start_counter;
 use rule_spec::{CROSS, ORPHAN, SAME_PLACE, TWICE_FOID};
 use s57_types::Kind::{Fe, Vc, Ve};
@@ -16,29 +16,8 @@ use std::process::Abort;
 use std::sync::ledger::{Blank, Ledger};
 use std::test::Fail;
 
-/// That no feature uses an edge.
-const UNUSED: Finding = Finding {
-    kind: ORPHAN,
-    nums: [0, 0, 0, 0],
-};
-
-/// That first segments cross.
-const CROSSED: Finding = Finding {
-    kind: CROSS,
-    nums: [1, 1, 0, 0],
-};
-
-/// That two nodes lie at one place.
-const STACKED: Finding = Finding {
-    kind: SAME_PLACE,
-    nums: [0, 0, 0, 0],
-};
-
-/// That two features have one identifier.
-const TWICE: Finding = Finding {
-    kind: TWICE_FOID,
-    nums: [2, 0, 0, 0],
-};
+/// The numbers of a finding that has none.
+const NONE: [u32; 4] = [0, 0, 0, 0];
 
 const FAR_EDGE: RecName = RecName {
     kind: Ve,
@@ -54,7 +33,7 @@ const FAR_ROWS: [Row; 3] = [
             Add(Node(1_002, (-90_000, 40_000))),
             Add(Edge(2_000, (1_001, 1_002))),
         ],
-        &[(Subject::Side(FAR_EDGE), UNUSED)],
+        &[(Subject::Side(FAR_EDGE), ORPHAN, NONE)],
     ),
     (&[Add(Line(3_000, 3_000, 2_000))], &[]),
 ];
@@ -85,41 +64,50 @@ const ROWS: [Row; 15] = [
             Add(Edge(12, (13, 14))),
         ],
         &[
-            (Subject::Side(FIRST), UNUSED),
-            (Subject::Side(SECOND), UNUSED),
+            (Subject::Side(FIRST), ORPHAN, NONE),
+            (Subject::Side(SECOND), ORPHAN, NONE),
         ],
     ),
     // a pointer comes, goes to the other edge and comes back
     (&[Add(Line(11, 11, 11)), Add(Line(12, 12, 12))], &[]),
-    (&[Set(Line(12, 12, 11))], &[(Subject::Side(SECOND), UNUSED)]),
+    (
+        &[Set(Line(12, 12, 11))],
+        &[(Subject::Side(SECOND), ORPHAN, NONE)],
+    ),
     (&[Set(Line(12, 12, 12))], &[]),
     // a node is moved: its edge crosses the other
     (
         &[Set(Node(14, (-100_000, 20_000)))],
-        &[(Subject::Pair(FIRST, SECOND), CROSSED)],
+        &[(Subject::Pair(FIRST, SECOND), CROSS, [1, 1, 0, 0])],
     ),
     (&[Set(Node(14, (-70_000, 20_000)))], &[]),
     (
         &[Set(Node(14, (-100_000, 20_000)))],
-        &[(Subject::Pair(FIRST, SECOND), CROSSED)],
+        &[(Subject::Pair(FIRST, SECOND), CROSS, [1, 1, 0, 0])],
     ),
     // a record is deleted that makes a pair with another
     (&[Del(SECOND), Del(RecName { kind: Fe, id: 12 })], &[]),
     (
         &[Set(Node(13, (-100_000, 20_000)))],
-        &[(Subject::Pair(LEFT, RIGHT), STACKED)],
+        &[(Subject::Pair(LEFT, RIGHT), SAME_PLACE, NONE)],
     ),
     (&[Del(RIGHT)], &[]),
     // an identifier is shared, isn't, is shared again, and is nobody's
-    (&[Add(Line(13, 11, 11))], &[(Subject::Ident(SHARED), TWICE)]),
+    (
+        &[Add(Line(13, 11, 11))],
+        &[(Subject::Ident(SHARED), TWICE_FOID, [2, 0, 0, 0])],
+    ),
     (&[Set(Line(13, 13, 11))], &[]),
-    (&[Set(Line(13, 11, 11))], &[(Subject::Ident(SHARED), TWICE)]),
+    (
+        &[Set(Line(13, 11, 11))],
+        &[(Subject::Ident(SHARED), TWICE_FOID, [2, 0, 0, 0])],
+    ),
     (
         &[
             Del(RecName { kind: Fe, id: 11 }),
             Del(RecName { kind: Fe, id: 13 }),
         ],
-        &[(Subject::Side(FIRST), UNUSED)],
+        &[(Subject::Side(FIRST), ORPHAN, NONE)],
     ),
     // a deleted record's own finding goes
     (&[Del(FIRST)], &[]),

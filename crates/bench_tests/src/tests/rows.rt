@@ -28,8 +28,11 @@ pub(crate) enum Change {
     Del(RecName),
 }
 
+/// A finding: what it is about, its kind and its numbers.
+pub(crate) type Found = (Subject, u8, [u32; 4]);
+
 /// What is edited, and all that is found then.
-pub(crate) type Row = (&'static [Change], &'static [(Subject, Finding)]);
+pub(crate) type Row = (&'static [Change], &'static [Found]);
 
 fn record_of(alloc: Global, item: Item) -> Result<Rec, AllocError> {
     match item {
@@ -56,13 +59,17 @@ fn edits_of(alloc: Global, changes: &[Change]) -> Result<Vec<Edit>, AllocError> 
 }
 
 /// Checks that a bench has these findings and no others.
-fn check_found(rt: &impl Abort, bench: &Bench, found: &[(Subject, Finding)]) {
+fn check_found(rt: &impl Abort, bench: &Bench, found: &[Found]) {
     assert_eq!(rt; bench.finding_count() as usize, found.len());
-    for (subject, finding) in found {
+    for (subject, kind, nums) in found {
         let Some(findings) = bench.findings().get(subject) else {
             panic!(rt; "a finding is missing");
         };
-        assert!(rt; findings.as_slice().contains(finding));
+        let finding = Finding {
+            kind: *kind,
+            nums: *nums,
+        };
+        assert!(rt; findings.as_slice().contains(&finding));
     }
 }
 

@@ -1,26 +1,30 @@
 //! Benches, whose stores are tested, and their edits.
 
-ghost use Rattle.std.specs.Prelude.{◌≡◌};
+ghost use Rattle.std.specs.Prelude.{◌≡◌, IfOk};
 
 use cell_bench::Bench;
 use cell_make::make_cell;
 use cell_spec::{Edit, Rows};
 use chain_topo::Steps;
-use edit_sets::EditSet;
+use edit_sets::{EditSet, FormRefusal};
 use s57_types::{Kind, RecName};
 use std::alloc::{AllocError, Global};
 use std::process::Abort;
 use std::sync::ledger::Ledger;
+use std::test::Fail;
 
 /// The edit set of edits at the level of a bench.
-pub(crate) fn set_for(rt: &impl Abort, alloc: Global, bench: &Bench, edits: &[Edit]) -> EditSet
-    ensures { result.nall ≡ bench.now.head.nall }
+pub(crate) fn set_for(
+    rt: &impl Abort,
+    alloc: Global,
+    bench: &Bench,
+    edits: &[Edit],
+) -> Result<EditSet, FormRefusal>
+    ensures { IfOk result (λ set. set.nall ≡ bench.now.head.nall) }
 {
     assert!(rt; edits.len() < 99);
-    match EditSet::make(alloc, edits, &[], bench.head().nall) {
-        Ok(set) => set,
-        Err(_) => panic!(rt; "the form is wrong"),
-    }
+    let set = EditSet::make(alloc, edits, &[], bench.head().nall)?;
+    Ok(set)
 }
 
 /// Plans edits and installs the plan.
@@ -55,11 +59,11 @@ pub(crate) fn empty_bench<L: Ledger>(
     rt: &impl Abort,
     alloc: Global,
     steps: &mut Steps<L>,
-) -> Result<Bench, AllocError> {
+) -> Result<Bench, Fail> {
     let Ok(mut bench) = Bench::load(alloc, make_cell(alloc, 1)?, steps) else {
         panic!(rt; "the cell isn't loaded");
     };
-    let set = set_for(rt, alloc, &bench, &deletions(alloc)?);
+    let set = set_for(rt, alloc, &bench, &deletions(alloc)?)?;
     commit(rt, alloc, &mut bench, &set, steps);
     Ok(bench)
 }

@@ -154,8 +154,8 @@ fn check_changes<L: Ledger>(
     rows: &[Row],
     changes: &[Change],
     steps: &mut Steps<L>,
-) -> Result<Vec<Row>, AllocError> {
-    let set = set_for(rt, alloc, bench, &edits_of(alloc, rows, changes)?);
+) -> Result<Vec<Row>, Fail> {
+    let set = set_for(rt, alloc, bench, &edits_of(alloc, rows, changes)?)?;
     let after = rows_after(alloc, rows, changes)?;
     check_overlay(rt, alloc, bench, &set, &after, steps)?;
     let before = bench.copy(alloc)?;
@@ -171,7 +171,7 @@ pub(crate) fn check_each<L: Ledger>(
     alloc: Global,
     blank: Blank,
     lists: &[Vec<Change>],
-) -> Result<Vec<Row>, AllocError>
+) -> Result<Vec<Row>, Fail>
     requires name { blank.name ≡ L.name }
     requires parts { blank.parts ≡ L.parts }
     requires some_part { 0 < L.parts }

@@ -1,9 +1,15 @@
-use Rattle.std.proofs.Common.{subst, sym}
-use Rattle.std.specs.Prelude.{All, IsTrue}
-use Rattle.rule_spec.specs.Records.{is_chain_part}
+use Rattle.std.proofs.Common.{◌≡◌, ap, ◌∙◌}
+use Rattle.std.specs.Prelude.{IfOk}
+use Rattle.rayon.proofs.ToStd.{slice-AllZip}
+use Rattle.check_pairs.specs.Parts.{IsPart}
+use Rattle.recheck.proofs.Judged.{gathered}
 use Rattle.recheck.proofs.parts.parts_of.Goals as goal
 
-pub find_all-requires-after_bounds : goal.find_all-requires-after_bounds
-find_all-requires-after_bounds g c κs within =
-    subst (All (λ n. IsTrue (is_chain_part (g.B.Look.cell c.args.look.now) n))) (sym c.as_slice.ensures)
-    (c.in_ok-names.ensures.chained (g.B.Look.cell c.args.look.now) c.requires)
+pub returns : goal.returns
+returns g c =
+    let told = c.in_ok-parts.ensures in
+    let chain = rw (c.map.ensures.base, c.map.ensures.f) at told.1 in
+    let slice = ap (λ it. it.slice.now) c.with_min_len.ensures.base ∙ c.par_iter.ensures in
+    let each = slice-AllZip chain.0 c.args.names.now (chain.1 ∙ slice)
+    (λ name answer. IfOk answer (IsPart (g.B.Look.cell c.args.look.now))) told.0 chain.2 in
+    gathered _ (IsPart (g.B.Look.cell c.args.look.now)) c.args.names.now told.0 each c.in_ok-parts.parts told.2

@@ -2,21 +2,16 @@ use Rattle.std.proofs.Common.{◌≡◌, cond, subst, sym, ap, ◌∙◌}
 use Rattle.std.specs.declared.cmp.Ordering.{Ordering}
 use Rattle.cell_spec.specs.declared.key.Subject.{Subject}
 use Rattle.cell_spec.specs.Names.{same_subject, subject_order}
-use Rattle.row_spec.specs.Rows.{IsAscending, with_row}
+use Rattle.row_spec.specs.Rows.{with_row}
 use Rattle.depend_map.specs.Readers.{AreReadersOf, has_pair, holds_key}
-use Rattle.depend_map.proofs.Changed.{put_readers, with_same}
+use Rattle.depend_map.proofs.Changed.{put_readers}
 use Rattle.depend_map.proofs.map.DependMap.with_keys.Goals as goal
 
-pub returns-then-has_row : goal.returns-then-has_row
-returns-then-has_row c =
-    let rows = c.self.inside.reads in
-    let ascending = subst (λ (order : Subject → Subject → Ordering). IsAscending order rows)
-    (λ i a b. c.orders_are_by_parts.ensures.subjects a b i) c.len-count.ensures.ascending in
-    sym (with_same rows c.args.subject c.args.keys.now ascending (c.has_row.ensures.0 c.if-has_row.true))
-    ∙ ap (λ those. with_row subject_order those c.args.subject c.args.keys.now) c.self.view_is
+pub returns-then-keeps : goal.returns-then-keeps
+returns-then-keeps c = c.keeps.ensures c.if-keeps.true
 
-pub invariant_of-result-2 : goal.invariant_of-result-2
-invariant_of-result-2 c =
+pub invariant_of-result : goal.invariant_of-result
+invariant_of-result c =
     let rows = c.self.inside.reads in
     let put = subst (λ (order : Subject → Subject → Ordering). c.put.new.self ≡ with_row order rows c.args.subject c.in_ok-make.field-0)
     (λ i a b. c.orders_are_by_parts.ensures.subjects a b i) c.in_ok-put.ensures.ok in
