@@ -81,7 +81,12 @@ impl<'a, 'b> Search<'a, 'b> {
             (IsOver self.now.limit (gathered.old.items ++ subject_findings self.now.look.now (SubjectPair pair.0 pair.1))) }
     {
         let findings = self.found_of_pair(placed, pair, steps)?;
-        push_found(gathered, Subject::Pair(pair.0, pair.1), &findings, self.limit)
+        push_found(
+            gathered,
+            Subject::Pair(pair.0, pair.1),
+            &findings,
+            self.limit,
+        )
     }
 
     /// Appends the findings about the pairs of one with others.
