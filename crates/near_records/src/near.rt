@@ -204,12 +204,12 @@ pub fn gather_beside<'a, B: Look, L: Ledger>(
     ensures near { IfOk result (λ near. IsNear (B.cell look.now) keys.now near) }
     ensures steps { steps.new ≤ steps.old + length keys.now }
 {
-    if ascend(keys) {
-        return Ok(NearRecords {
-            answers: answers_beside(alloc, look, keys, &known.answers, steps)?,
-        });
+    if !ascend(keys) {
+        return gather(alloc, look, keys, steps);
     }
-    gather(alloc, look, keys, steps)
+    Ok(NearRecords {
+        answers: answers_beside(alloc, look, keys, &known.answers, steps)?,
+    })
 }
 
 fn find_answer<'a, 'b>(answers: &'b [Answer<'a>], key: Key) -> Option<&'b Answer<'a>>
