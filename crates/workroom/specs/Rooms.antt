@@ -1,7 +1,9 @@
 -- What contracts see of a workroom. This project's own rules.
 use Rattle.std.specs.Prelude.{◌≡◌, ℕ, ◌+◌, ◌≤◌, [], ◌∷◌}
 use Rattle.s57_types.specs.declared.cell.Cell.{Cell}
+use Rattle.rule_spec.specs.Findings.{finding_total}
 use Rattle.history_spec.specs.declared.entry.Entry.{Entry}
+use Rattle.history_spec.specs.Steps.{finding_limit}
 use Rattle.turn_gate.specs.Handles.{GateId, HandleState, no_operations}
 use Rattle.workroom.specs.Desks.{DeskState, RoomId}
 
@@ -27,6 +29,11 @@ pub record IsRoomOf (gate : GateId) (root : HandleState Entry Cell) (bench : Cel
 pub record IsNewRoom (c : Cell) (room : RoomState) : Type 0 where
   pub opening : room.room.opening ≡ c
   pub none : room.desks ≡ 0
+
+-- that was loaded
+pub record IsLoadedRoom (c : Cell) (room : RoomState) : Type 0 where
+  pub new : IsNewRoom c room
+  pub few : finding_total c ≤ finding_limit
 
 -- the desk that a workroom makes next
 abbrev pub new_desk : RoomState → DeskState

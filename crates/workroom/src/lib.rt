@@ -7,7 +7,7 @@ mod room;
 mod threads;
 mod turn;
 
-pub use commit_book::{Bench, Book, BookRefusal, Entry, Prepared, Reply};
+pub use commit_book::{Bench, Book, BookRefusal, Entry, LoadRefusal, Prepared, Reply};
 pub use desk::Desk;
 pub use refusal::{DeskRefusal, RoomRefusal};
 pub use room::Workroom;

@@ -1,24 +1,27 @@
 //! A workroom: the log behind its lock, and its desks.
 
-ghost use Rattle.std.specs.Prelude.{◌≡◌, ◌↔◌, ◌+◌, ◌≤◌, ◌<◌, All, Err, IfOk, IfErr, IfSome, OnOk, OnErr};
+ghost use Rattle.std.specs.Prelude.{◌≡◌, ◌↔◌, ◌+◌, ◌≤◌, ◌<◌, All, Err, IfOk, IfErr, IfSome, OnOk, OnErr, MatchResult};
 ghost use mathlib.Core.List.{IsPrefix};
+ghost use Rattle.cell_spec.specs.Writable.{IsWritable};
 ghost use Rattle.history_spec.specs.Entries.{base_told, brief_of};
 ghost use Rattle.rule_spec.specs.Affected.{RowsAreExact};
 ghost use Rattle.turn_gate.specs.Histories.{IsExact};
-ghost use Rattle.cell_bench.specs.Benches.{IsPlanned};
+ghost use Rattle.cell_bench.specs.Benches.{IsLoadRefusal, IsPlanned};
 ghost use Rattle.workroom.specs.Desks.{IsRoomRefusal, IsSameDesk, IsTurned, IsUnentered, merged_desk};
-ghost use Rattle.workroom.specs.Rooms.{IsNewRoom, desk_limit, new_desk};
+ghost use Rattle.workroom.specs.Rooms.{IsLoadedRoom, IsNewRoom, desk_limit, new_desk};
 ghost use Rattle.workroom.specs.Turns.{desk_of};
 
 use crate::desk::Desk;
 use crate::refusal::{DeskRefusal, RoomRefusal};
 use crate::turn::Ask;
-use commit_book::{Asked, Bench, Book, Prepared, Reply};
+use chain_topo::Steps;
+use commit_book::{Asked, Bench, Book, LoadRefusal, Prepared, Reply};
 use edit_sets::FormFault;
-use s57_types::Duplicate;
+use s57_types::{Cell, Duplicate};
 use std::alloc::{AllocError, Global};
 use std::marker::Model;
 use std::sync::Wait;
+use std::sync::ledger::Ledger;
 use turn_gate::{Gate, GateSeat};
 
 /// How many desks may be made.
@@ -53,6 +56,21 @@ impl Model for Workroom {
 }
 
 impl Workroom {
+    /// The workroom of a writable cell, without desks, with the look-ups that finding its findings takes.
+    ///
+    /// An `Err` says that the cell has more findings than the limit, or means out of memory.
+    pub fn make<L: Ledger>(
+        alloc: Global,
+        cell: Cell,
+        steps: &mut Steps<L>,
+    ) -> Result<Workroom, LoadRefusal>
+        requires { IsWritable cell }
+        ensures { MatchResult result (IsLoadedRoom cell) (IsLoadRefusal cell) }
+    {
+        let bench = Bench::load(alloc, cell, steps)?;
+        Ok(Workroom::of_bench(alloc, bench)?)
+    }
+
     /// The workroom of a bench, without desks. An `Err` means out of memory.
     pub fn of_bench(alloc: Global, bench: Bench) -> Result<Workroom, AllocError>
         ensures { IfOk result (IsNewRoom bench) }

@@ -5,7 +5,6 @@ ghost use Rattle.cell_bench.specs.Benches.{IsPlanned};
 ghost use Rattle.rule_spec.specs.Affected.{RowsAreExact};
 
 use super::edits::set_for;
-use cell_bench::Bench;
 use cell_make::make_cell;
 use cell_spec::Edit;
 use commit_book::{Prepared, Reply};
@@ -27,12 +26,9 @@ fn counted_room<L: Ledger>(rt: &impl Abort, alloc: Global, blank: Blank) -> Work
     let Ok(cell) = make_cell(alloc, 1) else {
         panic!(rt; "there is no memory");
     };
-    let Ok(bench) = Bench::load(alloc, cell, &mut steps) else {
-        panic!(rt; "the cell isn't loaded");
-    };
-    match Workroom::of_bench(alloc, bench) {
+    match Workroom::make(alloc, cell, &mut steps) {
         Ok(room) => room,
-        Err(AllocError) => panic!(rt; "there is no memory"),
+        Err(_) => panic!(rt; "the cell isn't loaded"),
     }
 }
 
