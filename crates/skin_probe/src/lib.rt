@@ -14,4 +14,4 @@ pub use law::{balanced_sides_equal_winding, winding_sum_by_edges};
 pub use point::probe;
 pub use sheet::{ProbeSheet, Winds};
 pub use text::push_sheet;
-pub use winding::Probe;
+pub use winding::wind;

@@ -66,10 +66,10 @@ fn winding_along(alloc: Global, at: Point, ornt: u8, points: &[Point]) -> Result
 
 /// A point, latitude first, in integer coordinate units, and the cell whose areas may go round it.
 #[derive(Drop)]
-pub struct Probe<'a, B: Look> {
-    pub alloc: Global,
-    pub look: &'a B,
-    pub at: Point,
+pub(crate) struct Probe<'a, B: Look> {
+    pub(crate) alloc: Global,
+    pub(crate) look: &'a B,
+    pub(crate) at: Point,
 }
 
 impl<'a, B: Look> Probe<'a, B> {
@@ -105,21 +105,28 @@ impl<'a, B: Look> Probe<'a, B> {
     {
         self.pointers(area.places.as_slice(), steps)
     }
+}
 
-    /// The winding number of the area of a name round the point: how often the area's boundary goes round the point clockwise. It is
-    /// counted by the crossings of the ray that runs from the point to the east, exactly: downwards 1, upwards -1; a segment has its lower
-    /// end and not its upper one, and crosses only strictly east of the point. Edges are taken as the spatial pointers (FSPT, S-57 Part 3,
-    /// 7.6.8) go along them, and an edge without points adds nothing.
-    ///
-    /// An `Err` means out of memory.
-    pub fn wind<L: Ledger>(&self, area: RecName, steps: &mut Steps<L>) -> Result<i64, AllocError>
-        requires { is_some (feature_named (B.cell self.now.look.now) area) ≡ true }
-        ensures { IfOk result (λ winding. winding ≡ option_map_or (winding_number (B.cell self.now.look.now) self.now.at)
-            (feature_named (B.cell self.now.look.now) area) (pos 0)) }
-    {
-        match self.look.get(area, steps) {
-            Some(Rec::F(feature)) => self.area(feature, steps),
-            _ => Ok(0),
-        }
+/// The winding number of an area round a point, its latitude `y` and its longitude `x` in integer coordinate units: how often the area's
+/// boundary goes round the point clockwise. It is counted by the crossings of the ray that runs from the point to the east, exactly:
+/// downwards 1, upwards -1; a segment has its lower end and not its upper one, and crosses only strictly east of the point. Edges are taken
+/// as the spatial pointers (FSPT, S-57 Part 3, 7.6.8) go along them, and an edge without points adds nothing.
+///
+/// An `Err` means out of memory.
+pub fn wind<B: Look, L: Ledger>(
+    alloc: Global,
+    look: &B,
+    area: RecName,
+    y: i32,
+    x: i32,
+    steps: &mut Steps<L>,
+) -> Result<i64, AllocError>
+    requires { is_some (feature_named (B.cell look.now) area) ≡ true }
+    ensures { IfOk result (λ winding. winding ≡ option_map_or (winding_number (B.cell look.now) (y, x)) (feature_named (B.cell look.now) area) (pos 0)) }
+{
+    let at = (y, x);
+    match look.get(area, steps) {
+        Some(Rec::F(feature)) => Probe { alloc, look, at }.area(feature, steps),
+        _ => Ok(0),
     }
 }

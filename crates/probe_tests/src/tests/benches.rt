@@ -11,7 +11,7 @@ use chain_topo::{Look, Steps};
 use edit_sets::EditSet;
 use geo_exact::Point;
 use s57_types::{Rec, RecName};
-use skin_probe::{Probe, ProbeSheet, probe};
+use skin_probe::{ProbeSheet, probe, wind};
 use std::alloc::{AllocError, Global};
 use std::process::Abort;
 use std::sync::ledger::Ledger;
@@ -113,12 +113,7 @@ fn area_wind<L: Ledger>(
     if !has_feature(store, AREA_NAME, steps) {
         panic!(rt; "the area is missing");
     }
-    let probe = Probe {
-        alloc,
-        look: store,
-        at,
-    };
-    probe.wind(AREA_NAME, steps)
+    wind(alloc, store, AREA_NAME, at.0, at.1, steps)
 }
 
 /// Checks a sheet of a point that only the area may go round, so often.
