@@ -11,11 +11,11 @@ ghost use Rattle.cell_spec.specs.Ascending.{ascending};
 ghost use Rattle.cell_spec.specs.Lookup.{lookup_record};
 ghost use Rattle.cell_spec.specs.Names.{key_order};
 ghost use Rattle.rule_spec.specs.Reads.{read_set};
-ghost use Rattle.near_records.specs.Near.{answer_held, answer_to};
+ghost use Rattle.near_records.specs.Near.{IsNear};
 ghost use Rattle.check_record.specs.EndKeys.{ends_of_answer, named_by};
 
 use cell_spec::{Key, Keys, ascending_keys};
-use near_records::Answer;
+use near_records::{Answer, NearRecords};
 use read_sets::{push_end_keys, push_vector_keys};
 use s57_types::{Feature, Kind, Partner, Rec, RecName, Vector};
 use std::alloc::{AllocError, Global};
@@ -113,17 +113,17 @@ fn gathered_keys(
     Ok(keys)
 }
 
-/// The read set of a feature, where `named` are the keys of its name, of the head and of the records that its spatial pointers name, with
-/// the answers to them.
+/// The read set of a feature, where `named` are the keys of its name, of the head and of the records that its spatial pointers name, and
+/// `known` what the cell answers to them.
 pub(crate) fn feature_reads(
     alloc: Global,
     feature: &Feature,
     named: &[Key],
-    answers: &[Answer<'_>],
+    known: &NearRecords<'_>,
 ) -> Result<Keys, AllocError>
     ensures { (c : SpecCell) (n : SpecName) → lookup_record c n ≡ Some (F feature.now) → named.now ≡ named_by n feature.now
-        → map answer_held answers.now ≡ map (answer_to c) (ascending key_order named.now) → IfOk result (λ keys. keys ≡ read_set c (SubjectRec n)) }
+        → IsNear c named.now known.now → IfOk result (λ keys. keys ≡ read_set c (SubjectRec n)) }
 {
-    let keys = gathered_keys(alloc, feature, named, answers)?;
+    let keys = gathered_keys(alloc, feature, named, known.answers())?;
     Ok(ascending_keys(keys))
 }

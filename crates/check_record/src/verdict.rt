@@ -8,14 +8,15 @@ ghost use Rattle.cell_spec.specs.declared.key.Subject.TheVariants.{Rec as Subjec
 ghost use Rattle.cell_spec.specs.Lookup.{lookup_record};
 ghost use Rattle.rule_spec.specs.Findings.{findings_of_subject};
 ghost use Rattle.rule_spec.specs.Reads.{read_set};
+ghost use Rattle.near_records.specs.Near.{IsNear};
 ghost use Rattle.check_record.specs.RecordRow.{IsRecordRow};
 
 use crate::asked::Asked;
 use crate::reads::{feature_reads, named_keys, vector_reads};
-use cell_spec::{Findings, Key, Row, Subject, ascending_keys};
+use cell_spec::{Findings, Key, Keys, Row, Subject, ascending_keys};
 use chain_topo::{Look, Steps};
 use check_feature::feature_findings;
-use near_records::{gather, gather_beside};
+use near_records::{NearRecords, gather, gather_beside};
 use s57_types::{Feature, Items, Rec, RecName, Vector};
 use std::alloc::{AllocError, Global};
 use std::sync::ledger::Ledger;
@@ -37,16 +38,32 @@ impl<'a, B: Look> Asked<'a, B> {
         })
     }
 
+    /// The read set of a feature, and what the cell answers to it. What the feature names is looked up once for both.
+    fn near_feature<L: Ledger>(
+        &self,
+        feature: &Feature,
+        steps: &mut Steps<L>,
+    ) -> Result<(Keys, NearRecords<'a>), AllocError>
+        requires { lookup_record (B.cell self.now.look.now) self.now.name ≡ Some (F feature.now) }
+        ensures reads { IfOk result (λ found. found.0 ≡ read_set (B.cell self.now.look.now) (SubjectRec self.now.name)) }
+        ensures near { IfOk result (λ found. IsNear (B.cell self.now.look.now) found.0 found.1) }
+        ensures steps { steps.new + 1 ≤ steps.old + 4 * length (read_set (B.cell self.now.look.now) (SubjectRec self.now.name)) }
+    {
+        let names = named_keys(self.alloc, self.name, feature)?;
+        let named = names.as_slice();
+        let known = gather(self.alloc, self.look, named, steps)?;
+        let reads = feature_reads(self.alloc, feature, named, &known)?;
+        let near = gather_beside(self.alloc, self.look, reads.as_slice(), &known, steps)?;
+        Ok((reads, near))
+    }
+
     /// The row of a feature.
     fn feature<L: Ledger>(&self, feature: &Feature, steps: &mut Steps<L>) -> Result<Row, AllocError>
         requires { lookup_record (B.cell self.now.look.now) self.now.name ≡ Some (F feature.now) }
         ensures row { IfOk result (IsRecordRow (B.cell self.now.look.now) self.now.name) }
         ensures steps { steps.new + 1 ≤ steps.old + 4 * length (read_set (B.cell self.now.look.now) (SubjectRec self.now.name)) }
     {
-        let named = named_keys(self.alloc, self.name, feature)?;
-        let known = gather(self.alloc, self.look, named.as_slice(), steps)?;
-        let reads = feature_reads(self.alloc, feature, named.as_slice(), known.answers())?;
-        let near = gather_beside(self.alloc, self.look, reads.as_slice(), &known, steps)?;
+        let (reads, near) = self.near_feature(feature, steps)?;
         let findings = feature_findings(self.alloc, &near, feature)?;
         Ok(Row {
             subject: Subject::Rec(self.name),

@@ -12,7 +12,7 @@ use Rattle.report_text.specs.declared.status.Status.TheVariants.{Done, Usage, Ab
 use Rattle.report_text.specs.declared.status.Status.TheVariants.{BadOrder, Stuck, TooManyFindings, BadUpdate, Refused, BadJournal, DiskFault, OpRefused}
 use Rattle.report_text.specs.declared.status.Status.TheVariants.{JournalFull}
 use Rattle.call_files.specs.Inputs.{CellIs, IsFile, IsInputStatus, IsNotOfOrder, ScriptIs, Tells}
-use Rattle.call_files.specs.declared.inputs.Checked.{Checked}
+use Rattle.call_files.specs.declared.cell_input.Checked.{Checked}
 use Rattle.call_files.specs.declared.work.Work.{Work}
 use Rattle.call_files.specs.Task.{task_of}
 use Rattle.call_files.proofs.Answered.{status_of_more, tells_first, tells_later}

@@ -3,7 +3,7 @@ use Rattle.std.proofs.lemmas.Result.{err_from_is_err_and}
 use Rattle.rule_spec.specs.Findings.{all_findings}
 use Rattle.text_spec.specs.CellText.{cell_text, text_with}
 use Rattle.report_text.specs.declared.status.Status.TheVariants.{NoMemory}
-use Rattle.call_files.specs.declared.inputs.Checked.{Checked}
+use Rattle.call_files.specs.declared.cell_input.Checked.{Checked}
 use Rattle.call_files.specs.Inputs.{CellIs, IsFile}
 use Rattle.enc_top.specs.Inputs.{IsInputOf, IsReached, OutputIs}
 use Rattle.enc_top.specs.Outcome.{IsAskedBy}

@@ -1,6 +1,6 @@
 use Rattle.std.proofs.Common.{◌<◌, subst}
 use Rattle.std.proofs.lemmas.List.{get_or_default}
-use Rattle.call_files.proofs.inputs.decode.Goals as goal
+use Rattle.call_files.proofs.cell_input.decode.Goals as goal
 
 pub returns-in-Ok-clause-writable : goal.returns-in-Ok-clause-writable
 returns-in-Ok-clause-writable c = c.decoded_cell_is_writable.ensures c.args.bytes.now c.in-Ok.cell c.in-Ok.ensures

@@ -8,7 +8,7 @@ use Rattle.export_laws.specs.ExportedCells.{IsScriptOfText}
 use Rattle.sessions.specs.Replays.{IsShortScript}
 use Rattle.call_files.specs.Inputs.{AreScripts, IsAmong, IsFile, IsReachedScript, ScriptIs, ScriptsAre, Tells}
 use Rattle.call_files.proofs.Answered.{both_told, first_bad, name_there, reached_script, scripts_more, status_of_more, tells_later}
-use Rattle.call_files.proofs.inputs.scripts_in_files.Goals as goal
+use Rattle.call_files.proofs.script_input.scripts_in_files.Goals as goal
 
 pub returns-in-Err-clause-tells : goal.returns-in-Err-clause-tells
 returns-in-Err-clause-tells g c =

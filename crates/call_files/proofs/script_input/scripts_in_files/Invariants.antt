@@ -2,7 +2,7 @@ use Rattle.std.proofs.Common.{◌≡◌, ◌≤◌, All, length, map, string_byt
 use Rattle.export_laws.specs.ExportedCells.{IsScriptOfText}
 use Rattle.sessions.specs.Replays.{IsShortScript}
 use Rattle.call_files.specs.Inputs.{AreScripts}
-use Rattle.call_files.proofs.inputs.scripts_in_files.Given as goal
+use Rattle.call_files.proofs.script_input.scripts_in_files.Given as goal
 
 abbrev pub invariant-loop-k : goal.invariant-loop-k
 invariant-loop-k g l = record {
