@@ -11,7 +11,6 @@ use Rattle.s57_types.specs.declared.name.Kind.{Kind}
 use Rattle.s57_types.specs.declared.name.Kind.TheVariants.{Vi, Vc, Ve, Fe, Head}
 use Rattle.s57_types.specs.declared.name.RecName.{RecName}
 use Rattle.s57_types.specs.declared.record.Feature.{Feature}
-use Rattle.s57_types.specs.declared.record.Partner.{Partner}
 use Rattle.s57_types.specs.declared.record.Rec.TheVariants.{V, F, H}
 use Rattle.s57_types.specs.declared.record.Spot.{Spot}
 use Rattle.s57_types.specs.declared.record.Vector.{Vector}
@@ -32,7 +31,7 @@ use Rattle.cell_spec.proofs.Ascending.{holds-ascending, same_when_sorted, sorted
 use Rattle.cell_spec.proofs.Orders.{exact_keys, total_keys}
 use Rattle.near_records.specs.Near.{answer_held, answer_to}
 use Rattle.near_records.specs.declared.near.Answer.{Answer}
-use Rattle.check_record.specs.EndKeys.{ends_found, ends_of_answer, ends_of_key, named_by}
+use Rattle.check_record.specs.EndKeys.{ends_found, ends_of_answer, ends_of_key, named_by, partner_keys}
 use Rattle.check_record.specs.Nodes.{is_node_key}
 use Rattle.cell_spec.proofs.Ascending.{any-ascending, longer_ascending}
 use Rattle.check_record.proofs.FewerPass.{fewer_pass}
@@ -65,9 +64,6 @@ edge_keys c n v h e =
 place_keys : Feature → List Key
 place_keys f = map (λ (s : Spot). Name s.to) f.places
 
-partner_keys : Feature → List Key
-partner_keys f = map (λ (p : Partner). Foid p.to) f.partners
-
 boundary_keys : Cell → Feature → List Key
 boundary_keys c f = cond (f.prim == 3) (flat_map (λ (s : Spot). end_keys_at c s.to) f.places) []
 
@@ -77,7 +73,7 @@ no_ends c n f h = ap (λ found. option_map_or end_keys (option_and_then (vector_
 -- the keys of a feature
 feature_reads : (c : Cell) (n : RecName) (f : Feature) → lookup_record c n ≡ Some (F f)
     → keys_read c (Rec n) ≡ Name n ∷ (Name head_name ∷ ((place_keys f ++ boundary_keys c f) ++ partner_keys f))
-unfolding place_keys partner_keys boundary_keys
+unfolding place_keys boundary_keys
 feature_reads c n f h = λ i. Name n ∷ (no_ends c n f h i ++ option_map_or (feature_keys c) (option_and_then feature_of (h i)) [])
 
 -- the records that a feature names are among its read set
@@ -154,11 +150,11 @@ module _ (c : Cell) (n : RecName) (f : Feature) (found : lookup_record c n ≡ S
 pub feature_set : (c : Cell) (n : RecName) (f : Feature) → lookup_record c n ≡ Some (F f) → (named : List Key)
     → named ≡ ascending key_order (Name n ∷ (Name head_name ∷ map (λ (s : Spot). Name s.to) f.places))
     → ascending key_order ((ascending key_order (cond (f.prim == 3) (flat_map (ends_of_key c) named) []) ++ named)
-    ++ map (λ (p : Partner). Foid p.to) f.partners) ≡ read_set c (Rec n)
-unfolding read_set named bounds place_keys partner_keys
+    ++ partner_keys f) ≡ read_set c (Rec n)
+unfolding read_set named bounds place_keys
 feature_set c n f found held is =
     let all = λ (named : List Key). (ascending key_order (cond (f.prim == 3) (flat_map (ends_of_key c) named) []) ++ named)
-    ++ map (λ (p : Partner). Foid p.to) f.partners in
+    ++ partner_keys f in
     let own = ascending key_order (Name n ∷ (Name head_name ∷ map (λ (s : Spot). Name s.to) f.places)) in
     ap (λ named. ascending key_order (all named)) is
     ∙ same_when_sorted key_order total_keys exact_keys (ascending key_order (all own)) (ascending key_order (keys_read c (Rec n)))

@@ -4,6 +4,7 @@ use Rattle.std.specs.Option.{option_map_or}
 use Rattle.s57_types.specs.declared.cell.Cell.{Cell}
 use Rattle.s57_types.specs.declared.name.RecName.{RecName}
 use Rattle.s57_types.specs.declared.record.Feature.{Feature}
+use Rattle.s57_types.specs.declared.record.Partner.{Partner}
 use Rattle.s57_types.specs.declared.record.Spot.{Spot}
 use Rattle.s57_types.specs.Heads.{head_name}
 use Rattle.cell_spec.specs.Ascending.{ascending}
@@ -27,6 +28,10 @@ ends_found a = option_map_or end_keys (option_and_then (vector_of is_edge_name) 
 
 abbrev pub ends_of_answer : Answer → List Key
 ends_of_answer a = ends_found (answer_held a)
+
+-- the identifiers that a feature points to
+abbrev pub partner_keys : Feature → List Key
+partner_keys f = map (λ (p : Partner). Foid p.to) f.partners
 
 -- a feature's name, the head's, and those of the records that its spatial pointers name, each once
 abbrev pub named_by : RecName → Feature → List Key

@@ -1,23 +1,21 @@
 //! The read set of a record.
 
-ghost use Rattle.std.specs.Prelude.{◌≡◌, ◌==◌, ◌++◌, [], IfOk, OnOk, Some, flat_map, if◌then◌else◌, map};
+ghost use Rattle.std.specs.Prelude.{◌≡◌, ◌==◌, ◌++◌, [], IfOk, OnOk, Some, flat_map, if◌then◌else◌};
 ghost use Rattle.s57_types.specs.declared.cell.Cell.{Cell as SpecCell};
 ghost use Rattle.s57_types.specs.declared.name.RecName.{RecName as SpecName};
-ghost use Rattle.s57_types.specs.declared.record.Partner.{Partner as SpecPartner};
 ghost use Rattle.s57_types.specs.declared.record.Rec.TheVariants.{F, V};
-ghost use Rattle.cell_spec.specs.declared.key.Key.TheVariants.{Foid as KeyFoid};
 ghost use Rattle.cell_spec.specs.declared.key.Subject.TheVariants.{Rec as SubjectRec};
 ghost use Rattle.cell_spec.specs.Ascending.{ascending};
 ghost use Rattle.cell_spec.specs.Lookup.{lookup_record};
 ghost use Rattle.cell_spec.specs.Names.{key_order};
 ghost use Rattle.rule_spec.specs.Reads.{read_set};
 ghost use Rattle.near_records.specs.Near.{IsNear};
-ghost use Rattle.check_record.specs.EndKeys.{ends_of_answer, named_by};
+ghost use Rattle.check_record.specs.EndKeys.{ends_of_answer, named_by, partner_keys};
 
 use cell_spec::{Key, Keys, ascending_keys};
 use near_records::{Answer, NearRecords};
 use read_sets::{push_end_keys, push_vector_keys};
-use s57_types::{Feature, Kind, Partner, Rec, RecName, Vector};
+use s57_types::{Feature, Kind, Rec, RecName, Vector};
 use std::alloc::{AllocError, Global};
 
 /// The read set of a node or an edge: its name, and for an edge the names of the records that its ends name.
@@ -84,10 +82,10 @@ fn boundary_keys(
 }
 
 /// Appends the identifiers of the features that a feature points to (FFPT, S-57 Part 3, 7.6.6).
-fn push_partner_keys(keys: &mut Vec<Key>, partners: &[Partner]) -> Result<(), AllocError>
-    ensures { OnOk result (keys.new.items ≡ keys.old.items ++ map (λ (p : SpecPartner). KeyFoid p.to) partners.now) }
+fn push_partner_keys(keys: &mut Vec<Key>, feature: &Feature) -> Result<(), AllocError>
+    ensures { OnOk result (keys.new.items ≡ keys.old.items ++ partner_keys feature.now) }
 {
-    for partner in partners {
+    for partner in feature.partners.as_slice() {
         keys.push(Key::Foid(partner.to))?;
     }
     Ok(())
@@ -103,13 +101,13 @@ fn gathered_keys(
 ) -> Result<Vec<Key>, AllocError>
     ensures { IfOk result (λ keys. keys.items ≡ (ascending key_order
         (if feature.now.prim == 3 then flat_map ends_of_answer answers.now else [])
-        ++ named.now) ++ map (λ (p : SpecPartner). KeyFoid p.to) feature.now.partners) }
+        ++ named.now) ++ partner_keys feature.now) }
 {
     let more = named.len().saturating_add(feature.partners.len());
     let bounds = boundary_keys(alloc, feature.prim, answers, more)?;
     let mut keys = bounds.into_vec();
     keys.extend_from_slice(named)?;
-    push_partner_keys(&mut keys, feature.partners.as_slice())?;
+    push_partner_keys(&mut keys, feature)?;
     Ok(keys)
 }
 

@@ -20,10 +20,10 @@ named_within cell n f found before after named is first =
 
 -- then all that it reads
 steps_within : (cell : Cell) (n : RecName) (f : Feature) → lookup_record cell n ≡ Some (F f) → (before between after : ℕ) (named reads : List Key)
-    → named ≡ named_by n f → reads ≡ read_set cell (Rec n) → between ≤ before + length named → after ≤ between + length reads
+    → named ≡ named_by n f → (named ≡ named_by n f → reads ≡ read_set cell (Rec n)) → between ≤ before + length named → after ≤ between + length reads
     → after + 1 ≤ before + 4 * length (read_set cell (Rec n))
 steps_within cell n f found before between after named reads named_is reads_is first then =
-    omega (arith, first, then, ap length named_is, ap length reads_is, feature_places cell n f found, some_keys cell n)
+    omega (arith, first, then, ap length named_is, ap length (reads_is named_is), feature_places cell n f found, some_keys cell n)
 
 pub returns-in_err-names-clause-steps : goal.returns-in_err-names-clause-steps
 returns-in_err-names-clause-steps g c = omega (arith, some_keys (g.B.Look.cell c.args.self.now.look.now) c.args.self.now.name)
@@ -41,21 +41,19 @@ returns-in_err-reads-clause-steps g c =
 pub gather_beside-requires : goal.gather_beside-requires
 gather_beside-requires g c = near_are_answers (g.B.Look.cell c.args.self.now.look.now) c.as_slice.result.now _ c.in_ok-known.ensures.near
 
-pub returns-in_err-near-clause-steps : goal.returns-in_err-near-clause-steps
-returns-in_err-near-clause-steps g c =
-    let cell = g.B.Look.cell c.args.self.now.look.now in
-    let named = c.as_slice.ensures ∙ c.in_ok-names.ensures in
-    steps_within cell c.args.self.now.name c.args.feature.now c.requires _ _ _ _ _ named (c.as_slice-2.ensures
-    ∙ c.in_ok-reads.ensures cell c.args.self.now.name c.requires named c.in_ok-known.ensures.near) c.gather.ensures.steps c.gather_beside.ensures.steps
-
-pub returns-clause-steps : goal.returns-clause-steps
-returns-clause-steps g c =
-    let cell = g.B.Look.cell c.args.self.now.look.now in
-    let named = c.as_slice.ensures ∙ c.in_ok-names.ensures in
-    steps_within cell c.args.self.now.name c.args.feature.now c.requires _ _ _ _ _ named (c.as_slice-2.ensures
-    ∙ c.in_ok-reads.ensures cell c.args.self.now.name c.requires named c.in_ok-known.ensures.near) c.gather.ensures.steps c.gather_beside.ensures.steps
-
 pub returns-clause-reads : goal.returns-clause-reads
 returns-clause-reads g c =
     c.in_ok-reads.ensures (g.B.Look.cell c.args.self.now.look.now) c.args.self.now.name c.requires (c.as_slice.ensures ∙ c.in_ok-names.ensures)
     c.in_ok-known.ensures.near
+
+pub returns-in_err-near-clause-steps : goal.returns-in_err-near-clause-steps
+returns-in_err-near-clause-steps g c =
+    steps_within (g.B.Look.cell c.args.self.now.look.now) c.args.self.now.name c.args.feature.now c.requires _ _ _ _ _
+    (c.as_slice.ensures ∙ c.in_ok-names.ensures) (λ named. c.as_slice-2.ensures ∙ c.in_ok-reads.ensures _ _ c.requires named c.in_ok-known.ensures.near)
+    c.gather.ensures.steps c.gather_beside.ensures.steps
+
+pub returns-clause-steps : goal.returns-clause-steps
+returns-clause-steps g c =
+    steps_within (g.B.Look.cell c.args.self.now.look.now) c.args.self.now.name c.args.feature.now c.requires _ _ _ _ _
+    (c.as_slice.ensures ∙ c.in_ok-names.ensures) (λ named. c.as_slice-2.ensures ∙ c.in_ok-reads.ensures _ _ c.requires named c.in_ok-known.ensures.near)
+    c.gather.ensures.steps c.gather_beside.ensures.steps
