@@ -13,7 +13,7 @@ use Rattle.script_text.specs.Items.{with_letter, AreItemsOf}
 use Rattle.script_text.specs.Widths.{IsFeatureOfWidth}
 use Rattle.script_text.specs.declared.items.RecordItems.{RecordItems}
 use Rattle.script_text.proofs.Frees.{feature_items, without_feature_items}
-use Rattle.script_text.proofs.Items.{each_begins, none_begins, four}
+use Rattle.script_text.proofs.ItemWords.{each_begins, none_begins, four}
 
 abbrev pub feature_with : RecName → ℕ → ℕ → ℕ → ℕ → Lnam → List Attr → List Attr → List Partner → List Spot → Feature
 feature_with name prim grup objl rver foid attf natf partners places =

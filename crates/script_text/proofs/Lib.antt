@@ -1,7 +1,7 @@
 pub mod Cuts
 pub mod Words
 pub mod Texts
-pub mod Items
+pub mod ItemWords
 pub mod Frees
 pub mod Vectors
 pub mod Features

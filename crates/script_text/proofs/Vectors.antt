@@ -11,7 +11,7 @@ use Rattle.script_text.specs.Items.{with_letter, AreItemsOf}
 use Rattle.script_text.specs.Widths.{IsVectorOfWidth}
 use Rattle.script_text.specs.declared.items.RecordItems.{RecordItems}
 use Rattle.script_text.proofs.Frees.{vector_items, without_vector_items}
-use Rattle.script_text.proofs.Items.{each_begins, none_begins, four}
+use Rattle.script_text.proofs.ItemWords.{each_begins, none_begins, four}
 
 abbrev pub vector_with : RecName → ℕ → List Attr → List End → List (ℤ × ℤ) → List (ℤ × ℤ × ℤ) → Vector
 vector_with name rver attrs ends plane deep = record { name = name; rver = rver; attrs = attrs; ends = ends; plane = plane; deep = deep }

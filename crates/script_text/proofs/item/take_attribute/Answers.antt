@@ -1,7 +1,7 @@
 use Rattle.std.proofs.Common.{[], ◌∷◌, drop, sym, ap}
 use Rattle.text_spec.specs.EditLine.{attribute_item}
 use Rattle.script_text.specs.Widths.{IsAttributeOfWidth}
-use Rattle.script_text.proofs.Items.{grown}
+use Rattle.script_text.proofs.ItemWords.{grown}
 use Rattle.script_text.proofs.item.take_attribute.Goals as goal
 
 pub returns-in_ok-attribute_of-in-Some : goal.returns-in_ok-attribute_of-in-Some

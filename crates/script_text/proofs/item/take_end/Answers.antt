@@ -1,7 +1,7 @@
 use Rattle.std.proofs.Common.{sym}
 use Rattle.text_spec.specs.EditLine.{end_item}
 use Rattle.script_text.specs.Widths.{IsEndOfWidth}
-use Rattle.script_text.proofs.Items.{grown}
+use Rattle.script_text.proofs.ItemWords.{grown}
 use Rattle.script_text.proofs.item.take_end.Goals as goal
 
 pub returns-in-Some : goal.returns-in-Some

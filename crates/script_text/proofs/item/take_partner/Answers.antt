@@ -1,7 +1,7 @@
 use Rattle.std.proofs.Common.{sym}
 use Rattle.text_spec.specs.EditLine.{partner_item}
 use Rattle.script_text.specs.Widths.{IsPartnerOfWidth}
-use Rattle.script_text.proofs.Items.{grown}
+use Rattle.script_text.proofs.ItemWords.{grown}
 use Rattle.script_text.proofs.item.take_partner.Goals as goal
 
 pub returns-in_ok-partner_of-in-Some : goal.returns-in_ok-partner_of-in-Some

@@ -1,7 +1,7 @@
 use Rattle.std.proofs.Common.{◌++◌, ◌∷◌, [], codes, sym}
 use Rattle.text_spec.specs.EditLine.{attribute_item, deep_item, end_item, partner_item, place_item, plane_item}
 use Rattle.script_text.specs.Widths.{IsAttributeOfWidth, IsEndOfWidth, IsPartnerOfWidth, IsPlaceOfWidth, IsPointOfWidth, IsSoundingOfWidth}
-use Rattle.script_text.proofs.Items.{none, cut_none, cut_step_if, cut_end_if}
+use Rattle.script_text.proofs.ItemWords.{none, cut_none, cut_step_if, cut_end_if}
 use Rattle.script_text.proofs.items.items_of.Goals as goal
 
 pub loop-rest-init : goal.loop-rest-init

@@ -1,6 +1,6 @@
 use Rattle.std.proofs.Common.{ℕ, List, length}
 use Rattle.script_text.specs.Items.{AreItems}
-use Rattle.script_text.proofs.Items.{IsCutTo}
+use Rattle.script_text.proofs.ItemWords.{IsCutTo}
 use Rattle.script_text.proofs.items.items_of.Given as goal
 
 abbrev pub invariant-loop-rest : goal.invariant-loop-rest

@@ -10,7 +10,7 @@ returns-clause-row g c =
       subject = refl;
       findings =
           c.of_vec.ensures
-          ∙ c.in_ok-findings.ensures cell name c.in_ok-near_feature.reads c.in_ok-near_feature.ensures.near c.in_ok-near_feature.ensures.reads c.requires
+          ∙ c.in_ok-findings.ensures cell name _ c.in_ok-reads.ensures.near c.in_ok-reads.ensures.reads c.requires
           ∙ sym (feature_found cell name c.args.feature.now c.requires);
-      reads = c.in_ok-near_feature.ensures.reads;
+      reads = c.in_ok-reads.ensures.reads;
     }

@@ -31,29 +31,29 @@ returns-in_err-names-clause-steps g c = omega (arith, some_keys (g.B.Look.cell c
 pub returns-in_err-known-clause-steps : goal.returns-in_err-known-clause-steps
 returns-in_err-known-clause-steps g c =
     named_within (g.B.Look.cell c.args.self.now.look.now) c.args.self.now.name c.args.feature.now c.requires _ _ _
-    (c.as_slice.ensures ∙ c.in_ok-names.ensures) c.gather.ensures.steps
+    (c.as_slice-named.ensures ∙ c.in_ok-names.ensures) c.gather.ensures.steps
 
 pub returns-in_err-reads-clause-steps : goal.returns-in_err-reads-clause-steps
 returns-in_err-reads-clause-steps g c =
     named_within (g.B.Look.cell c.args.self.now.look.now) c.args.self.now.name c.args.feature.now c.requires _ _ _
-    (c.as_slice.ensures ∙ c.in_ok-names.ensures) c.gather.ensures.steps
+    (c.as_slice-named.ensures ∙ c.in_ok-names.ensures) c.gather.ensures.steps
 
 pub gather_beside-requires : goal.gather_beside-requires
-gather_beside-requires g c = near_are_answers (g.B.Look.cell c.args.self.now.look.now) c.as_slice.result.now _ c.in_ok-known.ensures.near
+gather_beside-requires g c = near_are_answers (g.B.Look.cell c.args.self.now.look.now) c.as_slice-named.result.now _ c.in_ok-known.ensures.near
 
 pub returns-clause-reads : goal.returns-clause-reads
 returns-clause-reads g c =
-    c.in_ok-reads.ensures (g.B.Look.cell c.args.self.now.look.now) c.args.self.now.name c.requires (c.as_slice.ensures ∙ c.in_ok-names.ensures)
+    c.in_ok-reads.ensures (g.B.Look.cell c.args.self.now.look.now) c.args.self.now.name c.requires (c.as_slice-named.ensures ∙ c.in_ok-names.ensures)
     c.in_ok-known.ensures.near
 
 pub returns-in_err-near-clause-steps : goal.returns-in_err-near-clause-steps
 returns-in_err-near-clause-steps g c =
     steps_within (g.B.Look.cell c.args.self.now.look.now) c.args.self.now.name c.args.feature.now c.requires _ _ _ _ _
-    (c.as_slice.ensures ∙ c.in_ok-names.ensures) (λ named. c.as_slice-2.ensures ∙ c.in_ok-reads.ensures _ _ c.requires named c.in_ok-known.ensures.near)
+    (c.as_slice-named.ensures ∙ c.in_ok-names.ensures) (λ named. c.as_slice.ensures ∙ c.in_ok-reads.ensures _ _ c.requires named c.in_ok-known.ensures.near)
     c.gather.ensures.steps c.gather_beside.ensures.steps
 
 pub returns-clause-steps : goal.returns-clause-steps
 returns-clause-steps g c =
     steps_within (g.B.Look.cell c.args.self.now.look.now) c.args.self.now.name c.args.feature.now c.requires _ _ _ _ _
-    (c.as_slice.ensures ∙ c.in_ok-names.ensures) (λ named. c.as_slice-2.ensures ∙ c.in_ok-reads.ensures _ _ c.requires named c.in_ok-known.ensures.near)
+    (c.as_slice-named.ensures ∙ c.in_ok-names.ensures) (λ named. c.as_slice.ensures ∙ c.in_ok-reads.ensures _ _ c.requires named c.in_ok-known.ensures.near)
     c.gather.ensures.steps c.gather_beside.ensures.steps
