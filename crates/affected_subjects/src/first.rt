@@ -63,7 +63,7 @@ pub(crate) fn first_round(
 ) -> Result<Considered, AllocError>
     ensures { IfOk result (λ set. set ≡ first_of map.now keys.now) }
 {
-    let mut set = Considered::none(alloc);
+    let mut set = Considered::none(alloc)?;
     for key in keys {
         add_looked_at(&mut set, map, *key)?;
     }

@@ -1,6 +1,6 @@
 //! Subjects in the order in which they are looked at first, each once.
 
-ghost use Rattle.std.specs.Prelude.{◌≡◌, ◌≤◌, [], MatchResult, OnOk, false, length, true};
+ghost use Rattle.std.specs.Prelude.{◌≡◌, ◌≤◌, [], IfOk, MatchResult, OnOk, false, length, true};
 ghost use Rattle.std.specs.List.{insert, list_any};
 ghost use Rattle.std.specs.List.Sorted.{IsStrictlySortedBy};
 ghost use Rattle.cell_spec.specs.Names.{same_subject, subject_order};
@@ -13,6 +13,9 @@ use std::marker::Model;
 
 // How many subjects stand in a list in order before others go into a tree. A search in a short list is cheaper, a put into a long one dearer.
 const FEW: usize = 256;
+
+// How many subjects there is room for from the start: a commit of one node or edge mostly reaches no more.
+const ROOM: usize = 128;
 
 /// Subjects in the order in which they were added first. They are seen as their list, and know what is there by the first few in order and
 /// by a tree of the others, so that no file makes them slow by the numbers of its records.
@@ -61,15 +64,17 @@ fn place_in(subjects: &[Subject], subject: Subject) -> Result<usize, usize>
 }
 
 impl Considered {
-    /// No subject.
-    pub(crate) fn none(alloc: Global) -> Considered
-        ensures { result ≡ [] }
+    /// No subject, and room for some.
+    ///
+    /// An `Err` is out of memory.
+    pub(crate) fn none(alloc: Global) -> Result<Considered, AllocError>
+        ensures { IfOk result (λ considered. considered ≡ []) }
     {
-        Considered {
-            list: Vec::new(alloc),
-            few: Vec::new(alloc),
+        Ok(Considered {
+            list: Vec::with_capacity(alloc, ROOM)?,
+            few: Vec::with_capacity(alloc, ROOM)?,
             more: BTreeSet::new(alloc),
-        }
+        })
     }
 
     /// Puts a subject behind the others, unless it is there.

@@ -102,7 +102,7 @@ fn asked(
     ensures judged { IfOk result (λ parts. parts.0.items ≡ filter (is_subject edited.now) subjects.now) }
     ensures gone { IfOk result (λ parts. parts.1.items ≡ filter (λ s. not (is_subject edited.now s)) subjects.now) }
 {
-    let mut judged = Vec::new(alloc);
+    let mut judged = Vec::with_capacity(alloc, subjects.len())?;
     let mut gone = Vec::new(alloc);
     for subject in subjects {
         if edited.has(*subject) {

@@ -5,4 +5,4 @@ use Rattle.affected_subjects.proofs.Placed.{none_sorted}
 use Rattle.affected_subjects.proofs.once.Considered.none.Goals as goal
 
 pub invariant_of-result : goal.invariant_of-result
-invariant_of-result c = (subst (IsStrictlySortedBy subject_order) (sym c.new-2.ensures.items) none_sorted, λ s. search rules)
+invariant_of-result c = (subst (IsStrictlySortedBy subject_order) (sym c.in_ok-with_capacity-2.ensures.items) none_sorted, λ s. search rules)
