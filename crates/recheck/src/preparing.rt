@@ -22,12 +22,12 @@ use subject_rows::part_names;
 
 /// Edits on the bench on which they are prepared.
 #[derive(Clone, Copy)]
-struct Proposal<'a> {
+struct Proposal<'a, 'b> {
     bench: &'a Bench,
-    edits: &'a EditSet,
+    edits: &'b EditSet,
 }
 
-impl<'a> Proposal<'a> {
+impl<'a, 'b> Proposal<'a, 'b> {
     /// The rows of the affected subjects of the cell that edits leave.
     fn rows_after<R: Threads + Sync, L: Ledger>(
         &self,

@@ -27,12 +27,12 @@ use update_spec::UpdateFault;
 
 /// An update file, with the cell that it is read against.
 #[derive(Drop)]
-struct Update<'a> {
+struct Update<'a, 'b, 'c> {
     alloc: Global,
-    cell: &'a Cell,
+    cell: &'b Cell,
     /// A look into the cell.
-    look: &'a ListLook<'a>,
-    bytes: &'a [u8],
+    look: &'a ListLook<'b>,
+    bytes: &'c [u8],
 }
 
 /// The refusal of a record whose frame has a fault.
@@ -59,7 +59,7 @@ fn with_edit(earlier: Earlier, edit: Option<Edit>) -> Result<Earlier, AllocError
 
 /// Earlier edits with that of the record of a number, which begins at a place, and the record's length.
 fn read_next(
-    update: &Update<'_>,
+    update: &Update<'_, '_, '_>,
     level: u8,
     number: u32,
     at: usize,
@@ -93,7 +93,11 @@ fn read_next(
 }
 
 /// The edits of the records from a place on, which are those from number 3 on.
-fn read_following(update: &Update<'_>, level: u8, start: usize) -> Result<Earlier, UpdateRefusal>
+fn read_following(
+    update: &Update<'_, '_, '_>,
+    level: u8,
+    start: usize,
+) -> Result<Earlier, UpdateRefusal>
     requires look { update.now.look.now ≡ update.now.cell.now }
     requires within { start ≤ length update.now.bytes.now }
     requires small { length update.now.bytes.now ≤ 16777216 }
@@ -138,7 +142,7 @@ fn identification_at(
 
 /// The edits of the records behind the identification, which begin at a place, and that of the head.
 fn read_behind(
-    update: &Update<'_>,
+    update: &Update<'_, '_, '_>,
     edit: HeadEdit,
     level: u8,
     at: usize,
@@ -155,7 +159,7 @@ fn read_behind(
 }
 
 /// The edits of the data records, which begin at a place.
-fn read_data(update: &Update<'_>, at: usize) -> Result<Earlier, UpdateRefusal>
+fn read_data(update: &Update<'_, '_, '_>, at: usize) -> Result<Earlier, UpdateRefusal>
     requires look { update.now.look.now ≡ update.now.cell.now }
     requires within { at ≤ length update.now.bytes.now }
     requires small { length update.now.bytes.now ≤ 16777216 }
@@ -168,7 +172,7 @@ fn read_data(update: &Update<'_>, at: usize) -> Result<Earlier, UpdateRefusal>
 }
 
 /// The edits of an update file of at most 16,777,216 bytes, or its first fault.
-fn read_edits(update: &Update<'_>) -> Result<Earlier, UpdateRefusal>
+fn read_edits(update: &Update<'_, '_, '_>) -> Result<Earlier, UpdateRefusal>
     requires look { update.now.look.now ≡ update.now.cell.now }
     requires small { length update.now.bytes.now ≤ 16777216 }
     ensures { GivesFile result (edits_of_update update.now.cell.now update.now.bytes.now) }
