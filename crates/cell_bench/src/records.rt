@@ -102,13 +102,25 @@ fn is_head_edit(edit: &Edit) -> bool
 fn additions(edits: &[Edit]) -> usize
     ensures { result ≡ count_by spec_is_addition edits.now }
 {
-    edits.iter().filter(|edit| is_addition(edit)).count()
+    let mut count = 0;
+    for edit in edits {
+        if is_addition(edit) {
+            count += 1;
+        }
+    }
+    count
 }
 
 fn deletions(edits: &[Edit]) -> usize
     ensures { result ≡ count_by spec_is_deletion edits.now }
 {
-    edits.iter().filter(|edit| is_deletion(edit)).count()
+    let mut count = 0;
+    for edit in edits {
+        if is_deletion(edit) {
+            count += 1;
+        }
+    }
+    count
 }
 
 fn has_head_edit(edits: &[Edit]) -> bool

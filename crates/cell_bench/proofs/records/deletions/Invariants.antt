@@ -1,0 +1,6 @@
+use Rattle.std.proofs.Common.{◌≡◌, ◌≤◌, count_by, take}
+use Rattle.answer_laws.specs.EditedCells.{is_deletion}
+use Rattle.cell_bench.proofs.records.deletions.Given as goal
+
+abbrev pub invariant-loop-edit : goal.invariant-loop-edit
+invariant-loop-edit l = (l.count ≡ count_by is_deletion (take l.edit-index l.edits)) × (l.count ≤ l.edit-index)
