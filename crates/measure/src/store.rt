@@ -131,15 +131,21 @@ fn change<L: Ledger>(
     Ok(last)
 }
 
+/// Changes a store by one set after the other, and holds the last stores before.
 fn change_all<L: Ledger>(
     alloc: Global,
     store: &mut RecordStore,
     sets: &[EditSet],
     held: &mut [RecordStore],
-    steps: &mut Steps<L>,
-) -> Result<(), AllocError> {
+    blank: Blank,
+) -> Result<(), AllocError>
+    requires name { blank.name ≡ L.name }
+    requires parts { blank.parts ≡ L.parts }
+    requires some_part { 0 < L.parts }
+{
+    let mut steps = start_counter::<L>(blank);
     for round in 0..sets.len() {
-        let last = change(alloc, store, &sets[round], steps)?;
+        let last = change(alloc, store, &sets[round], &mut steps)?;
         hold(held, round, last);
     }
     Ok(())
@@ -164,23 +170,6 @@ fn sum_of_copies(alloc: Global, store: &RecordStore) -> Result<u64, AllocError> 
     Ok(sum)
 }
 
-fn sum_of_plans<L: Ledger>(
-    alloc: Global,
-    store: &mut RecordStore,
-    sets: &[EditSet],
-    held: usize,
-    blank: Blank,
-) -> Result<u64, AllocError>
-    requires name { blank.name ≡ L.name }
-    requires parts { blank.parts ≡ L.parts }
-    requires some_part { 0 < L.parts }
-{
-    let mut steps = start_counter::<L>(blank);
-    let mut held = copies_of(alloc, store, held)?;
-    change_all(alloc, store, sets, &mut held, &mut steps)?;
-    Ok(sum_of_records(store))
-}
-
 fn outcome_of_sets(
     alloc: Global,
     work: Work,
@@ -190,7 +179,9 @@ fn outcome_of_sets(
     let sets = sets_of(alloc, size, store.head().nall)?;
     match work {
         Work::Plans { held } => {
-            sum_of_plans::<Brand>(alloc, &mut store, &sets, held, Blank::new(1))
+            let mut held = copies_of(alloc, &store, held)?;
+            change_all::<Brand>(alloc, &mut store, &sets, &mut held, Blank::new(1))?;
+            Ok(sum_of_records(&store))
         }
         _ => Ok(sum_of_records(&store).wrapping_add(sets.len() as u64)),
     }
