@@ -10,14 +10,13 @@ ghost use Rattle.record_store.specs.Stores.{ArePut, ListIsPut, list_in, names_af
 use cell_spec::{Key, Names, Ref, Refs, orders_are_by_parts};
 use chain_topo::Groups;
 use edit_answers::EditAnswers;
-use name_table::NameTable;
 use s57_types::{Lnam, RecName};
 use shared_table::{Shared, SharedTable};
 use std::alloc::{AllocError, Global};
 
 /// The pointers to names and the bearers of identifiers, each in a table. No list is empty.
 pub(crate) struct Answers {
-    pub(crate) pointers: NameTable<Shared<Refs>>,
+    pub(crate) pointers: SharedTable<RecName, Shared<Refs>>,
     pub(crate) bearers: SharedTable<Lnam, Shared<Names>>,
 }
 
@@ -37,7 +36,7 @@ impl Answers {
         ensures bearers { result.bearers ≡ [] }
     {
         Answers {
-            pointers: NameTable::make(),
+            pointers: SharedTable::make(),
             bearers: SharedTable::make(),
         }
     }
@@ -56,7 +55,8 @@ impl Answers {
     pub(crate) fn refs(&self, name: RecName) -> &[Ref]
         ensures { result.now ≡ list_in (value_of name_order self.now.pointers name) }
     {
-        match self.pointers.get(name) {
+        orders_are_by_parts();
+        match self.pointers.get(&name) {
             Some(refs) => refs.as_slice(),
             None => &[],
         }
@@ -83,10 +83,11 @@ impl Answers {
         ensures pointers { OnOk result (ListIsPut name_order name refs self.old.pointers self.new.pointers) }
         ensures bearers { self.new.bearers ≡ self.old.bearers }
     {
-        // The names ascend, so that each has one row.
-        self.pointers.known();
+        orders_are_by_parts();
+        // The rows ascend, so that each name has one.
+        let _count = self.pointers.len();
         if refs.is_empty() {
-            return self.pointers.take(alloc, name);
+            return self.pointers.take(alloc, &name);
         }
         self.pointers.put(alloc, name, Shared::make(alloc, refs)?)
     }

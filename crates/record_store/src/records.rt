@@ -15,12 +15,11 @@ ghost use Rattle.answer_laws.specs.EditedAnswers.{FindTheirRecords};
 use crate::file_lists::{FileList, FileLists};
 use crate::walk::Walk;
 use answer_laws::edits_add_up;
-use cell_spec::Edit;
+use cell_spec::{Edit, orders_are_by_parts};
 use check_words::name_of;
 use edit_answers::edits_leave_their_records;
-use name_table::NameTable;
 use s57_types::{Cell, Duplicate, Head, HeadEdit, Kind, Rec, RecName, Recs};
-use shared_table::Shared;
+use shared_table::{Shared, SharedTable};
 use std::alloc::{AllocError, Global};
 use std::marker::Model;
 
@@ -46,7 +45,7 @@ pub(crate) struct Records {
     head: Shared<Head>,
     /// The head again, as the answer to its name.
     named_head: Shared<Rec>,
-    names: NameTable<Held>,
+    names: SharedTable<RecName, Held>,
     lists: FileLists,
 }
 
@@ -72,7 +71,7 @@ impl Records {
         Ok(Records {
             head: Shared::make(alloc, head)?,
             named_head: Shared::make(alloc, named_head)?,
-            names: NameTable::make(),
+            names: SharedTable::make(),
             lists: FileLists::make(),
         })
     }
@@ -148,6 +147,7 @@ impl Records {
         requires left { left_by edit.now ≡ Some rec }
         ensures { IfOk result (λ records. records ≡ apply_edits (edit.now ∷ []) self) }
     {
+        orders_are_by_parts();
         edits_leave_their_records();
         let name = name_of(&rec);
         let Records {
@@ -174,6 +174,7 @@ impl Records {
         requires deletes { edit.now ≡ Del name }
         ensures { IfOk result (λ records. records ≡ apply_edits (edit.now ∷ []) self) }
     {
+        orders_are_by_parts();
         edits_leave_their_records();
         let Records {
             head,
@@ -184,9 +185,9 @@ impl Records {
         lists.known();
         let place = place_for(&names, &lists, name)?;
         // The names ascend, so that each stands once.
-        names.known();
+        let _count = names.len();
         lists.take(alloc, name.kind, place)?;
-        names.take(alloc, name)?;
+        names.take(alloc, &name)?;
         Ok(Records {
             head,
             named_head,
@@ -287,10 +288,11 @@ fn all_of(vi: Recs, vc: Recs, ve: Recs, fe: Recs) -> Result<Vec<Rec>, AllocError
 }
 
 // The record of a name among those that are held.
-fn find(names: &NameTable<Held>, name: RecName) -> Option<&Rec>
+fn find(names: &SharedTable<RecName, Held>, name: RecName) -> Option<&Rec>
     ensures { option_copied result ≡ option_map (λ (h : SpecHeld). h.rec) (value_of name_order names.now name) }
 {
-    match names.get(name) {
+    orders_are_by_parts();
+    match names.get(&name) {
         Some(held) => Some(&held.rec),
         None => None,
     }
@@ -315,10 +317,15 @@ fn rec_of(row: &(u64, Shared<Rec>)) -> &Rec
 }
 
 // The number of the record of a name in the list of its kind, or one behind all.
-fn place_for(names: &NameTable<Held>, lists: &FileLists, name: RecName) -> Result<u64, AllocError>
+fn place_for(
+    names: &SharedTable<RecName, Held>,
+    lists: &FileLists,
+    name: RecName,
+) -> Result<u64, AllocError>
     ensures { IfOk result (λ place. IsPlaceFor (value_of name_order names.now name) (rows_of name.kind lists.now) place) }
 {
-    match names.get(name) {
+    orders_are_by_parts();
+    match names.get(&name) {
         Some(held) => Ok(held.place),
         None => lists.next_place(name.kind),
     }

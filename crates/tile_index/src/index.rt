@@ -12,23 +12,22 @@ ghost use Rattle.tile_index.specs.Tilings.{Tile as SpecTile, is_near, is_under, 
 
 use crate::change::TileChange;
 use crate::cover::Cover;
-use crate::mates::{names_under, without};
+use crate::mates::{names_under, push_names, without};
 use crate::range::Tile;
 use cell_spec::{Names, ascending_names, orders_are_by_parts};
 use geometry_spec::Box4;
-use name_table::NameTable;
 use pair_set::PairSet;
 use s57_types::{Duplicate, RecName};
-use shared_table::Shared;
+use shared_table::{Shared, SharedTable};
 use std::alloc::{AllocError, Global};
 use std::marker::Model;
 
 /// The tiles under connected nodes and edges, seen as rows of a name and its covering, in ascending order of the names. Copies share what
 /// they hold, and a change of one of two leaves the other as it is.
 pub struct TileIndex {
-    kept: NameTable<Shared<Cover>>,
+    kept: SharedTable<RecName, Shared<Cover>>,
     in_tiles: PairSet<Tile, RecName>,
-    oversized: NameTable<()>,
+    oversized: SharedTable<RecName, ()>,
 }
 
 impl Drop for TileIndex {
@@ -92,9 +91,9 @@ impl TileIndex {
         ensures { result ≡ [] }
     {
         TileIndex {
-            kept: NameTable::make(),
+            kept: SharedTable::make(),
             in_tiles: PairSet::make(),
-            oversized: NameTable::make(),
+            oversized: SharedTable::make(),
         }
     }
 
@@ -103,9 +102,10 @@ impl TileIndex {
     pub fn mates(&self, alloc: Global, name: RecName) -> Result<Names, AllocError>
         ensures { IfOk result (λ names. names ≡ mates_in self.now name) }
     {
-        // The names ascend.
-        self.kept.known();
-        let Some(own) = self.kept.get(name) else {
+        orders_are_by_parts();
+        // The rows ascend.
+        let _count = self.kept.len();
+        let Some(own) = self.kept.get(&name) else {
             return Ok(Names::make(alloc));
         };
         let near = self.near(alloc, own)?;
@@ -128,7 +128,8 @@ impl TileIndex {
     pub fn extent(&self, name: RecName) -> Option<Box4>
         ensures { result ≡ option_and_then (λ (covering : Covering). covering.extent) (value_of name_order self.now name) }
     {
-        self.kept.get(name)?.extent()
+        orders_are_by_parts();
+        self.kept.get(&name)?.extent()
     }
 
     /// The index after some changes, one after the other. It takes all memory that they need, and an `Err` means that there isn't enough.
@@ -181,11 +182,11 @@ impl TileIndex {
     {
         if own.is_oversized() {
             let mut names = Vec::new(alloc);
-            self.kept.push_names(&mut names)?;
+            push_names(&mut names, &self.kept)?;
             return Ok(names);
         }
         let mut names = names_under(alloc, &self.in_tiles, &own.tiles(alloc)?)?;
-        self.oversized.push_names(&mut names)?;
+        push_names(&mut names, &self.oversized)?;
         Ok(names)
     }
 
@@ -193,7 +194,8 @@ impl TileIndex {
     fn has_ranges_of(&self, name: RecName, cover: &Cover) -> bool
         ensures { result ≡ true → ranges_at self.now name ≡ Some cover.now.ranges }
     {
-        match self.kept.get(name) {
+        orders_are_by_parts();
+        match self.kept.get(&name) {
             Some(own) => own.has_ranges_of(cover),
             None => false,
         }
@@ -203,7 +205,8 @@ impl TileIndex {
     fn has(&self, name: RecName) -> bool
         ensures { result ≡ is_some (value_of name_order self.now name) }
     {
-        self.kept.get(name).is_some()
+        orders_are_by_parts();
+        self.kept.get(&name).is_some()
     }
 
     // The index after a change.
@@ -260,13 +263,14 @@ impl TileIndex {
         ensures index { IfOk result (λ index. index ≡ with_row name_order self name cover) }
         ensures ranges { IfOk result (λ index. ranges_in index ≡ ranges_in self) }
     {
+        orders_are_by_parts();
         let TileIndex {
             mut kept,
             in_tiles,
             oversized,
         } = self;
-        // The names ascend.
-        kept.known();
+        // The rows ascend.
+        let _count = kept.len();
         kept.put(alloc, name, Shared::make(alloc, cover)?)?;
         Ok(TileIndex {
             kept,
@@ -306,12 +310,12 @@ impl TileIndex {
             mut in_tiles,
             mut oversized,
         } = self;
-        // The names ascend, so that this one has one row.
-        kept.known();
+        // The rows ascend, so that the name has one.
+        let _count = kept.len();
         let old = tiles_at(alloc, &kept, name)?;
         in_tiles.replace(alloc, name, &old, &[])?;
         mark(alloc, &mut oversized, name, false)?;
-        kept.take(alloc, name)?;
+        kept.take(alloc, &name)?;
         Ok(TileIndex {
             kept,
             in_tiles,
@@ -344,12 +348,13 @@ fn covering_given(alloc: Global, change: &TileChange) -> Result<Option<Cover>, A
 // The tiles that a name stands with, none of an oversized one.
 fn tiles_at(
     alloc: Global,
-    kept: &NameTable<Shared<Cover>>,
+    kept: &SharedTable<RecName, Shared<Cover>>,
     name: RecName,
 ) -> Result<Vec<Tile>, AllocError>
     ensures { IfOk result (λ tiles. (t : SpecTile) → is_among tile_order tiles.items t ≡ is_under kept.now t name) }
 {
-    match kept.get(name) {
+    orders_are_by_parts();
+    match kept.get(&name) {
         Some(cover) => cover.tiles(alloc),
         None => Ok(Vec::new(alloc)),
     }
@@ -358,18 +363,19 @@ fn tiles_at(
 // Puts a name among the oversized ones, or takes it out.
 fn mark(
     alloc: Global,
-    oversized: &mut NameTable<()>,
+    oversized: &mut SharedTable<RecName, ()>,
     name: RecName,
     is: bool,
 ) -> Result<(), AllocError>
     ensures { OnOk result ((n : SpecRecName) → is_some (value_of name_order oversized.new n)
         ≡ (if is_eq (name_order name n) then is else is_some (value_of name_order oversized.old n))) }
 {
-    // The names ascend, so that this one stands there once.
-    oversized.known();
+    orders_are_by_parts();
+    // The rows ascend, so that the name stands there once.
+    let _count = oversized.len();
     if is {
         oversized.put(alloc, name, ())
     } else {
-        oversized.take(alloc, name)
+        oversized.take(alloc, &name)
     }
 }

@@ -1,7 +1,8 @@
 //! Names that are gathered from tiles.
 
-ghost use Rattle.std.specs.Prelude.{◌≡◌, ◌||◌, IfOk, OnOk, filter, not};
+ghost use Rattle.std.specs.Prelude.{◌≡◌, ◌||◌, ◌++◌, IfOk, OnOk, filter, not};
 ghost use Rattle.std.specs.List.{list_any};
+ghost use Rattle.std.specs.Map.{keys_of};
 ghost use Rattle.s57_types.specs.declared.name.RecName.{RecName as SpecRecName};
 ghost use Rattle.cell_spec.specs.Names.{name_order};
 ghost use Rattle.std.specs.Ordering.{is_eq};
@@ -12,6 +13,7 @@ use crate::range::Tile;
 use cell_spec::orders_are_by_parts;
 use pair_set::PairSet;
 use s57_types::{Kind, RecName};
+use shared_table::SharedTable;
 use std::alloc::{AllocError, Global};
 
 // No name is below this one.
@@ -22,6 +24,19 @@ const LEAST: RecName = RecName {
 
 /// A name has mostly fewer mates than this in the tiles under it, so that their list seldom grows.
 const ROOM: usize = 64;
+
+/// Appends the names of rows.
+pub(crate) fn push_names<V: Drop>(
+    names: &mut Vec<RecName>,
+    rows: &SharedTable<RecName, V>,
+) -> Result<(), AllocError>
+    ensures { OnOk result (names.new.items ≡ names.old.items ++ keys_of rows.now) }
+{
+    for row in rows.rows() {
+        names.push(row.0)?;
+    }
+    Ok(())
+}
 
 // Appends the names under a tile.
 fn push_under(

@@ -1,5 +1,7 @@
-use Rattle.std.proofs.Common.{◌≡◌, [], ◌∷◌, sym, ap, subst, ◌∙◌}
+use Rattle.std.proofs.Common.{◌≡◌, [], ◌∷◌, List, sym, ap, subst, ◌∙◌}
 use Rattle.std.specs.Ordering.{nat_cmp}
+use Rattle.std.specs.declared.cmp.Ordering.{Ordering}
+use Rattle.s57_types.specs.declared.name.RecName.{RecName}
 use Rattle.s57_types.specs.declared.record.Rec.{Rec}
 use Rattle.cell_spec.specs.Edits.{apply_edits}
 use Rattle.cell_spec.specs.Lookup.{name_of}
@@ -33,7 +35,9 @@ invariant_of-result c =
     let lists = c.in_ok-put.ensures ∙ (λ i. with_rows (name i).kind
     (with_row nat_cmp (rows_of (name i).kind inside.lists) place (c.in_ok-copy.ensures i)) inside.lists) in
     let held : Held = record { place = place; rec = rec } in
-    let names = c.in_ok-put-2.ensures.ok ∙ ap (λ n. with_row name_order inside.names n held) name in
+    let put = subst (λ (order : RecName → RecName → Ordering). c.put-2.new.self ≡ with_row order inside.names c.name_of-name.result held)
+    (λ i a b. c.orders_are_by_parts.ensures.names a b i) c.in_ok-put-2.ensures.ok in
+    let names = put ∙ ap (λ n. with_row name_order inside.names n held) name in
     let fit = subst (FindTheirRecords (c.args.edit.now ∷ [])) (sym c.self.view_is) c.requires.found in
     let cell = cell_put c.args.edit.now inside.head inside.names inside.lists fit c.self.invariant.0 c.known.ensures
     c.edits_leave_their_records.ensures rec c.requires.left place at in

@@ -19,11 +19,12 @@ invariant_of-result c =
     let name = c.args.name in
     let pairs = c.self.inside.in_tiles in
     let tiles = c.deref-2.result.now in
+    let put = subst (λ (order : RecName → RecName → Ordering). c.put.new.self ≡ with_row order rows name c.in_ok-make.field-0)
+    (λ i a b. c.orders_are_by_parts.ensures.names a b i) c.in_ok-put.ensures.ok in
     let replaced = subst (λ (order : RecName → RecName → Ordering). (t : Tile) (n : RecName) → has_pair tile_order order c.replace.new.self t n
     ≡ cond (is_eq (order name n)) (is_among tile_order tiles t) (has_pair tile_order order pairs t n))
     (λ i a b. c.orders_are_by_parts.ensures.names a b i) c.in_ok-replace.ensures in
-    subst (λ those. IsTiling those c.replace.new.self c.mark.new.oversized)
-    (sym (c.in_ok-put.ensures.ok ∙ ap (with_row name_order rows name) c.in_ok-make.ensures))
+    subst (λ those. IsTiling those c.replace.new.self c.mark.new.oversized) (sym (put ∙ ap (with_row name_order rows name) c.in_ok-make.ensures))
     (put_covering rows pairs c.replace.new.self c.self.inside.oversized c.mark.new.oversized name c.self.invariant c.args.cover
     c.in_ok-tiles.ensures.ranges
     (λ t n. replaced t n
