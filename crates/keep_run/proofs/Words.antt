@@ -1,5 +1,5 @@
 -- The form of the words of a session over a journal.
-use Rattle.std.proofs.Common.{◌≡◌, ◌<◌, ◌≤◌, Bool, true, false, List, [], ◌∷◌, Option, None, Some, String, Global, length, map, get_or, codes, cond}
+use Rattle.std.proofs.Common.{◌≡◌, ℕ, ◌<◌, ◌≤◌, Bool, true, false, List, [], ◌∷◌, Option, None, Some, String, Global, length, map, get_or, codes, cond}
 use Rattle.std.proofs.Common.{refl, sym, ap, ◌∙◌, string_bytes, arith}
 use Rattle.call_files.specs.Words.{is_word}
 use Rattle.keep_run.specs.Words.{KeepForm, form_of, keep_form}

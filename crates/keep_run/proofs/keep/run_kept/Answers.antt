@@ -5,7 +5,7 @@ use Rattle.commit_book.specs.Books.{BookState, history_of}
 use Rattle.keep_run.specs.Runs.{kept_history}
 use Rattle.keep_run.specs.Sessions.{IsRunTo, draft_of}
 use Rattle.keep_run.proofs.Going.{not_yet}
-use Rattle.keep_run.proofs.Looping.{at_start, ended, next_done, so_far}
+use Rattle.keep_run.proofs.Looping.{at_start, ended, fits_next, next_done, so_far}
 use Rattle.keep_run.proofs.Opened.{kept_with, left_on}
 use Rattle.keep_run.proofs.keep.run_kept.Goals as goal
 
@@ -30,6 +30,12 @@ loop-command-init g c =
           begun c.requires.still c.requires.whole (g.met.D.Disk.only_now journal.disk.now);
       no_fall = omega arith;
     }
+
+pub serve-requires-clause-fit : goal.serve-requires-clause-fit
+serve-requires-clause-fit g c κs within =
+    let old = c.args.journal.now in
+    fits_next old.book.opening (history_of old.book).commits c.args.script.now c.commands-command-items.result.now c.loop-command.command-index
+    c.command-item.result c.loop-command-test.true c.command-item.is c.loop-command.journal.book c.loop-command.session c.loop-command.invariant.run
 
 -- what a crash leaves up to a command that isn't done
 pub returns-in_err-serve-clause-moments : goal.returns-in_err-serve-clause-moments
