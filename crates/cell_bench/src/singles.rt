@@ -7,7 +7,6 @@ ghost use Rattle.cell_bench.specs.Singles.{singles_among, singles_in, singles_of
 
 use cell_spec::{Subject, distinct, orders_are_by_parts};
 use chain_topo::edge_of;
-use check_words::name_of;
 use s57_types::{Cell, Rec};
 use std::alloc::{AllocError, Global};
 
@@ -15,7 +14,7 @@ use std::alloc::{AllocError, Global};
 fn push_singles(subjects: &mut Vec<Subject>, rec: &Rec) -> Result<(), AllocError>
     ensures { OnOk result (subjects.new.items ≡ subjects.old.items ++ spec_singles rec.now) }
 {
-    let name = name_of(rec);
+    let name = rec.name();
     subjects.push(Subject::Rec(name))?;
     if edge_of(rec).is_some() {
         subjects.push(Subject::Side(name))?;

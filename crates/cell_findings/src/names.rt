@@ -9,7 +9,7 @@ ghost use Rattle.rule_spec.specs.Records.{is_edge_name as spec_edge_name};
 ghost use Rattle.cell_findings.specs.Judged.{identities_in as spec_identities_in, is_part_name as spec_part_name, names_in as spec_names_in};
 
 use cell_spec::{Names, ascending_names, distinct, orders_are_by_parts};
-use check_words::{is_edge_name, name_of};
+use check_words::is_edge_name;
 use s57_types::{Cell, Kind, Lnam, Rec, RecName};
 use std::alloc::{AllocError, Global};
 
@@ -17,7 +17,7 @@ fn push_names(names: &mut Vec<RecName>, recs: &[Rec]) -> Result<(), AllocError>
     ensures { OnOk result (names.new.items ≡ names.old.items ++ map spec_name recs.now) }
 {
     for rec in recs {
-        names.push(name_of(rec))?;
+        names.push(rec.name())?;
     }
     Ok(())
 }

@@ -12,18 +12,9 @@ use crate::list::{Findings, SubjectFinding};
 use cell_spec::Subject;
 use itoa::Buffer;
 use rule_spec::{kind_name, number_count};
-use s57_types::{Cell, Lnam};
+use s57_types::Cell;
 use std::alloc::AllocError;
-use text_lines::{push_bytes, push_name, push_number, push_text, push_word};
-
-/// Appends the words of a feature object identifier.
-fn push_identity(out: &mut Vec<u8>, lnam: Lnam) -> Result<(), AllocError>
-    ensures { OnOk result (out.new.items ≡ out.old.items ++ spaced_words (decimal lnam.agen ∷ decimal lnam.fidn ∷ decimal lnam.fids ∷ [])) }
-{
-    push_number(out, u32::from(lnam.agen))?;
-    push_number(out, lnam.fidn)?;
-    push_number(out, u32::from(lnam.fids))
-}
+use text_lines::{push_bytes, push_identity, push_name, push_number, push_text, push_word};
 
 /// Appends a subject.
 fn push_subject(out: &mut Vec<u8>, subject: Subject) -> Result<(), AllocError>

@@ -45,16 +45,6 @@ pub fn empty_reading(alloc: Global, head: Head) -> Reading
     }
 }
 
-fn name_of(rec: &Rec) -> RecName
-    ensures { result ≡ name_of rec.now }
-{
-    match rec {
-        Rec::V(vector) => vector.name,
-        Rec::F(feature) => feature.name,
-        Rec::H(_) => RecName::of_head(),
-    }
-}
-
 /// Puts a record last in the list of a kind, which isn't the head's.
 fn push_record(cell: &mut Cell, kind: Kind, rec: Rec) -> Result<(), AllocError>
     requires { (kind_rank kind == kind_rank HeadKind) ≡ false }
@@ -78,7 +68,7 @@ pub fn add_record(reading: &mut Reading, rec: Rec) -> Result<(), RecordRefusal>
     ensures good { OnOk result (following_fault reading.old.cell rec ≡ None) }
     ensures fault { IfErr result (λ e. IsFault e (following_fault reading.old.cell rec)) }
 {
-    let name = name_of(&rec);
+    let name = rec.name();
     if !reading.names.add(name)? {
         return Err(RecordRefusal::Fault(RecordFault::TwiceName));
     }

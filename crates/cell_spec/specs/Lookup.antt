@@ -8,7 +8,7 @@ use Rattle.s57_types.specs.declared.record.Spot.{Spot}
 use Rattle.s57_types.specs.declared.record.Rec.{Rec}
 use Rattle.s57_types.specs.declared.record.Rec.TheVariants.{V, F, H}
 use Rattle.s57_types.specs.declared.cell.Cell.{Cell}
-use Rattle.s57_types.specs.Heads.{head_name}
+pub use Rattle.s57_types.specs.RecordNames.{name_of}
 use Rattle.cell_spec.specs.declared.key.Ref.{Ref}
 use Rattle.cell_spec.specs.Ascending.{ascending}
 use Rattle.cell_spec.specs.Names.{same_name, same_identity, ref_order, name_order}
@@ -20,11 +20,6 @@ all_records c = c.vi ++ c.vc ++ c.ve ++ c.fe
 -- what has a name: the head, and all records
 abbrev pub head_and_records : Cell → List Rec
 head_and_records c = H c.head ∷ all_records c
-
-abbrev pub name_of : Rec → RecName
-name_of (V v) = v.name
-name_of (F f) = f.name
-name_of (H h) = head_name
 
 -- the names that a record points to, by VRPT of a vector record and FSPT of a feature record
 abbrev pub targets_of : Rec → List RecName

@@ -2,7 +2,6 @@
 
 ghost use Rattle.std.specs.Prelude.{◌≡◌};
 ghost use Rattle.std.specs.Option.{option_copied};
-ghost use Rattle.cell_spec.specs.Lookup.{name_of as name_of_record};
 
 use s57_types::{Duplicate, HeadEdit, Rec, RecName};
 use std::alloc::{AllocError, Global};
@@ -24,7 +23,7 @@ impl Edit {
         ensures { result ≡ name_of_edit self.now }
     {
         match self {
-            Edit::Add(rec) | Edit::Set(rec) => name_of(rec),
+            Edit::Add(rec) | Edit::Set(rec) => rec.name(),
             Edit::Del(name) => *name,
             Edit::Head(_) => RecName::of_head(),
         }
@@ -38,16 +37,6 @@ impl Edit {
             Edit::Add(rec) | Edit::Set(rec) => Some(rec),
             Edit::Del(_) | Edit::Head(_) => None,
         }
-    }
-}
-
-fn name_of(rec: &Rec) -> RecName
-    ensures { result ≡ name_of_record rec.now }
-{
-    match rec {
-        Rec::V(vector) => vector.name,
-        Rec::F(feature) => feature.name,
-        Rec::H(_) => RecName::of_head(),
     }
 }
 

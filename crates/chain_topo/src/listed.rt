@@ -4,23 +4,12 @@ ghost use Rattle.std.specs.Prelude.{◌≡◌, ◌≤◌, ◌++◌, All, IfOk, O
 ghost use Rattle.std.specs.Borrow.{Bor};
 ghost use Rattle.s57_types.specs.declared.record.Rec.{Rec as SpecRec};
 ghost use Rattle.s57_types.specs.RecordFields.{length_limit};
-ghost use Rattle.cell_spec.specs.Lookup.{all_records, name_of as spec_name};
+ghost use Rattle.cell_spec.specs.Lookup.{all_records};
 ghost use Rattle.chain_topo.specs.Listed.{HasFewPointers, pointers_from, pointers_of, pointers_listed, identity_of, identities_listed};
 
 use cell_spec::Ref;
 use s57_types::{Cell, End, Lnam, Rec, RecName, Spot};
 use std::alloc::{AllocError, Global};
-
-/// The name of a record.
-pub(crate) fn name_of(rec: &Rec) -> RecName
-    ensures { result ≡ spec_name rec.now }
-{
-    match rec {
-        Rec::V(vector) => vector.name,
-        Rec::F(feature) => feature.name,
-        Rec::H(_) => RecName::of_head(),
-    }
-}
 
 // Appends records.
 fn add_records<'a>(list: &mut Vec<&'a Rec>, recs: &'a [Rec]) -> Result<(), AllocError>

@@ -15,7 +15,7 @@ ghost use Rattle.chain_topo.specs.Readable.{IsReadable};
 
 use crate::answers::Look;
 use crate::groups::Groups;
-use crate::listed::{list_identities, list_pointers, name_of, records_of};
+use crate::listed::{list_identities, list_pointers, records_of};
 use cell_spec::{Ref, orders_are_by_parts};
 use look_counter::Steps;
 use s57_types::{Cell, Duplicate, Kind, Lnam, Rec, RecName};
@@ -96,7 +96,7 @@ impl<'a> ListLook<'a> {
     fn likely_place(&self, name: RecName) -> usize {
         let first = self.first_place(name.kind);
         match self.records.get(first) {
-            Some(rec) => first.saturating_add(name.id.saturating_sub(name_of(rec).id) as usize),
+            Some(rec) => first.saturating_add(name.id.saturating_sub(rec.name().id) as usize),
             None => first,
         }
     }
@@ -133,14 +133,14 @@ fn sorted_by_name<'a>(mut records: Vec<&'a Rec>) -> Vec<&'a Rec>
     ensures rises { IsSortedByKey (λ (r : Bor SpecRec). spec_name r.now) name_order result.items }
 {
     orders_are_by_parts();
-    records.sort_unstable_by_key(|rec| name_of(rec));
+    records.sort_unstable_by_key(|rec| rec.name());
     records
 }
 
 fn has_name(rec: &Rec, name: RecName) -> bool
     ensures { result ≡ is_named name rec.now }
 {
-    name == name_of(rec)
+    name == rec.name()
 }
 
 /// The record of a name, which is looked for at a place first.
@@ -161,7 +161,7 @@ fn find_sorted<'a>(records: &[&'a Rec], name: RecName) -> Option<&'a Rec>
     ensures { option_copied result ≡ find (is_named name) (map (λ (r : Bor SpecRec). r.now) records.now) }
 {
     orders_are_by_parts();
-    match records.binary_search_by_key(&name, |rec| name_of(rec)) {
+    match records.binary_search_by_key(&name, |rec| rec.name()) {
         Ok(k) => Some(records[k]),
         Err(_) => None,
     }

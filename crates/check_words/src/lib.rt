@@ -9,5 +9,5 @@ mod record;
 
 pub use area::{AREA, is_coverage_area, is_group1_area};
 pub use line::{Numbered, Segment, numbered, same_point, segments_of};
-pub use lookup::{listed_record, name_of, number};
+pub use lookup::{listed_record, number};
 pub use record::is_edge_name;

@@ -2,7 +2,7 @@
 
 ghost use Rattle.std.specs.Prelude.{◌≡◌, IfOk, find};
 ghost use Rattle.std.specs.Option.{option_copied};
-ghost use Rattle.cell_spec.specs.Lookup.{name_of as spec_name, is_named, listed_record as spec_listed};
+ghost use Rattle.cell_spec.specs.Lookup.{is_named, listed_record as spec_listed};
 
 use s57_types::{Cell, Rec, RecName, Recs};
 use std::alloc::AllocError;
@@ -14,22 +14,11 @@ pub fn number(n: usize) -> Result<u32, AllocError>
     u32::try_from(n).map_err(|_| AllocError)
 }
 
-/// The name of a record or of a head.
-pub fn name_of(rec: &Rec) -> RecName
-    ensures { result ≡ spec_name rec.now }
-{
-    match rec {
-        Rec::V(vector) => vector.name,
-        Rec::F(feature) => feature.name,
-        Rec::H(_) => RecName::of_head(),
-    }
-}
-
 fn find_in(recs: &Recs, name: RecName) -> Option<&Rec>
     ensures { option_copied result ≡ find (is_named name) recs.now }
 {
     for rec in recs.as_slice() {
-        if name == name_of(rec) {
+        if name == rec.name() {
             return Some(rec);
         }
     }

@@ -7,7 +7,6 @@ use crate::indexes::readers_of_head;
 use cell_make::make_cell;
 use cell_spec::Subject;
 use chain_topo::{Steps, edge_of};
-use check_words::name_of;
 use depend_map::{DependMap, ReadChange};
 use look_counter::start_counter;
 use record_store::RecordStore;
@@ -43,7 +42,7 @@ fn push_all_reads<L: Ledger>(
     changes: &mut Vec<ReadChange>,
     steps: &mut Steps<L>,
 ) -> Result<(), AllocError> {
-    let name = name_of(rec);
+    let name = rec.name();
     push_reads(alloc, store, Subject::Rec(name), changes, steps)?;
     if edge_of(rec).is_some() {
         push_reads(alloc, store, Subject::Side(name), changes, steps)?;

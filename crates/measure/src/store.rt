@@ -11,7 +11,6 @@ use crate::table::next_number;
 use answer_laws::{counts_after_edits, formed_edits_find_their_records};
 use cell_spec::{Edit, writable_cells_are_readable};
 use chain_topo::{Look, Steps};
-use check_words::name_of;
 use edit_sets::EditSet;
 use look_counter::start_counter;
 use record_store::RecordStore;
@@ -107,7 +106,7 @@ fn is_taken<L: Ledger>(
     let Edit::Set(rec) = edit else {
         return false;
     };
-    let name = name_of(rec);
+    let name = rec.name();
     match name.kind {
         Kind::Fe => store.get(name, steps).is_some(),
         _ => false,

@@ -16,7 +16,6 @@ use crate::file_lists::{FileList, FileLists};
 use crate::walk::Walk;
 use answer_laws::edits_add_up;
 use cell_spec::{Edit, orders_are_by_parts};
-use check_words::name_of;
 use edit_answers::edits_leave_their_records;
 use s57_types::{Cell, Duplicate, Head, HeadEdit, Kind, Rec, RecName, Recs};
 use shared_table::{Shared, SharedTable};
@@ -149,7 +148,7 @@ impl Records {
     {
         orders_are_by_parts();
         edits_leave_their_records();
-        let name = name_of(&rec);
+        let name = rec.name();
         let Records {
             head,
             named_head,

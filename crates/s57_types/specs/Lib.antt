@@ -3,3 +3,4 @@ pub mod FieldRows
 pub mod RecordFields
 pub mod Fitness
 pub mod Heads
+pub mod RecordNames

@@ -1,5 +1,7 @@
 //! Vector and feature records, and the head where it stands for an answer to its name.
 
+ghost use Rattle.std.specs.Prelude.{◌≡◌};
+
 use crate::head::Head;
 use crate::items::{Attrs, Deep, Ends, Partners, Places, Plane, Text};
 use crate::name::{Lnam, RecName};
@@ -106,4 +108,19 @@ pub enum Rec {
     V(Vector),
     F(Feature),
     H(Head),
+}
+
+impl Rec {
+    ghost use Rattle.s57_types.specs.RecordNames.{name_of};
+
+    /// The name of the record or of the head.
+    pub fn name(&self) -> RecName
+        ensures { result ≡ name_of self.now }
+    {
+        match self {
+            Rec::V(vector) => vector.name,
+            Rec::F(feature) => feature.name,
+            Rec::H(_) => RecName::of_head(),
+        }
+    }
 }

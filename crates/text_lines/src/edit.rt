@@ -10,9 +10,11 @@ use crate::item::{
     push_attributes, push_deep, push_ends, push_level, push_partners, push_places, push_plane,
     push_value,
 };
-use crate::words::{push_bytes, push_name, push_number, push_text, push_word, word_of_kind};
+use crate::words::{
+    push_bytes, push_identity, push_name, push_number, push_text, push_word, word_of_kind,
+};
 use cell_spec::Edit;
-use s57_types::{Feature, HeadEdit, Kind, Lnam, Rec, Vector};
+use s57_types::{Feature, HeadEdit, Kind, Rec, Vector};
 use std::alloc::{AllocError, Global};
 
 /// Appends the line of an edit, or nothing. A record has a name of its own sort, and only an edit of the head names the head.
@@ -88,15 +90,6 @@ fn push_feature_head(out: &mut Vec<u8>, feature: &Feature) -> Result<(), AllocEr
     push_number(out, u32::from(feature.prim))?;
     push_number(out, u32::from(feature.grup))?;
     push_number(out, u32::from(feature.objl))
-}
-
-/// Appends a feature object identifier.
-fn push_identity(out: &mut Vec<u8>, foid: Lnam) -> Result<(), AllocError>
-    ensures { OnOk result (out.new.items ≡ out.old.items ++ spaced_words (decimal foid.agen ∷ decimal foid.fidn ∷ decimal foid.fids ∷ [])) }
-{
-    push_number(out, u32::from(foid.agen))?;
-    push_number(out, foid.fidn)?;
-    push_number(out, u32::from(foid.fids))
 }
 
 /// Appends the items of a feature record.

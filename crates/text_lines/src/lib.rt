@@ -9,5 +9,6 @@ mod words;
 pub use edit::write_edit;
 pub use number::{read_signed, read_unsigned};
 pub use words::{
-    push_bytes, push_name, push_number, push_numbered, push_text, push_word, word_of_kind,
+    push_bytes, push_identity, push_name, push_number, push_numbered, push_text, push_word,
+    word_of_kind,
 };

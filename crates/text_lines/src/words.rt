@@ -1,11 +1,11 @@
 //! Words and numbers.
 
 ghost use Rattle.std.specs.Prelude.{◌≡◌, ◌++◌, ◌∷◌, [], decimal, take, OnErr, OnOk};
-ghost use Rattle.text_spec.specs.CellText.{kind_word, name_words};
+ghost use Rattle.text_spec.specs.CellText.{identity_words, kind_word, name_words};
 ghost use Rattle.text_spec.specs.Lines.{spaced, spaced_words};
 
 use itoa::Buffer;
-use s57_types::{Kind, RecName};
+use s57_types::{Kind, Lnam, RecName};
 use std::alloc::AllocError;
 
 /// The word of a kind of record.
@@ -91,4 +91,16 @@ pub fn push_name(out: &mut Vec<u8>, name: RecName) -> Result<(), AllocError>
     ensures err { OnErr result (out.new.items ≡ out.old.items) }
 {
     push_numbered(out, word_of_kind(name.kind), name.id)
+}
+
+/// Appends the words of a feature object identifier, or nothing.
+pub fn push_identity(out: &mut Vec<u8>, foid: Lnam) -> Result<(), AllocError>
+    ensures ok { OnOk result (out.new.items ≡ out.old.items ++ spaced_words (identity_words foid)) }
+    ensures err { OnErr result (out.new.items ≡ out.old.items) }
+{
+    let mut buffer = Buffer::new();
+    let length = out.len();
+    push_numbered(out, buffer.format(u32::from(foid.agen)), foid.fidn)?;
+    let pushed = push_number(out, u32::from(foid.fids));
+    cut_back(out, length, pushed)
 }

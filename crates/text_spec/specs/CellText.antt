@@ -5,6 +5,7 @@ use Rattle.std.specs.Fmt.{decimal}
 use Rattle.std.specs.List.{flat_map}
 use Rattle.s57_types.specs.declared.name.Kind.{Kind}
 use Rattle.s57_types.specs.declared.name.Kind.TheVariants.{Vi, Vc, Ve, Fe, Head}
+use Rattle.s57_types.specs.declared.name.Lnam.{Lnam}
 use Rattle.s57_types.specs.declared.name.RecName.{RecName}
 use Rattle.s57_types.specs.declared.cell.Cell.{Cell}
 use Rattle.cell_spec.specs.declared.finding.Finding.{Finding}
@@ -24,6 +25,10 @@ kind_word Head = codes "head"
 abbrev pub name_words : RecName → List (List ℕ)
 name_words n = kind_word n.kind ∷ decimal n.id ∷ []
 
+-- a feature object identifier: AGEN, FIDN and FIDS
+abbrev pub identity_words : Lnam → List (List ℕ)
+identity_words l = decimal l.agen ∷ decimal l.fidn ∷ decimal l.fids ∷ []
+
 -- a subject: its sort, and the others of its words
 abbrev pub subject_word : Subject → List ℕ
 subject_word (Rec n) = codes "rec"
@@ -35,7 +40,7 @@ abbrev pub subject_words : Subject → List (List ℕ)
 subject_words (Rec n) = name_words n
 subject_words (Side n) = name_words n
 subject_words (Pair a b) = name_words a ++ name_words b
-subject_words (Ident l) = decimal l.agen ∷ decimal l.fidn ∷ decimal l.fids ∷ []
+subject_words (Ident l) = identity_words l
 
 -- the name of the kind, and the numbers that it has
 abbrev pub finding_words : Finding → List (List ℕ)

@@ -20,7 +20,7 @@ use Rattle.s57_types.specs.declared.record.Rec.TheVariants.{V, F, H}
 use Rattle.cell_spec.specs.declared.edit.Edit.{Edit}
 use Rattle.cell_spec.specs.declared.edit.Edit.TheVariants.{Add, Set, Del, Head}
 use Rattle.text_spec.specs.Lines.{line}
-use Rattle.text_spec.specs.CellText.{kind_word, name_words}
+use Rattle.text_spec.specs.CellText.{identity_words, kind_word, name_words}
 
 -- a byte that stands for itself in a text: printing ASCII, neither a space nor the percent sign
 abbrev pub stands_for_itself : ℕ → Bool
@@ -77,7 +77,7 @@ vector_words v = name_words v.name ++ (decimal v.rver ∷ []) ++ map (attribute_
 -- a feature record: its name, RVER, PRIM, GRUP, OBJL and FOID, then its items
 abbrev pub feature_words : Feature → List (List ℕ)
 feature_words f = name_words f.name
-    ++ (decimal f.rver ∷ decimal f.prim ∷ decimal f.grup ∷ decimal f.objl ∷ decimal f.foid.agen ∷ decimal f.foid.fidn ∷ decimal f.foid.fids ∷ [])
+    ++ (decimal f.rver ∷ decimal f.prim ∷ decimal f.grup ∷ decimal f.objl ∷ identity_words f.foid)
     ++ map (attribute_item (codes "a")) f.attf ++ map (attribute_item (codes "n")) f.natf ++ map partner_item f.partners ++ map place_item f.places
 
 abbrev pub record_words : Rec → List (List ℕ)

@@ -6,7 +6,6 @@ ghost use Rattle.std.specs.Prelude.{◌≡◌, ◌<◌};
 use super::benches::{check_findings, commit, open_bench};
 use super::records::{Shape, edge, end_at, feature, named, node};
 use cell_spec::Edit;
-use check_words::name_of;
 use look_counter::start_counter;
 use s57_types::{Kind, Rec, Spot};
 use std::alloc::{AllocError, Global};
@@ -85,7 +84,7 @@ fn drawn_edit(alloc: Global, state: &mut u32, kind: u32) -> Result<Edit, AllocEr
     let record = drawn_record(alloc, state, kind)?;
     Ok(match draw(state, 4) {
         0 => Edit::Add(record),
-        1 => Edit::Del(name_of(&record)),
+        1 => Edit::Del(record.name()),
         _ => Edit::Set(record),
     })
 }

@@ -11,7 +11,6 @@ use cell_bench::Bench;
 use cell_overlay::{Overlay, overlays_cross_threads};
 use cell_spec::writable_cells_are_readable;
 use chain_topo::{ListLook, Steps};
-use check_words::name_of;
 use edit_sets::EditSet;
 use look_counter::start_counter;
 use record_store::{RecordStore, stores_cross_threads};
@@ -77,7 +76,7 @@ fn check_walk(rt: &impl Abort, store: &RecordStore, kind: Kind, rows: &[Row]) {
         let Some(rec) = walk.next() else {
             panic!(rt; "a record is missing");
         };
-        assert!(rt; name_of(rec) == row.name);
+        assert!(rt; rec.name() == row.name);
     }
     assert!(rt; walk.next().is_none());
 }

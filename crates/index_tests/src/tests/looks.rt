@@ -2,7 +2,6 @@
 
 use super::rows::{Row, bearers_of, identifier, nth_name, pointers_to, row_of};
 use chain_topo::{Look, Steps};
-use check_words::name_of;
 use s57_types::Rec;
 use std::alloc::{AllocError, Global};
 use std::process::Abort;
@@ -22,7 +21,7 @@ fn version_of(rec: &Rec) -> u16 {
 fn check_record(rt: &impl Abort, rec: Option<&Rec>, row: Option<&Row>) {
     match (rec, row) {
         (Some(rec), Some(row)) => {
-            assert!(rt; name_of(rec) == row.name && version_of(rec) == row.version);
+            assert!(rt; rec.name() == row.name && version_of(rec) == row.version);
         }
         (None, None) => {}
         _ => panic!(rt; "a record too many, or one that is missing"),
