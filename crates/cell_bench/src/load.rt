@@ -25,7 +25,7 @@ use chain_topo::Steps;
 use depend_map::DependMap;
 use finding_laws::listed_tables_are_right;
 use record_store::RecordStore;
-use s57_types::Cell;
+use s57_types::{Cell, Duplicate};
 use std::alloc::{AllocError, Global};
 use std::sync::ledger::Ledger;
 use subject_rows::row_of;
@@ -101,7 +101,8 @@ fn rows_read<L: Ledger>(
     let mut rows = Vec::with_capacity(alloc, subjects.len())?;
     for subject in subjects {
         let row = row_of(alloc, store, *subject, steps)?;
-        rows.push((*subject, row.reads))?;
+        // A copy has no more memory than its keys need: they stay as long as the bench.
+        rows.push((*subject, row.reads.copy(alloc)?))?;
     }
     Ok(rows)
 }

@@ -1,11 +1,22 @@
 -- Rows that are cut into runs, and pieces that are gathered into layers, one after the other.
 use Rattle.std.proofs.Common.{◌≡◌, ℕ, suc, zero, ◌+◌, ◌<◌, List, [], ◌∷◌, ◌++◌, length, get_or, take, refl, sym, ap, subst, ◌∙◌, arith, Ordering, add-one}
 use Rattle.std.proofs.Common.{append_assoc, length-append, append-nil, Some, None, is_some, slice_get, true≢false}
+use Rattle.std.proofs.Common.{reverse, Option, MatchOption}
+use Rattle.std.proofs.lemmas.List.{reverse-append}
 use Rattle.std.proofs.lemmas.List.Elements.{All-cons, All-head, All-tail, All-nil}
 use Rattle.row_spec.specs.Rows.{IsAscending}
 use Rattle.row_spec.proofs.Ascending.{IsAscending-left, IsAscending-right}
 use Rattle.shared_table.specs.Pieces.{AllBegin, AreParts, BeginsWith, rows_of}
 use Rattle.shared_table.proofs.Parts.{Begins, rows_of-append}
+
+-- of a list in reverse the last item comes first
+pub popped : {X : Type 0} (x : X) (all left : List X) → all ≡ left ++ (x ∷ []) → reverse all ≡ x ∷ reverse left
+popped x all left last = ap reverse last ∙ reverse-append left (x ∷ [])
+
+-- where nothing comes from a list, it has nothing
+pub none_left : {X : Type 0} (o : Option X) (n m : ℕ) (P : Type 0) → ((x : X) → o ≡ Some x → ⊥) → MatchOption o ((n ≡ 0) × (m ≡ 0)) (λ x. P) → n ≡ 0
+none_left None n m P never both = both.0
+none_left (Some x) n m P never both = absurd (never x refl)
 
 -- what is left moves on by one
 pub moved : {X : Type 0} (front xs ys zs all : List X) (x : X) → ys ≡ x ∷ zs → front ++ (xs ++ ys) ≡ all → front ++ ((xs ++ x ∷ []) ++ zs) ≡ all

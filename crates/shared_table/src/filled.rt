@@ -1,6 +1,6 @@
 //! Pieces of rows that ascend already, made level by level without a search.
 
-ghost use Rattle.std.specs.Prelude.{◌≡◌, ◌++◌, IfOk, OnOk, length};
+ghost use Rattle.std.specs.Prelude.{◌≡◌, ◌++◌, IfOk, OnOk, length, vec_len};
 ghost use Rattle.row_spec.specs.Rows.{IsAscending};
 ghost use Rattle.shared_table.specs.Pieces.{AllBegin, AreParts, rows_of};
 
@@ -38,7 +38,17 @@ fn push_run<K: Ord + Copy + Drop, V: Duplicate + Drop>(
     Ok(())
 }
 
-/// Rows in runs.
+// Gives back the memory of rows that have left, an eighth of it or more at a time.
+fn give_back<T>(left: &mut Vec<T>)
+    ensures items { left.new.items ≡ left.old.items }
+    ensures len { vec_len left.new ≡ vec_len left.old }
+{
+    if left.len() <= left.capacity() / 8 * 7 {
+        left.shrink_to_fit();
+    }
+}
+
+/// Rows in runs. They leave their memory one after the other, so that it is given back meanwhile.
 pub(crate) fn runs_of<K: Ord + Copy + Drop, V: Duplicate + Drop>(
     alloc: Global,
     rows: Vec<(K, V)>,
@@ -49,10 +59,13 @@ pub(crate) fn runs_of<K: Ord + Copy + Drop, V: Duplicate + Drop>(
 {
     let mut runs = Vec::with_capacity(alloc, rows.len() / FILLED + 1)?;
     let mut run = Vec::with_capacity(alloc, PIECE_ROWS)?;
-    for row in rows {
+    let mut left = rows;
+    left.reverse();
+    while let Some(row) = left.pop() {
         if run.len() >= FILLED {
             let full = mem::replace(&mut run, Vec::with_capacity(alloc, PIECE_ROWS)?);
             push_run(alloc, &mut runs, full)?;
+            give_back(&mut left);
         }
         run.push(row)?;
     }

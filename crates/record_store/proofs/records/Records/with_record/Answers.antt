@@ -16,7 +16,7 @@ use Rattle.record_store.proofs.records.Records.with_record.Goals as goal
 pub returns : goal.returns
 returns c =
     let old = c.self.inside.lists in
-    let name : c.name_of-name.result ≡ name_of c.args.rec = c.name_of-name.ensures ∙ ap name_of c.deref.ensures in
+    let name : c.name-name.result ≡ name_of c.args.rec = c.name-name.ensures ∙ ap name_of c.deref.ensures in
     let at = subst (λ n. IsPlaceFor (value_of name_order c.self.inside.names n) (rows_of n.kind old) c.in_ok-place.place) name c.in_ok-place.ensures in
     ap (cell_of c.self.inside.head) (c.in_ok-put.ensures ∙ (λ i. with_rows (name i).kind
     (with_row nat_cmp (rows_of (name i).kind old) c.in_ok-place.place (c.in_ok-copy.ensures i)) old))
@@ -30,12 +30,12 @@ invariant_of-result c =
     let inside = c.self.inside in
     let rec : Rec = c.args.rec in
     let place = c.in_ok-place.place in
-    let name : c.name_of-name.result ≡ name_of rec = c.name_of-name.ensures ∙ ap name_of c.deref.ensures in
+    let name : c.name-name.result ≡ name_of rec = c.name-name.ensures ∙ ap name_of c.deref.ensures in
     let at = subst (λ n. IsPlaceFor (value_of name_order inside.names n) (rows_of n.kind inside.lists) place) name c.in_ok-place.ensures in
     let lists = c.in_ok-put.ensures ∙ (λ i. with_rows (name i).kind
     (with_row nat_cmp (rows_of (name i).kind inside.lists) place (c.in_ok-copy.ensures i)) inside.lists) in
     let held : Held = record { place = place; rec = rec } in
-    let put = subst (λ (order : RecName → RecName → Ordering). c.put-2.new.self ≡ with_row order inside.names c.name_of-name.result held)
+    let put = subst (λ (order : RecName → RecName → Ordering). c.put-2.new.self ≡ with_row order inside.names c.name-name.result held)
     (λ i a b. c.orders_are_by_parts.ensures.names a b i) c.in_ok-put-2.ensures.ok in
     let names = put ∙ ap (λ n. with_row name_order inside.names n held) name in
     let fit = subst (FindTheirRecords (c.args.edit.now ∷ [])) (sym c.self.view_is) c.requires.found in
