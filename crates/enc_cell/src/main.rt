@@ -1,11 +1,8 @@
 //! `enc_cell`: a workroom for one electronic navigational chart base cell.
 #![tactic(auto)]
 
-mod journal;
-
 use enc_outside::NoMeet;
 use enc_top::{Status, print_status, run};
-use journal::FileDisk;
 use keep_run::run_keep;
 use std::alloc::Global;
 use std::env;
@@ -15,7 +12,7 @@ use std::process::ExitCode;
 use std::rt::{Env, Files};
 use std::sync::Wait;
 use std::thread::Threads;
-use whole_files::{DiskShelf, StdSink};
+use whole_files::{DiskShelf, FileDisk, StdSink};
 
 /// The words after the program's name. A word that isn't UTF-8 is in no form.
 fn read_words(rt: &(impl Env + AllocGlobal)) -> Result<Vec<String>, Status> {

@@ -1,11 +1,10 @@
 //! The real file store, and the real disk of a journal.
 
-use crate::journal::FileDisk;
 use crash_disk::{Disk, DiskFailed};
 use enc_outside::{Got, Shelf};
 use std::test::Fail;
 use std::{env, fs, process};
-use whole_files::DiskShelf;
+use whole_files::{DiskShelf, FileDisk};
 
 /// A name in the temporary folder that no other process takes.
 fn own_name(rt: &HostRuntime, kind: &str) -> Result<String, Fail> {

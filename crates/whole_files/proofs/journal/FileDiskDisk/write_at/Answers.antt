@@ -1,6 +1,6 @@
 use Rattle.std.proofs.Common.{ℕ, List, length, refl, arith}
 use Rattle.crash_disk.specs.Disk.{Torn}
-use Rattle.enc_cell.proofs.journal.FileDiskDisk.write_at.Goals as goal
+use Rattle.whole_files.proofs.journal.FileDiskDisk.write_at.Goals as goal
 
 as_before : (at n : ℕ) (bytes : List ℕ) → Torn at n bytes bytes
 as_before at n bytes = record { before = refl; after = refl; no_shorter = omega arith; no_longer = omega arith }
