@@ -1,8 +1,8 @@
 -- Edits as the first commit of a cell's history: what the log's answer tells of it, and what refuses it.
-use Rattle.std.proofs.Common.{◌≡◌, ℕ, ◌&&◌, Bool, true, false, List, [], ◌∷◌, length, Option, Some, None, Result, Ok, Err, refl, sym, ap, ◌∙◌, subst}
+use Rattle.std.proofs.Common.{◌≡◌, ℕ, Bool, true, false, List, [], ◌∷◌, length, Option, Some, None, Result, Ok, Err, refl, sym, ap, ◌∙◌, subst}
 use Rattle.std.proofs.Common.{if◌then◌else◌}
 use Rattle.std.specs.Prelude.{filter_map, is_some, nat_lt, not}
-use Rattle.std.specs.List.{cons_option, list_any}
+use Rattle.std.specs.List.{cons_option}
 use Rattle.std.specs.Option.{option_map_or}
 use Rattle.std.proofs.lemmas.Bool.{and_parts}
 use Rattle.cell_spec.specs.Edits.{apply_edits, find_their_records, has_its_record, head_after, leave_a_long_head}
@@ -25,7 +25,7 @@ use Rattle.rule_spec.specs.Affected.{RowsAreExact}
 use Rattle.rule_spec.specs.Findings.{finding_total}
 use Rattle.s57_types.specs.RecordFields.{identification_length}
 use Rattle.s57_types.specs.declared.cell.Cell.{Cell}
-use Rattle.enc_top.specs.Commits.{IsCommitStatus, IsTooLarge, commit_refusal, committed, left_unless, refusal_told}
+use Rattle.enc_top.specs.Commits.{IsTooLarge, commit_refusal, committed, left_unless, refusal_told}
 use Rattle.report_text.specs.declared.status.Status.{Status}
 use Rattle.report_text.specs.declared.status.Status.TheVariants.{Refused}
 

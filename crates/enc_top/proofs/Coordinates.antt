@@ -1,10 +1,10 @@
 -- The coordinate that a text is.
-use Rattle.std.proofs.Common.{◌≡◌, ℕ, suc, ◌<◌, ◌≤◌, ◌^◌, ◌==◌, ◌&&◌, Bool, true, false, List, [], ◌∷◌, length, get_or, cond, drop, Option, Some, None, refl}
-use Rattle.std.proofs.Common.{sym, ap, ◌∙◌, subst, ℤ, pos, negsuc, neg_ℤ, int_le, int_lt, FitsSigned, ne_eqb, w32, arith}
+use Rattle.std.proofs.Common.{◌≡◌, ℕ, suc, ◌<◌, ◌^◌, ◌==◌, ◌&&◌, Bool, true, false, List, cond, Option, Some, None, refl}
+use Rattle.std.proofs.Common.{sym, ap, ◌∙◌, ℤ, pos, negsuc, neg_ℤ, int_le, int_lt, FitsSigned, ne_eqb, w32, arith}
 use Rattle.std.specs.Prelude.{IfSome, nat_eq, slice_index}
 use Rattle.std.specs.Cmp.Lexicographic.{pointwise, same_text}
 use Rattle.std.specs.Fmt.{decimal, signed_decimal}
-use Rattle.std.specs.Str.Parse.{digits_value, signed_digits_value, starts_with_minus, without_leading_sign}
+use Rattle.std.specs.Str.Parse.{digits_value, signed_digits_value, starts_with_minus}
 use Rattle.std.proofs.lemmas.Bool.{and_from, and_parts}
 use Rattle.std.proofs.lemmas.Fmt.{decimal_is_IsNumeral}
 use Rattle.std.proofs.lemmas.Int.{ints}

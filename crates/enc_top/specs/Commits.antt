@@ -1,5 +1,5 @@
 -- Edits as the first commit of a cell's history: why it is refused, and what it leaves. This project's own rules.
-use Rattle.std.specs.Prelude.{[], ℕ, List, Option, None, Some, Result, Ok, Err}
+use Rattle.std.specs.Prelude.{[], List, Option, None, Some, Result, Ok, Err}
 use Rattle.std.specs.Option.{option_map_or}
 use Rattle.cell_spec.specs.Edits.{apply_edits}
 use Rattle.cell_spec.specs.declared.edit.Edit.{Edit}

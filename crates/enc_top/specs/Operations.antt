@@ -1,5 +1,5 @@
 -- Operations on edges by one commit: why they aren't done, and what they leave. This project's own rules.
-use Rattle.std.specs.Prelude.{◌≡◌, ◌⊎◌, ℕ, List, Option, Some, Result, Err, option_map}
+use Rattle.std.specs.Prelude.{◌≡◌, ◌⊎◌, List, Option, Some, Result, Err, option_map}
 use Rattle.std.specs.Option.{option_map_or}
 use Rattle.cell_spec.specs.declared.edit.Edit.{Edit}
 use Rattle.edit_sets.specs.FormFault.{GuardedEdits}

@@ -5,8 +5,6 @@ use Rattle.std.specs.List.{AllByRecursion, flat_map}
 use Rattle.std.specs.Option.{ok_or, option_and_then}
 use Rattle.std.specs.Result.{result_ok, result_unwrap_or}
 use Rattle.frame_spec.specs.RecordFrame.{Field}
-use Rattle.s57_types.specs.declared.field.Frid.{Frid}
-use Rattle.s57_types.specs.declared.field.Vrid.{Vrid}
 use Rattle.s57_types.specs.declared.record.Rec.{Rec}
 use Rattle.s57_types.specs.declared.cell.Cell.{Cell}
 use Rattle.field_spec.specs.Contents.{frid_content, foid_content, attribute_content, partner_content, place_content, vrid_content, end_content}

@@ -3,7 +3,7 @@ use Rattle.std.proofs.Common.{ℕ, ◌^◌, ◌<◌, ◌==◌, Bool, true, false
 use Rattle.std.specs.Prelude.{All, if◌then◌else◌}
 use Rattle.std.specs.List.{AllByRecursion, flat_map, filter_map}
 use Rattle.std.proofs.lemmas.List.Elements.{recursion_from_All}
-use Rattle.s57_types.specs.Subfield.{Subfield, text, wide_text, b12, unsigned_of, signed_of, text_of, wide_text_of, fixed_of}
+use Rattle.s57_types.specs.Subfield.{Subfield, text, wide_text, b12, unsigned_of, signed_of, text_of, wide_text_of}
 use Rattle.s57_types.specs.FieldRows.{name_row, frid_row, foid_row, attribute_row, partner_row, place_row, end_row, plane_row, deep_row, attribute_forms}
 use Rattle.s57_types.specs.declared.record.Attr.{Attr}
 use Rattle.s57_types.specs.declared.record.Feature.{Feature}

@@ -1,5 +1,5 @@
 -- Why a session ended before its next view or commit was answered.
-use Rattle.std.proofs.Common.{◌≡◌, ℕ, ◌+◌, Result, Ok, Err, refl, sym, ◌∙◌, subst, count_by}
+use Rattle.std.proofs.Common.{◌≡◌, ℕ, Result, Ok, Err, refl, sym, subst, count_by}
 use Rattle.std.specs.Prelude.{IfErr}
 use Rattle.std.specs.Result.{IsErrAnd}
 use Rattle.text_spec.specs.ScriptLines.{is_shared}

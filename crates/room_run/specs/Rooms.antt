@@ -1,6 +1,6 @@
 -- Sessions in threads: before they begin, when they have ended, and what is left of them. This project's own rules.
 use mathlib.Core.List.{IsPrefix}
-use Rattle.std.specs.Prelude.{◌≡◌, ℕ, suc, ◌+◌, ◌<◌, ◌≤◌, List, [], ◌∷◌, ◌++◌, All, length, map, count_by, slice_index_or}
+use Rattle.std.specs.Prelude.{◌≡◌, ℕ, suc, ◌<◌, ◌≤◌, List, [], All, length, map, count_by, slice_index_or}
 use Rattle.s57_types.specs.declared.cell.Cell.{Cell}
 use Rattle.text_spec.specs.declared.command.Command.{Command}
 use Rattle.text_spec.specs.ScriptLines.{is_shared}
@@ -15,7 +15,6 @@ use Rattle.workroom.specs.Rooms.{RoomState}
 use Rattle.workroom.specs.Turns.{desk_of}
 use Rattle.room_run.specs.Compilers.{IsAtDesk, IsOver}
 use Rattle.room_run.specs.declared.compiler.Compiler.{Compiler}
-use Rattle.room_run.specs.declared.compiler.Ended.{Ended}
 use Rattle.room_run.specs.declared.compiler.Ended.TheVariants as ended
 use Rattle.room_run.specs.declared.gather.Outcome.{Outcome}
 use Rattle.room_run.specs.declared.run.Held.{Held}

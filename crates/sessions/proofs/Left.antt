@@ -1,5 +1,5 @@
 -- How much of a session is left, where it goes on.
-use Rattle.std.proofs.Common.{◌≡◌, ℕ, suc, ◌-◌, ◌<◌, ◌≤◌, length, ap, sym, subst, arith}
+use Rattle.std.proofs.Common.{◌≡◌, ℕ, suc, ◌-◌, ◌<◌, length, ap, sym, subst, arith}
 use Rattle.sessions.specs.SessionStates.{SessionState, Stops}
 use Rattle.sessions.specs.declared.session.Stop.{Stop}
 use Rattle.sessions.specs.declared.session.Stop.TheVariants.{Local, Shared, End}

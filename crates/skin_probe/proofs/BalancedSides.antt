@@ -1,5 +1,5 @@
 -- Where no side is unbalanced, both sorts of areas go round each point equally often.
-use Rattle.std.proofs.Common.{◌≡◌, ◌⊎◌, ℕ, ◌+◌, ◌<◌, ◌≤◌, ◌==◌, Bool, true, false, List, [], ◌∷◌, ◌++◌, Option, None, Some, cond, map, length, count_by}
+use Rattle.std.proofs.Common.{◌≡◌, ℕ, ◌+◌, ◌<◌, ◌≤◌, Bool, true, false, List, [], ◌∷◌, Option, None, Some, cond, map, length, count_by}
 use Rattle.std.proofs.Common.{sum_by, eqb-true, lt-ltb, refl, sym, ap, ◌∙◌, inl, inr, subst, ℤ, pos, ◌-ℤ◌, ◌*ℤ◌, arith}
 use Rattle.std.specs.Prelude.{not, nat_lt, is_some}
 use Rattle.std.proofs.lemmas.Int.{ints}
@@ -13,9 +13,8 @@ use Rattle.cell_spec.specs.declared.key.Subject.{Subject}
 use Rattle.cell_spec.specs.declared.key.Subject.TheVariants.{Side}
 use Rattle.cell_spec.specs.Lookup.{name_of}
 use Rattle.cell_spec.specs.Names.{subject_order}
-use Rattle.cell_spec.specs.Writable.{IsWritable}
 use Rattle.geometry_spec.specs.Points.{Point}
-use Rattle.rule_spec.specs.declared.kind.TheConstants.{FALSE_TRUNCATION, ORPHAN, SIDE_OVERLAP, SIDE_UNBALANCED}
+use Rattle.rule_spec.specs.declared.kind.TheConstants.{ORPHAN, SIDE_OVERLAP, SIDE_UNBALANCED}
 use Rattle.rule_spec.specs.declared.side.EdgeSideCounts.{EdgeSideCounts}
 use Rattle.rule_spec.specs.Findings.{all_findings, finding, findings_of_rules, findings_of_subject}
 use Rattle.rule_spec.specs.Records.{edge_named}
@@ -23,9 +22,9 @@ use Rattle.rule_spec.specs.Rule.{Found, found_if}
 use Rattle.rule_spec.specs.Rules.{side_rules}
 use Rattle.rule_spec.specs.Sides.{is_balanced, numbers_of, orphan, side_counts, side_overlap, side_unbalanced, uses_of}
 use Rattle.row_spec.specs.Rows.{value_of}
-use Rattle.answer_laws.proofs.Among.{Among, among_map, in_back, in_front}
+use Rattle.answer_laws.proofs.Among.{Among, in_back, in_front}
 use Rattle.finding_laws.specs.Tables.{ListedTablesAreRight}
-use Rattle.skin_probe.specs.Totals.{is_unbalanced, unbalanced_in, unbalanced_total, winding_total}
+use Rattle.skin_probe.specs.Totals.{is_unbalanced, unbalanced_in, unbalanced_total}
 use Rattle.skin_probe.specs.Winding.{edge_winding}
 use Rattle.skin_probe.specs.WindingLaws.{BalancedSidesEqualWinding, WindingSumByEdges, coverage_excess, group1_excess}
 use Rattle.skin_probe.proofs.EdgeSums.{no_edge_part}

@@ -1,5 +1,5 @@
 -- Crossings of the ray from a point to the east.
-use Rattle.std.proofs.Common.{◌≡◌, ◌+◌, ◌*◌, Bool, true, false, List, [], ◌∷◌, cond, map, lt-ltb, refl, sym, ap, ◌∙◌, ℕ, zero, suc, ℤ, pos, negsuc, ◌+ℤ◌}
+use Rattle.std.proofs.Common.{◌≡◌, ◌+◌, ◌*◌, Bool, true, false, List, cond, map, lt-ltb, refl, sym, ap, ◌∙◌, zero, suc, ℤ, pos, negsuc, ◌+ℤ◌}
 use Rattle.std.proofs.Common.{◌-ℤ◌, ◌*ℤ◌, int_le, int_lt, min, FitsSigned, w8, arith}
 use Rattle.std.specs.Int.{int_signum}
 use Rattle.std.proofs.lemmas.Bool.{and_parts}

@@ -3,7 +3,7 @@ use Rattle.std.proofs.Common.{◌≡◌, ℕ, ◌+◌, ◌==◌, ◌&&◌, Bool,
 use Rattle.std.proofs.Common.{inl, inr, ℤ, pos, negsuc, ◌+ℤ◌, ◌-ℤ◌, ◌*ℤ◌, arith}
 use Rattle.std.specs.Prelude.{filter_map, option_map, option_and_then}
 use Rattle.std.specs.Option.{option_map_or}
-use Rattle.std.specs.List.{AllByRecursion, IsDistinct}
+use Rattle.std.specs.List.{IsDistinct}
 use Rattle.std.proofs.lemmas.Int.{ints}
 use Rattle.std.proofs.lemmas.List.Sums.{sum_by-cons}
 use Rattle.s57_types.specs.declared.name.RecName.{RecName}
@@ -24,7 +24,7 @@ use Rattle.rule_spec.specs.Features.{is_coverage_area, is_group1_area}
 use Rattle.rule_spec.specs.Records.{edge_named, feature_of}
 use Rattle.rule_spec.specs.Sides.{side_count, use_of_row, uses_of}
 use Rattle.answer_laws.proofs.Among.{Among, known_of}
-use Rattle.skin_probe.specs.Totals.{areas_of, winding_total}
+use Rattle.skin_probe.specs.Totals.{winding_total}
 use Rattle.skin_probe.specs.Winding.{backwards, crossing_of, edge_winding, pointer_winding, sum_of, winding_along, winding_number}
 use Rattle.skin_probe.specs.WindingLaws.{WindingSumByEdges}
 use Rattle.skin_probe.proofs.Crossings.{backwards_negates}

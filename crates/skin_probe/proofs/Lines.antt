@@ -1,5 +1,5 @@
 -- Parts of a text that are appended one after the other.
-use Rattle.std.proofs.Common.{◌≡◌, ℕ, List, ◌++◌, append_assoc, sym, ap, ◌∙◌}
+use Rattle.std.proofs.Common.{◌≡◌, ℕ, List, ◌++◌, append_assoc, ap, ◌∙◌}
 
 more : (text before next part front : List ℕ) → before ≡ text ++ front → next ≡ before ++ part → next ≡ text ++ (front ++ part)
 more text before next part front e f = f ∙ ap (λ z. z ++ part) e ∙ append_assoc text front part

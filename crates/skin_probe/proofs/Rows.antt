@@ -1,5 +1,5 @@
 -- The uses of an edge, summed: what the rows of features that name it add up to.
-use Rattle.std.proofs.Common.{◌≡◌, ℕ, zero, suc, ◌+◌, ◌-◌, ◌<◌, Bool, true, false, List, [], ◌∷◌, ◌++◌, Option, None, Some, cond, map, filter, length}
+use Rattle.std.proofs.Common.{◌≡◌, ℕ, ◌+◌, ◌-◌, ◌<◌, Bool, true, false, List, [], ◌∷◌, ◌++◌, Option, None, Some, cond, map, filter, length}
 use Rattle.std.proofs.Common.{length-append, append_assoc, refl, sym, ap, ◌∙◌, ℤ, pos, ◌+ℤ◌, arith}
 use Rattle.std.specs.Prelude.{slice_get, option_map, option_and_then, filter_map, flat_map}
 use Rattle.std.specs.Option.{option_map_or}

@@ -1,7 +1,6 @@
 -- What is proved of winding numbers: sums over areas are sums over edges. This project's own.
 use Rattle.std.specs.Prelude.{◌≡◌, ℤ, pos, ◌-ℤ◌, ◌*ℤ◌, map}
 use Rattle.s57_types.specs.declared.cell.Cell.{Cell}
-use Rattle.s57_types.specs.declared.name.RecName.{RecName}
 use Rattle.cell_spec.specs.Lookup.{name_of}
 use Rattle.cell_spec.specs.Writable.{IsWritable}
 use Rattle.geometry_spec.specs.Points.{Point}

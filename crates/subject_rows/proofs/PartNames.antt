@@ -1,5 +1,5 @@
 -- The names of pairs are those of connected nodes and edges.
-use Rattle.std.proofs.Common.{◌≡◌, Bool, List, [], ◌∷◌, All, fold, subst, sym}
+use Rattle.std.proofs.Common.{◌≡◌, List, [], ◌∷◌, All, fold, subst, sym}
 use Rattle.std.specs.declared.cmp.Ordering.{Ordering}
 use Rattle.std.specs.declared.cmp.Ordering.TheVariants.{Less, Equal, Greater}
 use Rattle.std.specs.List.{AllByRecursion, flat_map}
@@ -14,7 +14,7 @@ use Rattle.cell_spec.specs.Names.{name_order}
 use Rattle.cell_spec.specs.declared.key.Subject.{Subject}
 use Rattle.cell_spec.specs.declared.key.Subject.TheVariants.{Rec, Side, Pair, Ident}
 use Rattle.cell_spec.proofs.EachItem.{each_append}
-use Rattle.rule_spec.specs.Findings.{is_below, is_subject}
+use Rattle.rule_spec.specs.Findings.{is_subject}
 use Rattle.rule_spec.specs.Records.{is_chain_part}
 use Rattle.subject_rows.specs.Names.{names_of_pair}
 

@@ -1,4 +1,4 @@
-use Rattle.std.proofs.Common.{◌≡◌, ap, ◌∙◌}
+use Rattle.std.proofs.Common.{ap, ◌∙◌}
 use Rattle.std.specs.Prelude.{IfOk}
 use Rattle.rayon.proofs.ToStd.{slice-AllZip}
 use Rattle.check_pairs.specs.Parts.{IsPart}

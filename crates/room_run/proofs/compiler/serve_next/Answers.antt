@@ -1,8 +1,7 @@
-use Rattle.std.proofs.Common.{◌≡◌, ◌+◌, ℕ, None, count_by, sym, ap, ◌∙◌, subst}
+use Rattle.std.proofs.Common.{◌+◌, ℕ, count_by, ap, ◌∙◌, subst}
 use Rattle.text_spec.specs.ScriptLines.{is_shared}
-use Rattle.sessions.specs.SessionStates.{IsNext, SessionState, StaysServed}
-use Rattle.workroom.specs.Desks.{DeskState}
-use Rattle.room_run.specs.Compilers.{IsHaltedAt, ended_by}
+use Rattle.sessions.specs.SessionStates.{IsNext, StaysServed}
+use Rattle.room_run.specs.Compilers.{ended_by}
 use Rattle.room_run.specs.declared.compiler.Ended.TheVariants as ended
 use Rattle.room_run.proofs.Calls.{entered, uncalled}
 use Rattle.room_run.proofs.Halts.{before_all, cut_short, handed_on}

@@ -1,4 +1,4 @@
-use Rattle.std.proofs.Common.{◌≡◌, ◌+◌, count_by, sum_by, sym, ap, ◌∙◌, arith}
+use Rattle.std.proofs.Common.{◌≡◌, count_by, sum_by, sym, ap, ◌∙◌, arith}
 use Rattle.std.proofs.lemmas.List.Sums.{sum_by-cons}
 use Rattle.skin_probe.specs.Totals.{is_unbalanced, unbalanced_in}
 use Rattle.skin_probe.proofs.BalancedSides.{few_unbalanced}

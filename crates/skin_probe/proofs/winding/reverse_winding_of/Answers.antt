@@ -1,6 +1,5 @@
 use Rattle.std.proofs.Common.{◌≡◌, pos, ◌-ℤ◌, rules, SFits, w64, sym, ap, ◌∙◌, arith}
 use Rattle.std.proofs.lemmas.Int.{ints, to_z-of_z}
-use Rattle.skin_probe.specs.Winding.{crossing_of, sum_of}
 use Rattle.skin_probe.proofs.Crossings.{backwards_negates}
 use Rattle.skin_probe.proofs.winding.reverse_winding_of.Goals as goal
 

@@ -1,4 +1,4 @@
-use Rattle.std.proofs.Common.{◌≡◌, ◌∙◌, arith, ap, length, length-append, [], ◌∷◌, sym, subst}
+use Rattle.std.proofs.Common.{◌∙◌, arith, ap, length, length-append, [], ◌∷◌, sym, subst}
 use Rattle.commit_book.specs.Books.{BookState, IsEntered}
 use Rattle.history_spec.specs.declared.entry.Asked.TheVariants.{Commit}
 use Rattle.book_journal.specs.Entries.{entry_part}

@@ -1,4 +1,4 @@
-use Rattle.std.proofs.Common.{◌≡◌, ◌≤◌, ◌+◌, count_by, drop, take}
+use Rattle.std.proofs.Common.{◌≤◌, ◌+◌, count_by, drop, take}
 use Rattle.cell_overlay.specs.Laid.{AreMerged, has_a_list}
 use Rattle.cell_overlay.proofs.merged.Merged.make.Given as goal
 

@@ -1,6 +1,6 @@
-use Rattle.std.proofs.Common.{arith, refl, subst, ap, ◌∙◌}
+use Rattle.std.proofs.Common.{arith, refl, subst, ◌∙◌}
 use Rattle.edit_sets.specs.FormFault.{IsFormed}
-use Rattle.cell_overlay.specs.Laid.{AreMerged, has_a_list}
+use Rattle.cell_overlay.specs.Laid.{AreMerged}
 use Rattle.cell_overlay.proofs.Laid.{fewer_lists}
 use Rattle.cell_overlay.proofs.overlay.Overlay.make.Goals as goal
 

@@ -1,4 +1,4 @@
-use Rattle.std.proofs.Common.{◌≡◌, ap, sym, ◌∙◌, take, ◌+◌}
+use Rattle.std.proofs.Common.{ap, sym, ◌∙◌, take, ◌+◌}
 use Rattle.sessions.specs.SessionStates.{SessionState, shared_command}
 use Rattle.sessions.proofs.Scripts.{one_done}
 use Rattle.sessions.proofs.session.Session.told.Goals as goal

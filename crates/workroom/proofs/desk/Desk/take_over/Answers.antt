@@ -1,6 +1,6 @@
 use denote.Param.Send.{sendable}
 use Rattle.commit_book.proofs.Sent.{book_send}
-use Rattle.std.proofs.Common.{◌≡◌, sym, subst, ap, ◌∙◌}
+use Rattle.std.proofs.Common.{sym, subst, ap, ◌∙◌}
 use Rattle.s57_types.specs.declared.cell.Cell.{Cell}
 use Rattle.history_spec.specs.Entries.{AreTold}
 use Rattle.workroom.specs.Desks.{DeskState, IsDesk}
