@@ -1,9 +1,6 @@
 //! Where the nodes and edges of the first round lie after edits.
 
-ghost use Rattle.std.specs.Prelude.{◌≡◌, ◌++◌, IfOk, OnOk, flat_map, true};
-ghost use Rattle.std.specs.List.{list_any};
-ghost use Rattle.s57_types.specs.declared.name.RecName.{RecName as SpecRecName};
-ghost use Rattle.cell_spec.specs.declared.edit.Edit.{Edit as SpecEdit};
+ghost use Rattle.std.specs.Prelude.{◌≡◌, ◌++◌, IfOk, OnOk, flat_map};
 ghost use Rattle.affected_subjects.specs.EditedCells.{changes_to};
 
 use crate::edited::{Edited, is_chain_name};

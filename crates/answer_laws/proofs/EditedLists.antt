@@ -1,5 +1,5 @@
 -- One list of an edited cell.
-use Rattle.std.proofs.Common.{◌≡◌, true, List, ◌++◌, filter, Option, None, Some, ap, ◌∙◌}
+use Rattle.std.proofs.Common.{◌≡◌, true, List, filter, Option, None, Some, ap, ◌∙◌}
 use Rattle.std.specs.Prelude.{IfSome, filter_map}
 use Rattle.std.specs.List.{All, AllByRecursion}
 use Rattle.std.proofs.lemmas.List.Elements.{recursion_from_All, All-from_recursion, All-weaker, All-filter, filter_passes}

@@ -1,6 +1,6 @@
 //! Opening a journal.
 
-ghost use Rattle.std.specs.Prelude.{◌≡◌, ◌≤◌, IfErr, IfOk, IfSome, IsSome};
+ghost use Rattle.std.specs.Prelude.{◌≤◌, IfErr, IfOk, IfSome, IsSome};
 ghost use Rattle.cell_spec.specs.Writable.{IsWritable};
 ghost use Rattle.crash_disk.specs.Disk.{LeavesOnly};
 ghost use Rattle.book_journal.specs.Keeping.{IsAsBefore};

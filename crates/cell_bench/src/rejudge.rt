@@ -1,6 +1,6 @@
 //! Judging anew what edits can change.
 
-ghost use Rattle.std.specs.Prelude.{◌≡◌, ◌+◌, ◌*◌, ◌≤◌, All, IfErr, IfOk, IsTrue, MatchResult, OnOk, length, map, sum_by};
+ghost use Rattle.std.specs.Prelude.{◌≡◌, ◌+◌, ◌*◌, ◌≤◌, All, IfErr, IsTrue, MatchResult, OnOk, length, map, sum_by};
 ghost use Rattle.cell_spec.specs.Edits.{apply_edits, touched_keys};
 ghost use Rattle.rule_spec.specs.Affected.{affected_list, change_by, exact_row};
 ghost use Rattle.rule_spec.specs.Findings.{findings_of_subject, is_subject};
@@ -29,7 +29,7 @@ use finding_laws::{
     unaffected_subjects_keep_findings,
 };
 use record_store::RecordStore;
-use std::alloc::{AllocError, Global};
+use std::alloc::Global;
 use std::sync::ledger::Ledger;
 use subject_rows::row_of;
 

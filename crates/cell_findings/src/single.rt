@@ -1,6 +1,6 @@
 //! Findings that are gathered about records, sides of edges and identifiers.
 
-ghost use Rattle.std.specs.Prelude.{◌≡◌, ◌≤◌, ◌++◌, MatchResult, length, map};
+ghost use Rattle.std.specs.Prelude.{◌≤◌, ◌++◌, MatchResult, length, map};
 ghost use Rattle.std.specs.List.{flat_map};
 ghost use Rattle.cell_spec.specs.declared.key.Subject.TheVariants.{Ident as SubjectIdent, Rec as SubjectRec, Side as SubjectSide};
 ghost use Rattle.cell_findings.specs.Gathered.{IsGathered, IsOver};

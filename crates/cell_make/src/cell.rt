@@ -1,6 +1,6 @@
 //! The generated cell.
 
-ghost use Rattle.std.specs.Prelude.{◌≡◌, ◌+◌, ◌≤◌, ◌<◌, ◌++◌, ◌∷◌, [], IfOk, OnOk};
+ghost use Rattle.std.specs.Prelude.{◌≡◌, ◌+◌, ◌≤◌, ◌<◌, ◌++◌, IfOk, OnOk};
 ghost use Rattle.cell_spec.specs.Writable.{IsWritable};
 ghost use Rattle.cell_parts.specs.Parts.{head as head_of};
 ghost use Rattle.cell_make.specs.Squares.{each_place, row_of};

@@ -1,6 +1,6 @@
 //! The area of data coverage on all squares.
 
-ghost use Rattle.std.specs.Prelude.{◌≡◌, ◌+◌, ◌*◌, ◌≤◌, ◌<◌, ◌++◌, ◌∷◌, [], IfOk, OnOk};
+ghost use Rattle.std.specs.Prelude.{◌≡◌, ◌+◌, ◌*◌, ◌≤◌, ◌<◌, ◌++◌, IfOk, OnOk};
 ghost use Rattle.cell_make.specs.GeneratedCell.{available as available_attribute, coverage_area as coverage_area_of, eastern_border};
 ghost use Rattle.cell_make.specs.GeneratedCell.{northern_border, southern_border, western_border, whole_boundary};
 

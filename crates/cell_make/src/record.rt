@@ -1,7 +1,7 @@
 //! The records of the generated cell.
 
 ghost use Rattle.std.specs.Prelude.{◌≡◌, ◌+◌, ◌*◌, ◌≤◌, ◌<◌, IfOk, pos};
-ghost use Rattle.cell_parts.specs.Parts.{area as area_of, edge as edge_of, end_at as end_of, node as node_of, outer as outer_of};
+ghost use Rattle.cell_parts.specs.Parts.{area as area_of, edge as edge_of, end_at as end_of, outer as outer_of};
 ghost use Rattle.cell_make.specs.Squares.{area_id as area_number, east_id as east_number, node_id as node_number, north_id as north_number};
 ghost use Rattle.cell_make.specs.GeneratedCell.{depth_area as depth_area_at, east_edge as east_edge_at, node_at as node_of_place, north_edge as north_edge_at};
 

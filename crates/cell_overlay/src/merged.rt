@@ -4,7 +4,7 @@ ghost use Rattle.std.specs.Prelude.{◌≡◌, ◌+◌, ◌≤◌, [], ◌∷◌
 ghost use Rattle.cell_spec.specs.declared.key.Key.{Key as SpecKey};
 ghost use Rattle.cell_overlay.specs.Laid.{AreMerged, has_a_list};
 
-use cell_spec::{Key, Names, Ref, Refs, orders_are_by_parts};
+use cell_spec::{Key, Names, Refs, orders_are_by_parts};
 use chain_topo::{Look, Steps};
 use edit_answers::EditAnswers;
 use s57_types::{Lnam, RecName};

@@ -1,6 +1,6 @@
 //! The values of the fields of a record.
 
-ghost use Rattle.std.specs.Prelude.{◌≡◌, ◌++◌, List, ℕ, [], None, OnOk, IfErr};
+ghost use Rattle.std.specs.Prelude.{◌≡◌, ◌++◌, ℕ, [], None, OnOk, IfErr};
 ghost use Rattle.file_spec.specs.RecordReading.{content_fault, fault_of_content};
 ghost use Rattle.cell_read.specs.Gives.{IsFault};
 ghost use Rattle.cell_read.specs.Kept.{kept_with};

@@ -1,7 +1,7 @@
 //! The data descriptive record: which fields a record may have, how their subfields are called and which formats they have
 //! (ISO/IEC 8211; S-57 Part 3, 7.2.2, 7.3 to 7.7 and Annex A).
 
-ghost use Rattle.std.specs.Prelude.{◌≡◌, ◌++◌, ◌∷◌, [], map, IfOk, OnOk};
+ghost use Rattle.std.specs.Prelude.{◌≡◌, ◌++◌, map, IfOk, OnOk};
 ghost use Rattle.file_spec.specs.DescriptiveRecord.{control_field, descriptive_fields, level_controls};
 ghost use Rattle.cell_write.specs.Described.{described_field, level_of};
 ghost use Rattle.frame_write.specs.OutFields.{field_of, fields_of};

@@ -1,7 +1,7 @@
 //! The fields of the two head records (S-57 Part 3, 7.3).
 
-ghost use Rattle.std.specs.Prelude.{◌≡◌, ◌≤◌, IfOk, List, ℕ, codes, count_by, length, not};
-ghost use Rattle.s57_types.specs.FieldRows.{dsid_row, dspm_row, dssi_row};
+ghost use Rattle.std.specs.Prelude.{◌≡◌, ◌≤◌, IfOk, codes, count_by, length, not};
+ghost use Rattle.s57_types.specs.FieldRows.{dsid_row, dssi_row};
 ghost use Rattle.s57_types.specs.RecordFields.{dsid_of_head, dspm_of_head, dssi_of_head, identification_fields, parameter_fields};
 ghost use Rattle.s57_types.specs.RecordFields.{field_of as row_field};
 ghost use Rattle.cell_spec.specs.Lookup.{all_records};

@@ -1,6 +1,6 @@
 //! What the edges of a boundary sweep.
 
-ghost use Rattle.std.specs.Prelude.{◌≡◌, ◌==◌, ◌∷◌, ◌++◌, [], IfOk, List, Some, option_map, true};
+ghost use Rattle.std.specs.Prelude.{◌≡◌, IfOk, List, Some, option_map, true};
 ghost use Rattle.std.specs.List.{All};
 ghost use Rattle.std.specs.Option.{option_copied};
 ghost use Rattle.s57_types.specs.declared.cell.Cell.{Cell as SpecCell};

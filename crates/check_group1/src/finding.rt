@@ -1,14 +1,14 @@
 //! The findings about the two sides of an edge.
 
-ghost use Rattle.std.specs.Prelude.{◌≡◌, ◌==◌, ◌++◌, [], ◌∷◌, IfOk, OnOk, ℕ, find, length, map, not, if◌then◌else◌};
+ghost use Rattle.std.specs.Prelude.{◌≡◌, ◌==◌, ◌++◌, [], IfOk, OnOk, length, map, not, if◌then◌else◌};
 ghost use Rattle.s57_types.specs.declared.cell.Cell.{Cell as SpecCell};
 ghost use Rattle.s57_types.specs.declared.name.RecName.{RecName as SpecRecName};
 ghost use Rattle.rule_spec.specs.declared.kind.TheConstants.{FALSE_TRUNCATION, ORPHAN, SIDE_OVERLAP, SIDE_UNBALANCED};
 ghost use Rattle.rule_spec.specs.Findings.{finding as finding_of, findings_of_rules};
 ghost use Rattle.rule_spec.specs.Rule.{found_if};
 ghost use Rattle.rule_spec.specs.Rules.{side_rules};
-ghost use Rattle.rule_spec.specs.Sides.{found_use, is_balanced as are_balanced, is_truncated, numbers_of as counts_as_numbers};
-ghost use Rattle.rule_spec.specs.Sides.{overlaps as do_overlap, side_counts as counts_of, uses_of as uses_in};
+ghost use Rattle.rule_spec.specs.Sides.{found_use, is_balanced as are_balanced, numbers_of as counts_as_numbers};
+ghost use Rattle.rule_spec.specs.Sides.{overlaps as do_overlap, uses_of as uses_in};
 
 use crate::uses::{first_truncated, side_counts};
 use cell_spec::Finding;

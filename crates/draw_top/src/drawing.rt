@@ -1,6 +1,6 @@
 //! The program as one call over a file store and an output sink.
 
-ghost use Rattle.std.specs.Prelude.{◌≡◌, ◌≢◌, ◌⊎◌, ◌↔◌, ◌<◌, ◌≤◌, ◌∷◌, [], ℕ, List, IfErr, IfOk, IfSome, Ok, Err, OnErr, OnOk, length, string_bytes, map};
+ghost use Rattle.std.specs.Prelude.{◌≡◌, ◌≢◌, ◌⊎◌, ◌↔◌, ◌<◌, ◌≤◌, ◌∷◌, [], ℕ, List, IfErr, IfOk, Ok, Err, length, string_bytes, map};
 ghost use Rattle.cell_spec.specs.Writable.{IsWritable};
 ghost use Rattle.enc_outside.specs.Count.{Rose};
 ghost use Rattle.enc_outside.specs.Files.{Told};

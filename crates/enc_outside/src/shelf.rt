@@ -1,6 +1,6 @@
 //! A file store that a caller lends.
 
-ghost use Rattle.std.specs.Prelude.{◌≡◌, ◌<◌, ◌≤◌, ◌++◌, List, ℕ, Option, [], length, take, IfSome, IfOk, OnOk, OnErr, IsSome};
+ghost use Rattle.std.specs.Prelude.{◌≡◌, ◌<◌, ℕ, Option, [], length, take, IfSome, IfOk, OnOk, OnErr, IsSome};
 ghost use Rattle.enc_outside.specs.Count.{Counts};
 ghost use Rattle.enc_outside.specs.Files.{Files, Writes, AppendsTo, MayEmpty, SameFiles, Told, StaysUntold};
 ghost use Rattle.enc_outside.specs.Shelf.{TellsFile, FitsGot};

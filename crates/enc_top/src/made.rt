@@ -1,6 +1,6 @@
 //! The generated cell, and the drill on it.
 
-ghost use Rattle.std.specs.Prelude.{◌≡◌, ◌≤◌, ◌∷◌, IfOk, List, Ok, Option, map, string_bytes, ℕ};
+ghost use Rattle.std.specs.Prelude.{◌≤◌, IfOk, Ok, Option, map, string_bytes, ℕ};
 ghost use Rattle.enc_outside.specs.Files.{Files};
 ghost use Rattle.call_files.specs.Inputs.{IsJudged};
 ghost use Rattle.enc_top.specs.Inputs.{drill_answer};

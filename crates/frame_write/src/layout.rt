@@ -1,6 +1,6 @@
 //! How long a record is, and what its leader and its directory need to know of its fields.
 
-ghost use Rattle.std.specs.Prelude.{◌≡◌, ◌<◌, ◌≤◌, ◌^◌, MatchOption, sum};
+ghost use Rattle.std.specs.Prelude.{◌≡◌, ◌<◌, ◌≤◌, MatchOption, sum};
 ghost use Rattle.frame_spec.specs.WrittenRecord.{digit_count, record_length};
 ghost use Rattle.frame_write.specs.OutFields.{lengths_of};
 ghost use Rattle.frame_write.specs.Layouts.{IsSizesOf, IsLayoutOf};

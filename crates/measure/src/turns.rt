@@ -1,5 +1,5 @@
 //! Turns under the ticket lock, by so many threads.
-ghost use Rattle.std.specs.Prelude.{◌≤◌, ◌<◌};
+ghost use Rattle.std.specs.Prelude.{◌<◌};
 
 use gate_turns::signatures_of;
 use std::alloc::{AllocError, Global};

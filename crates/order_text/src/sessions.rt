@@ -1,6 +1,6 @@
 //! The sessions that items name.
 
-ghost use Rattle.std.specs.Prelude.{◌≡◌, ℕ, ◌<◌, ◌≤◌, ◌+◌, ◌-◌, ◌^◌, ◌==◌, ◌∷◌, [], ◌++◌, map, length, not, true};
+ghost use Rattle.std.specs.Prelude.{◌≡◌, ℕ, ◌<◌, ◌≤◌, ◌+◌, ◌-◌, ◌^◌, ◌∷◌, [], ◌++◌, map, length, not, true};
 ghost use Rattle.std.specs.Prelude.{option_to_list, List, IfSome, IfOk, OnOk, MatchResult, slice_index};
 ghost use Rattle.text_spec.specs.OrderLine.{are_all_used as are_all_used_lem, is_bad_session, session_of};
 ghost use Rattle.order_text.specs.Counts.{AreCounts, AreTaken, IsItemRefusal};

@@ -1,6 +1,6 @@
 //! Where the mark of one of very many findings is held: the middle of the first stroke of its place, found without the strokes.
 
-ghost use Rattle.std.specs.Prelude.{◌≡◌, ◌∷◌, [], IfOk, IfSome, OnOk, flat_map, map};
+ghost use Rattle.std.specs.Prelude.{◌≡◌, [], IfOk, IfSome, flat_map, map};
 ghost use Rattle.cell_spec.specs.Lookup.{lookup_record};
 ghost use Rattle.s57_types.specs.declared.cell.Cell.{Cell as SpecCell};
 ghost use Rattle.picture_places.specs.Holds.{IsHeld};

@@ -3,9 +3,9 @@
 ghost use Rattle.std.specs.Prelude.{◌≡◌, ◌++◌, ◌∷◌, [], IfOk, OnOk};
 ghost use Rattle.cell_spec.specs.Lookup.{lookup_record};
 ghost use Rattle.picture_places.specs.Places.{common_dots, is_at_place as spec_is_at_place, is_contact as spec_is_contact, pair_place, place_about};
-ghost use Rattle.picture_places.specs.Places.{pointer_at as spec_pointer_at, points_named as spec_points_named, record_place};
+ghost use Rattle.picture_places.specs.Places.{pointer_at as spec_pointer_at, record_place};
 ghost use Rattle.picture_places.specs.Places.{segment_named as spec_segment_named, segment_of as spec_segment_of, strokes_at_place};
-ghost use Rattle.picture_places.specs.Strokes.{strokes_named, stroke_of};
+ghost use Rattle.picture_places.specs.Strokes.{stroke_of};
 
 use crate::meet::push_common_dot;
 use crate::stroke::Strokes;

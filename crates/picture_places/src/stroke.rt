@@ -1,7 +1,7 @@
 //! The strokes that draw a record.
 
 ghost use Rattle.std.specs.Prelude.{◌≡◌, ◌++◌, ◌∷◌, [], IfOk, OnOk, flat_map, map};
-ghost use Rattle.picture_places.specs.Page.{page_point as spec_page_point, positions_of};
+ghost use Rattle.picture_places.specs.Page.{positions_of};
 ghost use Rattle.picture_places.specs.Strokes.{dot_at, drawn_points, stroke_of as spec_stroke_of, strokes_named, target_strokes, vector_strokes};
 
 use crate::extent::push_positions;

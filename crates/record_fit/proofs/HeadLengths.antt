@@ -1,7 +1,7 @@
 -- The lengths of the head records.
 use Rattle.std.proofs.Common.{◌≡◌, ℕ, ◌+◌, ◌*◌, List, [], ◌∷◌, ◌++◌, codes, length, map, refl, sym, ◌∙◌, ap, arith, leb, length-append}
 use Rattle.frame_spec.specs.WrittenRecord.{record_length, field_lengths}
-use Rattle.s57_types.specs.Subfield.{Subfield, unsigned_of, row_bytes, field_terminator}
+use Rattle.s57_types.specs.Subfield.{unsigned_of, row_bytes, field_terminator}
 use Rattle.s57_types.specs.FieldRows.{dsid_row, dssi_row, dspm_row}
 use Rattle.s57_types.specs.RecordFields.{number_field, field_of, length_limit}
 use Rattle.s57_types.specs.declared.field.Dsid.{Dsid}

@@ -1,6 +1,6 @@
 //! Whether a head can be written.
 
-ghost use Rattle.std.specs.Prelude.{◌≡◌, ◌+◌, ◌&&◌, ◌∷◌, [], nat_le, length};
+ghost use Rattle.std.specs.Prelude.{◌≡◌, ◌+◌, ◌&&◌, nat_le, length};
 ghost use Rattle.std.specs.List.{list_all};
 ghost use Rattle.frame_spec.specs.WrittenRecord.{record_length, field_lengths};
 ghost use Rattle.s57_types.specs.Subfield.{is_plain, text_of, fixed_of, row_bytes};

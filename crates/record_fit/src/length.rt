@@ -1,6 +1,6 @@
 //! The length of a record when it is written.
 
-ghost use Rattle.std.specs.Prelude.{◌≡◌, ◌+◌, ◌*◌, ◌^◌, ◌<◌, ◌≤◌, ◌==◌, List, ℕ, [], ◌∷◌, ◌++◌, length, nat_le, if◌then◌else◌};
+ghost use Rattle.std.specs.Prelude.{◌≡◌, ◌+◌, ◌*◌, ◌^◌, ◌<◌, ◌≤◌, ◌==◌, List, ℕ, [], ◌∷◌, ◌++◌, length, nat_le};
 ghost use Rattle.frame_spec.specs.WrittenRecord.{digit_count, record_length};
 ghost use Rattle.s57_types.specs.FieldRows.{attribute_row, partner_row};
 ghost use Rattle.s57_types.specs.RecordFields.{terminator_of, written_length, length_limit};

@@ -1,6 +1,6 @@
 //! The store of a whole cell.
 
-ghost use Rattle.std.specs.Prelude.{◌≡◌, ◌++◌, IfOk, OnOk, flat_map, map};
+ghost use Rattle.std.specs.Prelude.{◌≡◌, IfOk, flat_map, map};
 ghost use Rattle.std.specs.Borrow.{Bor};
 ghost use Rattle.s57_types.specs.declared.record.Rec.{Rec as SpecRec};
 ghost use Rattle.cell_spec.specs.Ascending.{ascending};

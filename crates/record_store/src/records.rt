@@ -301,7 +301,7 @@ fn find(names: &SharedTable<RecName, Held>, name: RecName) -> Option<&Rec>
 fn copies_of(alloc: Global, list: &FileList) -> Result<Recs, AllocError>
     ensures { IfOk result (λ recs. recs ≡ records_in list.now) }
 {
-    let mut recs = Recs::make(alloc);
+    let mut recs = Recs::of_vec(Vec::with_capacity(alloc, list.len())?);
     for row in list.rows() {
         recs.push(rec_of(row).copy(alloc)?)?;
     }

@@ -9,7 +9,7 @@ use Rattle.std.proofs.lemmas.List.Sums.{sum_by-cons}
 use Rattle.std.proofs.lemmas.List.Elements.{All-nil, All-cons, All-head, All-tail}
 use Rattle.s57_types.specs.declared.name.RecName.{RecName}
 use Rattle.cell_spec.specs.Names.{same_name}
-use Rattle.rule_spec.specs.Loops.{Arc, AreLoops, is_loop, counted_from, loop_length, loop_lengths_within, loop_lengths, first_open_place}
+use Rattle.rule_spec.specs.Loops.{Arc, is_loop, counted_from, loop_length, loop_lengths_within, loop_lengths}
 use Rattle.rule_spec.specs.Loops as loops
 use Rattle.ring_build.specs.declared.ring.Block.{Block}
 use Rattle.ring_build.specs.declared.ring.RingCut.{RingCut}

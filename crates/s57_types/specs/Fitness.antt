@@ -1,5 +1,5 @@
 -- Which records and heads can be written, and why not.
-use Rattle.std.specs.Prelude.{ℕ, ◌&&◌, Bool, true, false, not, nat_le, nat_lt, List, [], ◌∷◌, ◌++◌, Option, Some, None, if◌then◌else◌}
+use Rattle.std.specs.Prelude.{ℕ, ◌&&◌, Bool, true, false, not, nat_le, nat_lt, List, [], ◌++◌, Option, Some, None, if◌then◌else◌}
 use Rattle.std.specs.List.{list_all, flat_map}
 use Rattle.frame_spec.specs.WrittenRecord.{record_length, field_lengths}
 use Rattle.s57_types.specs.Subfield.{Subfield, is_plain}

@@ -1,7 +1,6 @@
 //! The items of records: the value that each stands for, by what follows its letter.
 
 ghost use Rattle.std.specs.Prelude.{◌≡◌, ◌++◌, ◌∷◌, [], ℤ, List, ℕ, codes, false, IfOk, MatchOption, OnOk};
-ghost use Rattle.s57_types.specs.declared.name.Lnam.{Lnam};
 ghost use Rattle.s57_types.specs.declared.record.Attr.{Attr};
 ghost use Rattle.s57_types.specs.declared.record.End.{End};
 ghost use Rattle.s57_types.specs.declared.record.Spot.{Spot};

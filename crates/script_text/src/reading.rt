@@ -1,6 +1,6 @@
 //! Reading scripts. A line is taken only where it is the line of the command that was read from it.
 
-ghost use Rattle.std.specs.Prelude.{◌≡◌, ◌↔◌, IsTrue, ◌∷◌, ◌++◌, [], ◌<◌, ◌^◌, ◌≤◌, ℕ, List, Ok, codes, length, true, IfOk, MatchResult, decimal};
+ghost use Rattle.std.specs.Prelude.{◌≡◌, ◌↔◌, IsTrue, ◌∷◌, ◌++◌, [], ◌<◌, ◌^◌, ℕ, List, Ok, codes, length, true, IfOk, MatchResult, decimal};
 ghost use Rattle.cell_spec.specs.declared.edit.Edit.{Edit};
 ghost use Rattle.s57_types.specs.declared.record.Rec.{Rec};
 ghost use Rattle.text_spec.specs.EditLine.{has_line, record_has_line, record_words};

@@ -1,6 +1,6 @@
 //! Pieces of rows that ascend already, made level by level without a search.
 
-ghost use Rattle.std.specs.Prelude.{◌≡◌, ◌++◌, IfOk, OnOk, length, vec_len};
+ghost use Rattle.std.specs.Prelude.{◌≡◌, ◌++◌, IfOk, OnOk, vec_len};
 ghost use Rattle.row_spec.specs.Rows.{IsAscending};
 ghost use Rattle.shared_table.specs.Pieces.{AllBegin, AreParts, rows_of};
 

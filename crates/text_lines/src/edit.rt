@@ -4,7 +4,7 @@ ghost use Rattle.std.specs.Prelude.{◌≡◌, ◌++◌, ◌∷◌, [], codes, d
 ghost use Rattle.text_spec.specs.CellText.{name_words};
 ghost use Rattle.text_spec.specs.EditLine.{attribute_item, edit_line, feature_words, has_line, head_words, partner_item, place_item, record_words};
 ghost use Rattle.text_spec.specs.EditLine.{vector_words};
-ghost use Rattle.text_spec.specs.Lines.{spaced, spaced_words};
+ghost use Rattle.text_spec.specs.Lines.{spaced_words};
 
 use crate::item::{
     push_attributes, push_deep, push_ends, push_level, push_partners, push_places, push_plane,

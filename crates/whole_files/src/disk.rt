@@ -1,6 +1,6 @@
 //! The real file store.
 
-ghost use Rattle.std.specs.Prelude.{◌≤◌, None, IfOk, length};
+ghost use Rattle.std.specs.Prelude.{◌≡◌, ◌≤◌, None, IfOk, length};
 
 use enc_outside::{Failed, Got, Shelf};
 use std::fs::{File, OpenOptions};
@@ -18,8 +18,11 @@ pub struct DiskShelf<'a, R: Files<File = File>> {
 }
 
 impl<'a, R: Files<File = File>> DiskShelf<'a, R> {
-    /// The files that the program may reach by name.
-    pub fn new(rt: &'a R) -> DiskShelf<'a, R> {
+    /// The files that the program may reach by name. No call of theirs has failed.
+    pub fn new(rt: &'a R) -> DiskShelf<'a, R>
+        ensures read_faults { result.read_faults ≡ 0 }
+        ensures write_faults { result.write_faults ≡ 0 }
+    {
         DiskShelf {
             rt,
             read_faults: 0,

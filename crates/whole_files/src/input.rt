@@ -4,7 +4,7 @@ ghost use Rattle.std.specs.Prelude.{◌≡◌, ◌≤◌, ◌<◌, ◌^◌, Some
 ghost use Rattle.whole_files.specs.Input.{IsInputCause, IsUntoldCause};
 
 use enc_outside::{Got, Shelf};
-use std::alloc::{AllocError, Global};
+use std::alloc::Global;
 
 /// Why a file was not read.
 #[derive(Clone, Copy, Debug, PartialEq, Eq)]

@@ -39,8 +39,10 @@ fn folder_of(name: &str) -> &str {
 }
 
 impl<'a, R: Files<File = File>> FileDisk<'a, R> {
-    /// The disk over the file of this name.
-    pub fn new(rt: &'a R, name: &'a str) -> FileDisk<'a, R> {
+    /// The disk over the file of this name. No call of it has failed.
+    pub fn new(rt: &'a R, name: &'a str) -> FileDisk<'a, R>
+        ensures { result.faults ≡ 0 }
+    {
         FileDisk {
             rt,
             name,

@@ -1,6 +1,6 @@
 //! Standard output.
 
-ghost use Rattle.std.specs.Prelude.{None};
+ghost use Rattle.std.specs.Prelude.{◌≡◌, None};
 
 use enc_outside::{Failed, Sink};
 use std::io;
@@ -14,8 +14,10 @@ pub struct StdSink<'a, R: Print> {
 }
 
 impl<'a, R: Print> StdSink<'a, R> {
-    /// The program's standard output.
-    pub fn new(rt: &'a R) -> StdSink<'a, R> {
+    /// The program's standard output. No call of it has failed.
+    pub fn new(rt: &'a R) -> StdSink<'a, R>
+        ensures { result.faults ≡ 0 }
+    {
         StdSink { rt, faults: 0 }
     }
 }

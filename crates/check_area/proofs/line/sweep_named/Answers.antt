@@ -1,4 +1,4 @@
-use Rattle.std.proofs.Common.{◌≡◌, Some, None, IfOk, Option, option_map, sym, ap, subst, ◌∙◌}
+use Rattle.std.proofs.Common.{◌≡◌, Some, None, IfOk, Option, option_map, sym, ap, subst}
 use Rattle.std.specs.Prelude.{option_and_then}
 use Rattle.s57_types.specs.declared.record.Vector.{Vector}
 use Rattle.rule_spec.specs.EdgePoints.{edge_line_of, line_of}

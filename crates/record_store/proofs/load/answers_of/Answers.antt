@@ -1,4 +1,4 @@
-use Rattle.std.proofs.Common.{◌≡◌, All, map, flat_map, subst, sym, ap, ◌∙◌}
+use Rattle.std.proofs.Common.{All, map, flat_map, subst, sym, ap, ◌∙◌}
 use Rattle.std.specs.Borrow.{Bor}
 use Rattle.std.proofs.lemmas.Result.{IfOk-weaker}
 use Rattle.s57_types.specs.declared.record.Rec.{Rec}

@@ -1,6 +1,6 @@
-use Rattle.std.proofs.Common.{◌≡◌, ◌++◌, ◌∷◌, [], ◌∙◌, ap, sym, arith, append-nil}
+use Rattle.std.proofs.Common.{◌++◌, [], ◌∙◌, ap, sym, arith, append-nil}
 use Rattle.row_spec.proofs.Runs.{nil_from_length}
-use Rattle.shared_table.specs.Pieces.{AllBegin, rows_of}
+use Rattle.shared_table.specs.Pieces.{rows_of}
 use Rattle.shared_table.proofs.Gathered.{moved_parts, moved_begin, begun_parts, begun_begin, layer_parts}
 use Rattle.shared_table.proofs.filled.layers_of.Goals as goal
 use Rattle.shared_table.proofs.filled.layers_of.Goals.{then-len-ge-FILLED+in_ok-with_capacity+in_ok-push_layer, else-len-ge-FILLED}

@@ -1,6 +1,4 @@
-use Rattle.std.proofs.Common.{◌≡◌, ◌++◌, ◌∙◌, ap, sym}
 use Rattle.std.proofs.lemmas.List.Elements.{All-push}
-use Rattle.shared_table.specs.Pieces.{BeginsWith, rows_of}
 use Rattle.shared_table.proofs.Gathered.{rows_of-push}
 use Rattle.shared_table.proofs.Parts.{Begins, first_begins}
 use Rattle.shared_table.proofs.filled.push_layer.Goals as goal

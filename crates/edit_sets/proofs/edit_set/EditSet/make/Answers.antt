@@ -1,4 +1,4 @@
-use Rattle.std.proofs.Common.{◌≡◌, ◌++◌, length, map, sym, ap, subst, ◌∙◌}
+use Rattle.std.proofs.Common.{◌++◌, map, sym, ap, subst, ◌∙◌}
 use Rattle.std.specs.Option.{option_or}
 use Rattle.cell_spec.specs.Ascending.{ascending}
 use Rattle.cell_spec.specs.Edits.{name_of_edit}

@@ -1,6 +1,5 @@
-use Rattle.std.proofs.Common.{false, length, Some, slice_set, sym, subst, ap, ◌∙◌}
+use Rattle.std.proofs.Common.{false, Some, sym, ap, ◌∙◌}
 use Rattle.std.specs.Prelude.{slice_get}
-use Rattle.edit_sets.specs.Places.{ArePlaces}
 use Rattle.edit_sets.proofs.NotedPlaces.{has_place, none_held, one_noted, place_there}
 use Rattle.edit_sets.proofs.places.Places.put.Goals as goal
 

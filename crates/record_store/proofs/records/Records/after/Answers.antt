@@ -1,4 +1,4 @@
-use Rattle.std.proofs.Common.{◌≡◌, [], ◌∷◌, sym, ap, subst, ◌∙◌}
+use Rattle.std.proofs.Common.{[], ◌∷◌, sym, ap, subst, ◌∙◌}
 use Rattle.cell_spec.specs.Edits.{apply_edits}
 use Rattle.answer_laws.specs.EditedAnswers.{FindTheirRecords}
 use Rattle.record_store.proofs.Edits.{no_edits, step_cell, step_fits}

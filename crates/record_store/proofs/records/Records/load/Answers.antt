@@ -1,4 +1,4 @@
-use Rattle.std.proofs.Common.{◌≡◌, ◌∷◌, ◌++◌, arith, sym, ap, subst, ◌∙◌}
+use Rattle.std.proofs.Common.{◌≡◌, ◌++◌, arith, sym, ap, subst, ◌∙◌}
 use Rattle.cell_spec.specs.Lookup.{all_records}
 use Rattle.row_spec.proofs.Runs.{nil_from_length}
 use Rattle.record_store.specs.Lists.{empty_of}

@@ -1,4 +1,4 @@
-use Rattle.std.proofs.Common.{◌≡◌, [], ◌∷◌, sym, ap, ◌∙◌}
+use Rattle.std.proofs.Common.{[], ◌∷◌, sym, ap, ◌∙◌}
 use Rattle.s57_types.specs.declared.record.Rec.TheVariants.{H}
 use Rattle.s57_types.specs.Heads.{edited_head}
 use Rattle.cell_spec.specs.declared.edit.Edit.TheVariants.{Head}

@@ -1,10 +1,10 @@
-use Rattle.std.proofs.Common.{◌≡◌, [], ◌∷◌, List, sym, ap, subst, ◌∙◌}
+use Rattle.std.proofs.Common.{◌≡◌, [], ◌∷◌, sym, ap, subst, ◌∙◌}
 use Rattle.std.specs.Ordering.{nat_cmp}
 use Rattle.std.specs.declared.cmp.Ordering.{Ordering}
 use Rattle.s57_types.specs.declared.name.RecName.{RecName}
 use Rattle.cell_spec.specs.Edits.{apply_edits}
 use Rattle.cell_spec.specs.Names.{name_order}
-use Rattle.row_spec.specs.Rows.{IsAscending, value_of, without_key}
+use Rattle.row_spec.specs.Rows.{IsAscending, without_key}
 use Rattle.answer_laws.specs.EditedAnswers.{FindTheirRecords}
 use Rattle.record_store.specs.Lists.{AreRecords, cell_of, rows_of, with_rows}
 use Rattle.record_store.proofs.OneEdit.{cell_gone, records_gone}

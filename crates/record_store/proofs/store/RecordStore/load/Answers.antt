@@ -1,4 +1,4 @@
-use Rattle.std.proofs.Common.{◌≡◌, sym, ap, subst, ◌∙◌}
+use Rattle.std.proofs.Common.{sym, ap, subst, ◌∙◌}
 use Rattle.cell_spec.specs.Lookup.{lookup_identity, lookup_pointers}
 use Rattle.cell_spec.specs.Writable.{IsWritable}
 use Rattle.record_store.proofs.store.RecordStore.load.Goals as goal
