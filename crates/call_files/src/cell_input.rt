@@ -13,9 +13,9 @@ use cell_findings::{Findings, find_all_in_threads};
 use cell_read::ReadRefusal;
 use decode_laws::decoded_cell_is_writable;
 use enc_outside::Shelf;
+use recheck::load;
 use report_text::Status;
 use s57_types::Cell;
-use sessions::load_bench;
 use std::alloc::Global;
 use std::thread::Threads;
 
@@ -89,7 +89,7 @@ fn judge_cell<R: Threads + Sync>(rt: &R, alloc: Global, bytes: &[u8]) -> Result<
 }
 
 /// The bench of a file's cell.
-fn judge_bench(alloc: Global, bytes: &[u8]) -> Result<Bench, Status>
+fn judge_bench<R: Threads + Sync>(rt: &R, alloc: Global, bytes: &[u8]) -> Result<Bench, Status>
     requires small { length bytes.now ≤ 16777216 }
     ensures judged { IsJudged (λ bench. bench) (cell_in bytes.now) result }
     ensures of_file { IfOk result IsCellOfFile }
@@ -100,7 +100,7 @@ fn judge_bench(alloc: Global, bytes: &[u8]) -> Result<Bench, Status>
         Ok(cell) => cell,
         Err(status) => return Err(status),
     };
-    match load_bench(alloc, cell) {
+    match load(rt, alloc, cell) {
         Ok(bench) => Ok(bench),
         Err(LoadRefusal::FindingsFull) => Err(Status::TooManyFindings),
         Err(LoadRefusal::NoMemory) => Err(Status::NoMemory),
@@ -130,7 +130,12 @@ pub fn read_cell<R: Threads + Sync, H: Shelf>(
 }
 
 /// The bench of an input file's cell.
-pub fn read_bench<H: Shelf>(alloc: Global, shelf: &mut H, name: &str) -> Result<Bench, Status>
+pub fn read_bench<R: Threads + Sync, H: Shelf>(
+    rt: &R,
+    alloc: Global,
+    shelf: &mut H,
+    name: &str,
+) -> Result<Bench, Status>
     ensures tells { Tells (λ bench. bench) (CellIs name.now) (IsFile name.now)
         (H.files shelf.old) (H.read_faults shelf.old) (H.read_faults shelf.new) result }
     ensures of_file { IfOk result IsCellOfFile }
@@ -141,7 +146,7 @@ pub fn read_bench<H: Shelf>(alloc: Global, shelf: &mut H, name: &str) -> Result<
     ensures write_faults { H.write_faults shelf.new ≡ H.write_faults shelf.old }
 {
     let bytes = read_input(alloc, shelf, name, CELL_LIMIT)?;
-    judge_bench(alloc, &bytes)
+    judge_bench(rt, alloc, &bytes)
 }
 
 /// The bytes of an update file, of which there may be as many as of a cell file.

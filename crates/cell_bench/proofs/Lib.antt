@@ -5,6 +5,6 @@ mod Judging
 mod HeadNames
 mod KeptSubjects
 mod Refused
-mod SingleReads
+pub mod SingleReads
 mod Totals
 mod ValidRows

@@ -25,3 +25,4 @@ pub use count::narrow;
 pub use plan::BenchPlan;
 pub use prepared::Prepared;
 pub use refusal::{FINDING_LIMIT, PlanRefusal};
+pub use singles::{reads_row, singles_of};

@@ -16,19 +16,18 @@ ghost use Rattle.cell_bench.specs.Verdicts.{total_of};
 use crate::bench::Bench;
 use crate::indexed::IndexedCell;
 use crate::refusal::FINDING_LIMIT;
-use crate::singles::singles_of;
+use crate::singles::{reads_row, singles_of};
 use crate::table::rows_of;
 use crate::verdicts::Verdicts;
 use cell_findings::{Findings as FlatFindings, LoadRefusal, find_all, names_in, tiles_of};
-use cell_spec::{Keys, Subject};
-use chain_topo::Steps;
+use cell_spec::{Keys, Subject, writable_cells_are_readable};
+use chain_topo::{ListLook, Steps};
 use depend_map::DependMap;
 use finding_laws::listed_tables_are_right;
 use record_store::RecordStore;
-use s57_types::{Cell, Duplicate};
+use s57_types::Cell;
 use std::alloc::{AllocError, Global};
 use std::sync::ledger::Ledger;
-use subject_rows::row_of;
 
 impl Bench {
     /// The bench of a writable cell.
@@ -43,30 +42,51 @@ impl Bench {
         ensures { MatchResult result (IsLoaded cell) (IsLoadRefusal cell) }
     {
         let findings = find_all(alloc, &cell, FINDING_LIMIT, steps)?;
-        let verdicts = verdicts_of(alloc, &cell, &findings)?;
-        let indexed = IndexedCell::of(alloc, cell, verdicts, steps)?;
-        Ok(Bench::make(alloc, indexed)?)
+        let reads = reads_of(alloc, &cell, steps)?;
+        Ok(Bench::of_judged(alloc, cell, &findings, reads, steps)?)
+    }
+
+    /// The bench of a writable cell that is judged already: with all its findings, and with the read set of each of its subjects but the
+    /// pairs, in the order of subjects.
+    ///
+    /// An `Err` means out of memory.
+    pub fn of_judged<L: Ledger>(
+        alloc: Global,
+        cell: Cell,
+        findings: &FlatFindings,
+        reads: Vec<(Subject, Keys)>,
+        steps: &mut Steps<L>,
+    ) -> Result<Bench, AllocError>
+        requires writable { IsWritable cell }
+        requires findings { IsAllOf cell finding_limit findings.now }
+        requires reads { reads.items ≡ map (reads_row cell) (ascending subject_order (singles_in cell)) }
+        ensures { IfOk result (IsLoaded cell) }
+    {
+        let verdicts = verdicts_of(alloc, &cell, findings)?;
+        let indexed = IndexedCell::of(alloc, cell, verdicts, reads, steps)?;
+        Bench::make(alloc, indexed)
     }
 }
 
 impl IndexedCell {
-    // A writable cell with its findings, indexed.
+    // A writable cell with its findings and its read sets, indexed.
     fn of<L: Ledger>(
         alloc: Global,
         cell: Cell,
         verdicts: Verdicts,
+        reads: Vec<(Subject, Keys)>,
         steps: &mut Steps<L>,
     ) -> Result<IndexedCell, AllocError>
         requires writable { IsWritable cell }
         requires verdicts { IsVerdictTable cell verdicts }
         requires few { total_of verdicts ≤ finding_limit }
+        requires reads { reads.items ≡ map (reads_row cell) (ascending subject_order (singles_in cell)) }
         ensures { IfOk result (λ indexed. indexed ≡ cell) }
     {
         let names = names_in(alloc, &cell)?;
-        let singles = singles_of(alloc, &cell)?;
         let store = RecordStore::load(alloc, cell)?;
         let tiles = tiles_of(alloc, &store, names.as_slice(), steps)?;
-        let map = reads_of(alloc, &store, &singles, steps)?;
+        let map = readers_of(alloc, &store, reads)?;
         Ok(IndexedCell {
             store,
             tiles,
@@ -91,35 +111,46 @@ fn verdicts_of(alloc: Global, cell: &Cell, findings: &FlatFindings) -> Result<Ve
 // Subjects with the keys that they read.
 fn rows_read<L: Ledger>(
     alloc: Global,
-    store: &RecordStore,
+    look: &ListLook,
     subjects: &[Subject],
     steps: &mut Steps<L>,
 ) -> Result<Vec<(Subject, Keys)>, AllocError>
-    requires { All (λ s. IsTrue (is_single s || is_subject store.now s)) subjects.now }
-    ensures { IfOk result (λ rows. rows.items ≡ map (reads_row store.now) subjects.now) }
+    requires { All (λ s. IsTrue (is_single s || is_subject look.now s)) subjects.now }
+    ensures { IfOk result (λ rows. rows.items ≡ map (reads_row look.now) subjects.now) }
 {
     let mut rows = Vec::with_capacity(alloc, subjects.len())?;
     for subject in subjects {
-        let row = row_of(alloc, store, *subject, steps)?;
-        // A copy has no more memory than its keys need: they stay as long as the bench.
-        rows.push((*subject, row.reads.copy(alloc)?))?;
+        rows.push(reads_row(alloc, look, *subject, steps)?)?;
     }
     Ok(rows)
 }
 
-// The read sets of a cell's records, sides and identifiers, which ascend: all at once, since one put after the other costs more than
-// judging does.
+// The read sets of a cell's records, sides and identifiers, which ascend. They are made of lists, since looking up in the tables of a store
+// costs more.
 fn reads_of<L: Ledger>(
     alloc: Global,
-    store: &RecordStore,
-    subjects: &[Subject],
+    cell: &Cell,
     steps: &mut Steps<L>,
+) -> Result<Vec<(Subject, Keys)>, AllocError>
+    requires { IsWritable cell.now }
+    ensures { IfOk result (λ rows. rows.items ≡ map (reads_row cell.now) (ascending subject_order (singles_in cell.now))) }
+{
+    writable_cells_are_readable();
+    let look = ListLook::make(alloc, cell)?;
+    let subjects = singles_of(alloc, cell)?;
+    rows_read(alloc, &look, &subjects, steps)
+}
+
+// Who reads what: all at once, since one put after the other costs more than judging does.
+fn readers_of(
+    alloc: Global,
+    store: &RecordStore,
+    reads: Vec<(Subject, Keys)>,
 ) -> Result<DependMap, AllocError>
-    requires { subjects.now ≡ ascending subject_order (singles_in store.now) }
+    requires { reads.items ≡ map (reads_row store.now) (ascending subject_order (singles_in store.now)) }
     ensures { IfOk result (λ map. IsReadsOf store.now map) }
 {
     RecordStore::known(store);
-    let rows = rows_read(alloc, store, subjects, steps)?;
-    let map = DependMap::from_rows(alloc, rows)?;
+    let map = DependMap::from_rows(alloc, reads)?;
     Ok(map)
 }

@@ -1,14 +1,18 @@
-//! The subjects of a cell but its pairs.
+//! The subjects of a cell but its pairs, and what they read.
 
-ghost use Rattle.std.specs.Prelude.{◌≡◌, ◌++◌, IfOk, OnOk};
+ghost use Rattle.std.specs.Prelude.{◌≡◌, ◌++◌, ◌||◌, IfOk, IsTrue, OnOk};
 ghost use Rattle.cell_spec.specs.Ascending.{ascending};
 ghost use Rattle.cell_spec.specs.Names.{subject_order};
-ghost use Rattle.cell_bench.specs.Singles.{singles_among, singles_in, singles_of as spec_singles};
+ghost use Rattle.rule_spec.specs.Affected.{is_single};
+ghost use Rattle.rule_spec.specs.Findings.{is_subject};
+ghost use Rattle.cell_bench.specs.Singles.{reads_row as spec_reads_row, singles_among, singles_in, singles_of as spec_singles};
 
-use cell_spec::{Subject, distinct, orders_are_by_parts};
-use chain_topo::edge_of;
-use s57_types::{Cell, Rec};
+use cell_spec::{Keys, Subject, distinct, orders_are_by_parts};
+use chain_topo::{Look, Steps, edge_of};
+use s57_types::{Cell, Duplicate, Rec};
 use std::alloc::{AllocError, Global};
+use std::sync::ledger::Ledger;
+use subject_rows::row_of;
 
 // Appends a record, its side if it is an edge, and its identifier if it bears one.
 fn push_singles(subjects: &mut Vec<Subject>, rec: &Rec) -> Result<(), AllocError>
@@ -36,7 +40,9 @@ fn push_all(subjects: &mut Vec<Subject>, recs: &[Rec]) -> Result<(), AllocError>
 }
 
 /// The records of a cell, the sides of its edges and the identifiers of its features, ascending, each once.
-pub(crate) fn singles_of(alloc: Global, cell: &Cell) -> Result<Vec<Subject>, AllocError>
+///
+/// An `Err` means out of memory.
+pub fn singles_of(alloc: Global, cell: &Cell) -> Result<Vec<Subject>, AllocError>
     ensures { IfOk result (λ subjects. subjects.items ≡ ascending subject_order (singles_in cell.now)) }
 {
     orders_are_by_parts();
@@ -46,4 +52,21 @@ pub(crate) fn singles_of(alloc: Global, cell: &Cell) -> Result<Vec<Subject>, All
     push_all(&mut subjects, cell.ve.as_slice())?;
     push_all(&mut subjects, cell.fe.as_slice())?;
     Ok(distinct(subjects))
+}
+
+/// A record, a side, an identifier, or a pair of the cell, with its read set.
+///
+/// An `Err` means out of memory.
+pub fn reads_row<B: Look, L: Ledger>(
+    alloc: Global,
+    look: &B,
+    subject: Subject,
+    steps: &mut Steps<L>,
+) -> Result<(Subject, Keys), AllocError>
+    requires { IsTrue (is_single subject || is_subject (B.cell look.now) subject) }
+    ensures { IfOk result (λ row. row ≡ spec_reads_row (B.cell look.now) subject) }
+{
+    let row = row_of(alloc, look, subject, steps)?;
+    // A copy has no more memory than its keys need: they stay as long as a bench.
+    Ok((subject, row.reads.copy(alloc)?))
 }

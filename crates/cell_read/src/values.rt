@@ -64,13 +64,17 @@ pub fn no_values(alloc: Global) -> FieldValues
     }
 }
 
-/// Puts rows behind others.
+/// Puts rows behind others. Mostly there are none, and no memory is taken.
 fn join<T: Drop>(alloc: Global, rows: &mut Items<T>, more: Items<T>) -> Result<(), AllocError>
     ensures { OnOk result (rows.new ≡ rows.old ++ more) }
 {
-    let mut joined = mem::replace(rows, Items::make(alloc)).into_vec();
-    joined.append(&mut more.into_vec())?;
-    *rows = Items::of_vec(joined);
+    if rows.is_empty() {
+        *rows = more;
+    } else {
+        let mut joined = mem::replace(rows, Items::make(alloc)).into_vec();
+        joined.append(&mut more.into_vec())?;
+        *rows = Items::of_vec(joined);
+    }
     Ok(())
 }
 

@@ -2,6 +2,7 @@
 use Rattle.std.specs.Prelude.{◌≡◌, ℕ, ◌≤◌, Bool, true, false, List, length, count_by}
 use Rattle.s57_types.specs.declared.cell.Cell.{Cell}
 use Rattle.rule_spec.specs.Findings.{finding_total}
+use Rattle.text_spec.specs.OrderLine.{IsOrder}
 use Rattle.text_spec.specs.declared.command.Command.{Command}
 use Rattle.history_spec.specs.declared.entry.Entry.{Entry}
 use Rattle.history_spec.specs.declared.reply.Brief.{Brief}
@@ -10,6 +11,7 @@ use Rattle.history_spec.specs.declared.reply.Reply.{Reply}
 use Rattle.history_spec.specs.Entries.{brief_of}
 use Rattle.history_spec.specs.Sessions.{history_after, ordered_requests, replies_from}
 use Rattle.history_spec.specs.Steps.{finding_limit, opening}
+use Rattle.room_laws.specs.Orders.{quotas_of}
 use Rattle.cell_make.specs.GeneratedCell.{generated_cell}
 use Rattle.cell_make.specs.GeneratedScripts.{generated_scripts}
 use Rattle.drill_run.specs.RoundRobin.{round_robin}
@@ -41,7 +43,8 @@ counts_of_run c scripts order = record {
 abbrev pub drill_counts : ℕ → ℕ → Drilled
 drill_counts n sessions = counts_of_run (generated_cell n) (generated_scripts n sessions) (round_robin sessions)
 
--- a drill has these counts, where the generated cell has not too many findings
+-- a drill has these counts, of all views and commits of its scripts, where the generated cell has not too many findings
 pub record IsDrilled (n sessions : ℕ) (drilled : Drilled) : Type 0 where
   pub few : finding_total (generated_cell n) ≤ finding_limit
+  pub whole : IsOrder (quotas_of (generated_scripts n sessions)) (round_robin sessions)
   pub counts : drilled ≡ drill_counts n sessions

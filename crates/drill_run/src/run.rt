@@ -6,13 +6,16 @@ ghost use Rattle.cell_make.specs.GeneratedCell.{generated_cell};
 ghost use Rattle.cell_make.specs.GeneratedScripts.{generated_scripts};
 ghost use Rattle.drill_run.specs.Drills.{IsDrilled, counts_of_run};
 ghost use Rattle.drill_run.specs.RoundRobin.{round_robin as round_robin_of};
+ghost use Rattle.room_laws.specs.Orders.{quotas_of};
+ghost use Rattle.text_spec.specs.OrderLine.{IsOrder};
 
 use crate::counts::{Drilled, counts_of};
 use crate::turns::round_robin;
 use cell_bench::LoadRefusal;
 use cell_make::{make_cell, make_scripts};
 use commit_book::Book;
-use sessions::{load_bench, replay};
+use recheck::load;
+use sessions::replay;
 use std::alloc::{AllocError, Global};
 use std::thread::Threads;
 
@@ -29,7 +32,8 @@ fn run_in_turns<R: Threads + Sync>(
     requires few { size ≤ 100 }
     requires one_session { 1 ≤ sessions }
     requires sessions { sessions ≤ 16 }
-    ensures { IfOk result (λ drilled. drilled ≡ counts_of_run book.opening (generated_scripts size sessions) (round_robin_of sessions)) }
+    ensures counts { IfOk result (λ drilled. drilled ≡ counts_of_run book.opening (generated_scripts size sessions) (round_robin_of sessions)) }
+    ensures whole { IfOk result (λ _. IsOrder (quotas_of (generated_scripts size sessions)) (round_robin_of sessions)) }
 {
     let scripts = make_scripts(alloc, size, sessions)?;
     let order = round_robin(alloc, sessions)?;
@@ -55,7 +59,7 @@ pub fn drill<R: Threads + Sync>(
     ensures err { IfErr result (IsLoadRefusal (generated_cell size)) }
 {
     let cell = make_cell(alloc, size)?;
-    let bench = load_bench(alloc, cell)?;
+    let bench = load(rt, alloc, cell)?;
     let book = Book::of_bench(alloc, bench);
     Ok(run_in_turns(rt, alloc, book, size, sessions)?)
 }

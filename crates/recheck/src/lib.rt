@@ -1,8 +1,11 @@
-//! Edits that are checked on a bench before a turn at the log is asked for: the rows of what they can change, judged by several threads.
+//! What several threads judge: the whole cell of a bench that is loaded, and before a turn at the log is asked for the rows of what edits can
+//! change.
 #![tactic(auto)]
 
 mod judging;
+mod loading;
 mod parts;
 mod preparing;
 
+pub use loading::load;
 pub use preparing::prepare;

@@ -26,7 +26,7 @@ use Rattle.room_run.specs.Rooms.{AreOpened, DoneWith, IsGathered, IsHeld, IsHeld
 use Rattle.room_run.specs.declared.compiler.Compiler.{Compiler}
 use Rattle.room_run.specs.declared.compiler.Ended.TheVariants as ended
 use Rattle.room_run.specs.declared.gather.Outcome.{Outcome}
-use Rattle.room_run.specs.declared.run.Held.{Held}
+use Rattle.sessions.specs.declared.run.Replayed.{Replayed}
 use Rattle.room_run.specs.declared.run.RunEnd.{RunEnd}
 use Rattle.room_run.specs.declared.run.RunEnd.TheVariants as end
 
@@ -188,7 +188,7 @@ module _ (sticks : Type 0) (room : RoomState) (first : RoomId) (scripts : List (
         ∙ get_or-map (λ (o : Outcome). o.session.lines) outcomes i (outcome_of d) [] (omega (arith, within, count))
         ∙ ap (λ (o : Outcome). o.session.lines) (outcome_at i d (outcome_of d) within)
 
-    pub all_held : (d : Compiler) (held : Held) → held.book ≡ book → held.transcripts.items ≡ texts → book.opening ≡ c → IsHeld c scripts held
+    pub all_held : (d : Compiler) (held : Replayed) → held.book ≡ book → held.transcripts.items ≡ texts → book.opening ≡ c → IsHeld c scripts held
     all_held d held book_is texts_are opening =
         let m = many in
         let n = as_many in

@@ -17,7 +17,7 @@ use Rattle.room_run.specs.Compilers.{IsAtDesk, IsOver}
 use Rattle.room_run.specs.declared.compiler.Compiler.{Compiler}
 use Rattle.room_run.specs.declared.compiler.Ended.TheVariants as ended
 use Rattle.room_run.specs.declared.gather.Outcome.{Outcome}
-use Rattle.room_run.specs.declared.run.Held.{Held}
+use Rattle.sessions.specs.declared.run.Replayed.{Replayed}
 use Rattle.room_run.specs.declared.run.RunEnd.{RunEnd}
 use Rattle.room_run.specs.declared.run.RunEnd.TheVariants as end
 
@@ -81,7 +81,7 @@ IsOneOf outcomes (end.Stuck stuck) = (i : ℕ) × (i < length outcomes) × ((d :
 IsOneOf outcomes end.NoMemory = Unit {0}
 
 -- scripts that were run on a cell: the log's entries are theirs, and so are the lines
-pub record IsHeld (c : Cell) (scripts : List (List Command)) (held : Held) : Type 0 where
+pub record IsHeld (c : Cell) (scripts : List (List Command)) (held : Replayed) : Type 0 where
   pub opening : held.book.opening ≡ c
   pub entries : AreInterleaved c scripts held.book.entries
   pub lines : AreTranscripts c held.book.entries 1 scripts held.transcripts.items

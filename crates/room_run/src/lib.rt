@@ -5,4 +5,4 @@ mod compiler;
 mod gather;
 mod run;
 
-pub use run::{Held, RunEnd, run_sessions};
+pub use run::{RunEnd, run_sessions};

@@ -6,23 +6,14 @@ ghost use Rattle.sessions.specs.Replays.{IsShortScript, session_limit};
 
 use crate::compiler::{Compiler, Ended, serve};
 use crate::gather::{gather, transcripts_of};
-use commit_book::Book;
 use enc_outside::{Meet, Stuck};
-use report_text::Transcript;
 use script_text::Script;
-use sessions::Session;
+use sessions::{Replayed, Session};
 use std::alloc::{AllocError, Global};
 use std::sync::Wait;
 use std::thread;
 use std::thread::Threads;
 use workroom::{DeskRefusal, Workroom};
-
-/// What is left of a run: the log of its history, and the lines of each session.
-#[derive(Drop)]
-pub struct Held {
-    pub book: Book,
-    pub transcripts: Vec<Transcript>,
-}
 
 /// Why a run has no report.
 #[derive(Clone, Copy, Debug, PartialEq, Eq)]
@@ -135,7 +126,7 @@ pub fn run_sessions<R: Threads + Wait + Sync, M: Meet + Sync>(
     room: Workroom,
     scripts: Vec<Script>,
     meet: &M,
-) -> Result<Held, RunEnd>
+) -> Result<Replayed, RunEnd>
     requires none { room.desks ≡ 0 }
     requires some { 1 ≤ length scripts.items }
     requires few { length scripts.items ≤ session_limit }
@@ -151,5 +142,5 @@ pub fn run_sessions<R: Threads + Wait + Sync, M: Meet + Sync>(
         Ok(transcripts) => transcripts,
         Err(end) => return Err(end),
     };
-    Ok(Held { book, transcripts })
+    Ok(Replayed { book, transcripts })
 }

@@ -7,5 +7,5 @@ mod local;
 mod run;
 mod session;
 
-pub use run::{Replayed, SESSION_LIMIT, load_bench, replay};
+pub use run::{Replayed, SESSION_LIMIT, replay};
 pub use session::{Session, Shared};

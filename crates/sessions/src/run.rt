@@ -1,8 +1,6 @@
 //! Sessions run by one thread, in an order.
 
-ghost use Rattle.std.specs.Prelude.{◌≡◌, ◌≤◌, ◌<◌, [], All, IfOk, List, MatchResult, OnOk, length};
-ghost use Rattle.cell_bench.specs.Benches.{IsLoadRefusal, IsLoaded};
-ghost use Rattle.cell_spec.specs.Writable.{IsWritable};
+ghost use Rattle.std.specs.Prelude.{◌≡◌, ◌≤◌, ◌<◌, [], All, IfOk, List, OnOk, length};
 ghost use Rattle.history_spec.specs.declared.entry.Entry.{Entry};
 ghost use Rattle.room_laws.specs.Orders.{quotas_of};
 ghost use Rattle.s57_types.specs.declared.cell.Cell.{Cell as SpecCell};
@@ -10,11 +8,9 @@ ghost use Rattle.sessions.specs.Replays.{AreEditors, AreEnded, AreEndedAs, AreSe
 ghost use Rattle.text_spec.specs.OrderLine.{IsOrder};
 
 use crate::editor::Editor;
-use cell_bench::{Bench, LoadRefusal};
 use commit_book::Book;
 use look_counter::start_counter;
 use report_text::Transcript;
-use s57_types::Cell;
 use script_text::Script;
 use std::alloc::{AllocError, Global};
 use std::marker::Brand;
@@ -24,29 +20,7 @@ use std::thread::Threads;
 /// How many sessions may share a cell.
 pub const SESSION_LIMIT: usize = 16;
 
-/// The bench of a writable cell, with its look-ups counted.
-fn load_counted<L: Ledger>(alloc: Global, cell: Cell, blank: Blank) -> Result<Bench, LoadRefusal>
-    requires writable { IsWritable cell }
-    requires name { blank.name ≡ L.name }
-    requires parts { blank.parts ≡ L.parts }
-    requires some_part { 0 < L.parts }
-    ensures { MatchResult result (IsLoaded cell) (IsLoadRefusal cell) }
-{
-    let mut steps = start_counter::<L>(blank);
-    Bench::load(alloc, cell, &mut steps)
-}
-
-/// The bench of a writable cell.
-///
-/// An `Err` says that the cell has more findings than the limit, or means out of memory.
-pub fn load_bench(alloc: Global, cell: Cell) -> Result<Bench, LoadRefusal>
-    requires { IsWritable cell }
-    ensures { MatchResult result (IsLoaded cell) (IsLoadRefusal cell) }
-{
-    load_counted::<Brand>(alloc, cell, Blank::new(1))
-}
-
-/// What is left of a run: the log of its history, and the lines of each session.
+/// What is left of a run, by one thread or by several: the log of its history, and the lines of each session.
 pub struct Replayed {
     pub book: Book,
     pub transcripts: Vec<Transcript>,
@@ -58,6 +32,17 @@ impl Drop for Replayed {
             book: _,
             transcripts: _,
         } = self;
+    }
+}
+
+impl Replayed {
+    /// The log of the history, and the lines of each session.
+    pub fn into_parts(self) -> (Book, Vec<Transcript>)
+        ensures book { result.0 ≡ self.book }
+        ensures transcripts { result.1 ≡ self.transcripts }
+    {
+        let Replayed { book, transcripts } = self;
+        (book, transcripts)
     }
 }
 

@@ -3,4 +3,4 @@ use Rattle.cell_bench.specs.Singles.{reads_row}
 use Rattle.cell_bench.proofs.load.rows_read.Given as goal
 
 abbrev pub invariant-loop-subject : goal.invariant-loop-subject
-invariant-loop-subject g l = l.rows.items ≡ map (reads_row l.store) (take l.subject-index l.subjects)
+invariant-loop-subject g l = l.rows.items ≡ map (reads_row l.look) (take l.subject-index l.subjects)

@@ -24,8 +24,11 @@ replay-requires-clause-order g c κs within =
     (subst (λ (scripts : List (List Command)). IsOrder (quotas_of scripts) (round_robin c.args.sessions)) (sym c.in_ok-scripts.ensures)
     (is_order c.args.size c.args.sessions))
 
-pub returns : goal.returns
-returns g c =
+pub returns-clause-whole : goal.returns-clause-whole
+returns-clause-whole g c = is_order c.args.size c.args.sessions
+
+pub returns-clause-counts : goal.returns-clause-counts
+returns-clause-counts g c =
     counts_of_replay c.args.book.opening c.in_ok-scripts.scripts.items (generated_scripts c.args.size c.args.sessions) c.deref.result.now
     (round_robin c.args.sessions) c.in_ok-replayed.replayed c.counts_of.result
     c.in_ok-replayed.ensures c.counts_of.ensures c.in_ok-scripts.ensures (c.deref.ensures.value ∙ c.in_ok-order.ensures)
