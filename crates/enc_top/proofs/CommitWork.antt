@@ -1,7 +1,7 @@
 -- Edits as the first commit of a cell's history: what the log's answer tells of it, and what refuses it.
 use Rattle.std.proofs.Common.{◌≡◌, ℕ, Bool, true, false, List, [], ◌∷◌, length, Option, Some, None, Result, Ok, Err, refl, sym, ap, ◌∙◌, subst}
 use Rattle.std.proofs.Common.{if◌then◌else◌}
-use Rattle.std.specs.Prelude.{filter_map, is_some, nat_lt, not}
+use Rattle.std.specs.Prelude.{IfSome, filter_map, is_some, nat_lt, not}
 use Rattle.std.specs.List.{cons_option}
 use Rattle.std.specs.Option.{option_map_or}
 use Rattle.std.proofs.lemmas.Bool.{and_parts}
@@ -11,6 +11,7 @@ use Rattle.cell_spec.specs.Writable.{record_limit}
 use Rattle.cell_spec.specs.declared.edit.Edit.{Edit}
 use Rattle.cell_spec.specs.declared.edit.Edit.TheVariants.{Add, Set, Del, Head}
 use Rattle.cell_spec.specs.declared.finding.Row.{Row}
+use Rattle.cell_bench.specs.Benches.{IsPlanned}
 use Rattle.commit_book.specs.Books.{BookState, IsEntered, book_state, history_of}
 use Rattle.edit_sets.specs.FormFault.{GuardedEdits}
 use Rattle.history_spec.specs.Entries.{replayed}
@@ -147,6 +148,12 @@ module _ (c : Cell) (old : BookState) (desk base : ℕ) (taken set : GuardedEdit
       subst (λ (book : BookState). RowsAreExact taken.edits (cell_told book.opening book.entries base) rows) (sym state)
       (subst (λ (n : ℕ). RowsAreExact taken.edits (cell_told c [] n) rows) (sym first)
       (subst (λ (edits : GuardedEdits). RowsAreExact edits.edits c rows) (sym same) right))
+
+  pub ahead_right : (ahead : Option Cell) → IfSome ahead (IsPlanned c taken.edits)
+      → IfSome ahead (IsPlanned (cell_told old.opening old.entries base) taken.edits)
+  ahead_right ahead planned =
+      subst (λ (book : BookState). IfSome ahead (IsPlanned (cell_told book.opening book.entries base) taken.edits)) (sym state)
+      (subst (λ (n : ℕ). IfSome ahead (IsPlanned (cell_told c [] n) taken.edits)) (sym first) planned)
 
   module _ (new : BookState) (answered : Reply) (entered : IsEntered old desk (asked.Commit base taken) new answered) where
     as_first : IsEntered (book_state c []) desk (asked.Commit 0 set) new answered

@@ -7,6 +7,7 @@ use Rattle.export_laws.specs.ExportedCells.{IsReadBack}
 use Rattle.rule_spec.specs.Findings.{finding_total}
 use Rattle.s57_types.specs.declared.cell.Cell.{Cell}
 use Rattle.text_spec.specs.OrderLine.{IsOrder, order_line}
+use Rattle.run_laws.specs.Course.{IsCourse}
 use Rattle.room_laws.specs.Orders.{quotas_of}
 use Rattle.text_spec.specs.declared.command.Command.{Command}
 use Rattle.history_spec.specs.Steps.{finding_limit}
@@ -71,12 +72,13 @@ abbrev pub AsksOneAnswer : Type 0
 AsksOneAnswer = (form : Form) (files : Files) (answer other : Result Task Status) → OutputIs form files answer → OutputIs form files other
     → AreOneAnswer form answer other
 
--- a run of scripts on a cell in some order, where the files are told that of the file, after which the file of the cell that is left
--- is read as that cell
+-- a run of scripts on a cell in some order, where the files are told that of the file, which takes its course, and after which the file of the
+-- cell that is left is read as that cell
 pub record IsOrderedRun (c : Cell) (out order : List ℕ) (commands : List (List Command)) (files : Option Files) (task : Task) : Type 0 where
   pub sessions : List ℕ
   pub told : IfSome files (λ fs. OrderIs (quotas_of commands) order fs (Ok sessions))
   pub is : task ≡ run_task c out commands sessions
+  pub course : IsCourse c commands sessions
   pub read_back : IsReadBack c commands sessions
 
 -- the same of some scripts, where the files are told those of the files
@@ -89,14 +91,15 @@ pub record IsRunOf (c : Cell) (out order : List ℕ) (scripts : List (List ℕ))
 abbrev pub IsOnlyOrder : List ℕ → List ℕ → List ℕ → Type 0
 IsOnlyOrder quotas sessions text = (others : List ℕ) → IsOrder quotas others → IsPrefix (order_line others) text → others ≡ sessions
 
--- a run of sessions in threads on a cell: it is one in some order of the sessions, the only one whose line begins the report, and the file of the
--- cell that is left is read as that cell
+-- a run of sessions in threads on a cell: it is one in some order of the sessions, the only one whose line begins the report, it takes its course,
+-- and the file of the cell that is left is read as that cell
 pub record IsRunInRoom (c : Cell) (out : List ℕ) (commands : List (List Command)) (task : Task) : Type 0 where
   pub sessions : List ℕ
   pub order : IsOrder (quotas_of commands) sessions
   pub is : task ≡ run_task c out commands sessions
   pub begins : IsPrefix (order_line sessions) task.text
   pub only : IsOnlyOrder (quotas_of commands) sessions task.text
+  pub course : IsCourse c commands sessions
   pub read_back : IsReadBack c commands sessions
 
 -- the same of some scripts, where the files are told those of the files

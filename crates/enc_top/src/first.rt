@@ -3,7 +3,7 @@
 ghost use Rattle.std.specs.Prelude.{◌≡◌, ◌≤◌, [], IfErr, IfOk, Ok, length, true};
 ghost use Rattle.cell_spec.specs.Edits.{find_their_records};
 ghost use Rattle.commit_book.specs.Books.{IsEntered, history_of};
-ghost use Rattle.commit_book.specs.Prepared.{AreRight};
+ghost use Rattle.commit_book.specs.Prepared.{AreRight, IsAheadRight};
 ghost use Rattle.file_spec.specs.DecodedCell.{decoded_cell};
 ghost use Rattle.file_spec.specs.EncodedCell.{encoded_cell};
 ghost use Rattle.enc_top.specs.Commits.{IsCommitStatus, committed, refusal_told};
@@ -62,10 +62,11 @@ fn enter<L: Ledger>(
     requires base { prepared.base ≤ length (history_of book.old).commits }
     requires level { prepared.edits.nall ≡ book.old.opening.head.nall }
     requires rows { AreRight book.old.opening book.old.entries prepared }
+    requires ahead { IsAheadRight book.old.opening book.old.entries prepared }
     ensures { IfOk result (λ reply. IsEntered book.old 1 (Asked.Commit prepared.base prepared.edits) book.new reply) }
 {
-    match book.commit(alloc, DESK, &prepared, steps) {
-        Ok(told) => Ok(told.reply),
+    match book.answer_commit(alloc, DESK, &prepared, steps) {
+        Ok(answered) => Ok(answered.reply),
         Err(BookRefusal::NoMemory) => Err(AllocError),
         Err(BookRefusal::LogFull) => unreachable!(),
     }

@@ -15,9 +15,11 @@ use skin_probe::push_sheet;
 use std::alloc::{AllocError, Global};
 use std::marker::Brand;
 use std::sync::ledger::{Blank, Ledger};
+use std::thread::Threads;
 
 /// The work that the words behind `probe` ask for.
-pub(crate) fn probe<H: Shelf>(
+pub(crate) fn probe<R: Threads + Sync, H: Shelf>(
+    rt: &R,
     alloc: Global,
     others: &[String],
     shelf: &mut H,
@@ -36,11 +38,12 @@ pub(crate) fn probe<H: Shelf>(
     let Some(x) = coordinate(x.as_str()) else {
         return Err(Status::Usage);
     };
-    probe_at(alloc, shelf, cell.as_str(), y, x)
+    probe_at(rt, alloc, shelf, cell.as_str(), y, x)
 }
 
 /// What is told of the areas of a file's cell round the point at this latitude and longitude.
-fn probe_at<H: Shelf>(
+fn probe_at<R: Threads + Sync, H: Shelf>(
+    rt: &R,
     alloc: Global,
     shelf: &mut H,
     cell: &str,
@@ -52,7 +55,7 @@ fn probe_at<H: Shelf>(
     ensures read_faults { H.read_faults shelf.old ≤ H.read_faults shelf.new }
     ensures write_faults { H.write_faults shelf.new ≡ H.write_faults shelf.old }
 {
-    let bench = match read_bench(alloc, shelf, cell) {
+    let bench = match read_bench(rt, alloc, shelf, cell) {
         Ok(bench) => bench,
         Err(status) => return Err(status),
     };

@@ -19,6 +19,7 @@ use order_text::order_lines_are_read;
 use report_text::Status;
 use room_laws::entries_are_in_order;
 use room_run::{RunEnd, run_sessions};
+use run_laws::runs_take_their_course;
 use script_text::Script;
 use sessions::SESSION_LIMIT;
 use std::alloc::Global;
@@ -69,7 +70,7 @@ fn room_on<R: Threads + Wait + Sync, H: Shelf, M: Meet + Sync>(
     ensures asked { IsAskedBy (M.sticks meet.now) (room_form cell.now out.now (map string_bytes names.now))
         (H.files shelf.old) (H.read_faults shelf.old) (H.read_faults shelf.new) result }
 {
-    let bench = match read_bench(alloc, shelf, cell) {
+    let bench = match read_bench(rt, alloc, shelf, cell) {
         Ok(bench) => bench,
         Err(status) => return Err(status),
     };
@@ -105,10 +106,12 @@ fn room_work<R: Threads + Wait + Sync, M: Meet + Sync>(
     exports_are_read_back();
     order_lines_are_read();
     entries_are_in_order();
+    runs_take_their_course();
     let room = Workroom::of_bench(alloc, bench)?;
     let held = match run_sessions(rt, alloc, room, scripts, meet) {
         Ok(held) => held,
         Err(end) => return Err(end),
     };
-    Ok(work_of(alloc, out, &held.book, &held.transcripts)?)
+    let (book, transcripts) = held.into_parts();
+    Ok(work_of(alloc, out, book, &transcripts)?)
 }

@@ -32,6 +32,7 @@ use commit_book::Book;
 use enc_outside::{Meet, Shelf, Sink};
 use export_laws::exports_are_read_back;
 use report_text::Status;
+use run_laws::runs_take_their_course;
 use script_text::Script;
 use sessions::{SESSION_LIMIT, replay};
 use std::alloc::Global;
@@ -189,7 +190,7 @@ fn asked_work<R: Threads + Sync, H: Shelf>(
         return edit_edges(rt, alloc, others, shelf, OperationKind::Join);
     }
     if first == "probe" {
-        return probe(alloc, others, shelf);
+        return probe(rt, alloc, others, shelf);
     }
     if first == "apply" {
         return apply(rt, alloc, others, shelf);
@@ -239,7 +240,7 @@ fn run_scripts<R: Threads + Sync, H: Shelf>(
     if names.is_empty() || names.len() > SESSION_LIMIT {
         return Err(Status::Usage);
     }
-    let bench = match read_bench(alloc, shelf, cell.as_str()) {
+    let bench = match read_bench(rt, alloc, shelf, cell.as_str()) {
         Ok(bench) => bench,
         Err(status) => return Err(status),
     };
@@ -297,6 +298,7 @@ fn run_in_order_of<R: Threads + Sync, H: Shelf>(
     ensures write_faults { H.write_faults shelf.new ≡ H.write_faults shelf.old }
 {
     exports_are_read_back();
+    runs_take_their_course();
     let quotas = quotas_of(alloc, &scripts)?;
     let sessions = match order_in_file(alloc, shelf, order, &quotas) {
         Ok(sessions) => sessions,
@@ -321,6 +323,6 @@ fn run_of<R: Threads + Sync>(
     ensures status { IfErr result (λ status. status ≡ Status.NoMemory) }
 {
     let book = Book::of_bench(alloc, bench);
-    let replayed = replay(rt, alloc, book, scripts, order)?;
-    Ok(work_of(alloc, out, &replayed.book, &replayed.transcripts)?)
+    let (book, transcripts) = replay(rt, alloc, book, scripts, order)?.into_parts();
+    Ok(work_of(alloc, out, book, &transcripts)?)
 }

@@ -60,7 +60,7 @@ fn apply_file<R: Threads + Sync, H: Shelf>(
     ensures read_faults { H.read_faults shelf.old ≤ H.read_faults shelf.new }
     ensures write_faults { H.write_faults shelf.new ≡ H.write_faults shelf.old }
 {
-    let bench = match read_bench(alloc, shelf, cell) {
+    let bench = match read_bench(rt, alloc, shelf, cell) {
         Ok(bench) => bench,
         Err(status) => return Err(status),
     };

@@ -15,22 +15,23 @@ use room_laws::a_history_has_the_report_of_its_order;
 use std::alloc::{AllocError, Global};
 
 /// The report of a log and of the lines of its sessions, and the file of the cell that is left: those of one thread that runs the sessions'
-/// scripts in the order of the log's entries.
+/// scripts in the order of the log's entries. The log's memory is given back before the file takes its own.
 pub(crate) fn work_of(
     alloc: Global,
     out: &str,
-    book: &Book,
+    book: Book,
     transcripts: &[Transcript],
 ) -> Result<Work, AllocError>
-    ensures { (scripts : List (List Command)) → AreInterleaved book.now.opening scripts book.now.entries
-        → AreTranscripts book.now.opening book.now.entries 1 scripts transcripts.now
-        → IfOk result (λ work. task_of work ≡ run_task book.now.opening out.now scripts (order_of_entries book.now.entries)) }
+    ensures { (scripts : List (List Command)) → AreInterleaved book.opening scripts book.entries
+        → AreTranscripts book.opening book.entries 1 scripts transcripts.now
+        → IfOk result (λ work. task_of work ≡ run_task book.opening out.now scripts (order_of_entries book.entries)) }
 {
     a_history_has_the_report_of_its_order();
     book.known();
     let mut text = Vec::new(alloc);
-    print_report(alloc, book, transcripts, &mut text)?;
+    print_report(alloc, &book, transcripts, &mut text)?;
     let cell = book.bench().to_cell(alloc)?;
+    drop(book);
     let name = String::from_str(alloc, out)?;
     let bytes = write_cell(alloc, &cell)?;
     Ok(Work {

@@ -1,7 +1,7 @@
 use Rattle.std.proofs.Common.{Ok, inl, ap, sym, ◌∙◌}
 use Rattle.commit_book.specs.Books.{history_of}
 use Rattle.enc_top.specs.Commits.{left_unless}
-use Rattle.enc_top.proofs.CommitWork.{large_as, rows_right, settled_as}
+use Rattle.enc_top.proofs.CommitWork.{ahead_right, large_as, rows_right, settled_as}
 use Rattle.enc_top.proofs.first.commit.Goals as goal
 
 pub enter-requires-clause-rows : goal.enter-requires-clause-rows
@@ -10,6 +10,12 @@ enter-requires-clause-rows g c =
     let prepared = c.in_ok-prepared.prepared in
     rows_right c.args.bench c.of_bench-book.result 1 prepared.base prepared.edits set c.of_bench-book.ensures.state
     c.in_ok-prepared.ensures.base c.in_ok-prepared.ensures.edits c.requires.no_guards prepared.rows c.in_ok-prepared.ensures.right
+
+pub enter-requires-clause-ahead : goal.enter-requires-clause-ahead
+enter-requires-clause-ahead g c =
+    let prepared = c.in_ok-prepared.prepared in
+    ahead_right c.args.bench c.of_bench-book.result 1 prepared.base prepared.edits c.args.set c.of_bench-book.ensures.state
+    c.in_ok-prepared.ensures.base c.in_ok-prepared.ensures.edits c.requires.no_guards prepared.ahead c.in_ok-prepared.ensures.ahead
 
 pub returns-in-None-clause-judged : goal.returns-in-None-clause-judged
 returns-in-None-clause-judged g c =

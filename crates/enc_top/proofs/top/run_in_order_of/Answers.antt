@@ -40,6 +40,9 @@ returns-clause-run g c =
       sessions = sessions;
       told = told;
       is = is ∙ ap (run_task cell c.args.out.now commands) c.as_slice.ensures;
+      course = c.runs_take_their_course.ensures cell commands sessions
+          (subst (λ quotas. IsOrder quotas sessions) (c.deref-2.ensures.value ∙ c.in_ok-quotas.ensures ∙ ap quotas_of c.deref.ensures.value)
+          c.in-Ok.ensures.order);
       read_back =
           c.exports_are_read_back.ensures c.requires.of_file.0 cell commands sessions c.requires.of_file.1 c.requires.of_file.2 c.requires.of_texts;
     })

@@ -6,7 +6,7 @@ use Rattle.enc_top.proofs.work.work_of.Goals as goal
 
 pub returns : goal.returns
 returns c = λ scripts entries lines.
-    let book = c.args.book.now in
+    let book = c.args.book in
     let order = order_of_entries book.entries in
     let text = c.in_ok-print_report.ensures.ok ∙ ap (λ before. before ++ entries_report book.opening book.entries c.args.transcripts.now)
     c.new-text.ensures.items
