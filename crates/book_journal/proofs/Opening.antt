@@ -8,12 +8,12 @@ use Rattle.commit_book.specs.Books.{BookState, history_of}
 use Rattle.crash_disk.specs.Disk.{LeavesOnly, Only}
 use Rattle.crash_disk.proofs.Moments.{then, weakened}
 use Rattle.book_journal.specs.Entries.{list_bytes}
-use Rattle.book_journal.specs.Journals.{IsJournalOf, IsReadTo, IsReading}
+use Rattle.book_journal.specs.Journals.{IsDamagedAt, IsJournalOf, IsReadTo, IsReading}
 use Rattle.book_journal.specs.Keeping.{AreAlike, IsAsBefore, IsStanding}
-use Rattle.book_journal.specs.Opening.{IsOpenCause, IsOpenRefusal}
+use Rattle.book_journal.specs.Opening.{IsLeft, IsOpenCause, IsOpenRefusal}
 use Rattle.book_journal.specs.declared.refusal.OpenRefusal.{OpenRefusal}
 use Rattle.book_journal.specs.declared.refusal.OpenRefusal.TheVariants.{BadJournal, DiskFault, JournalFull, FindingsFull, NoMemory}
-use Rattle.book_journal.specs.Replaying.{IsReplayed}
+use Rattle.book_journal.specs.Replaying.{IsOverLimit, IsReplayRefusal, IsReplayed}
 use Rattle.book_journal.proofs.Readings.{short_journal}
 use Rattle.book_journal.proofs.Told.{if_some, some_at}
 
@@ -115,6 +115,29 @@ read_journal c o bytes commits read journal = if_some _ _ o read (λ file told i
 pub no_place : (c : Cell) (file : List ℕ) (book : BookState) (place : ℕ) → length file ≤ 1 → IsReplayed c file book place → place ≡ 0
 no_place c file book place short replayed =
     replayed.place_is ∙ ap (λ (l : List AcceptedCommit). length (list_bytes l)) (short_journal c file (history_of book).commits short replayed.journal)
+
+-- a longer file stays
+pub left_as_it_was : (before now : Option (List ℕ)) (bytes : List ℕ) → IfSome before (λ (file : List ℕ). bytes ≡ file) → 1 < length bytes → now ≡ before
+    → IfSome before (λ (file : List ℕ). IsLeft file now)
+left_as_it_was before now bytes read more same = if_some _ _ before read (λ file told is.
+    record { longer = λ _. same ∙ told; short = λ short. absurd (omega (arith, more, short, ap length is)) })
+
+-- and one of at most one byte becomes an empty list
+pub left_begun : (before mid now : Option (List ℕ)) (bytes : List ℕ) → IfSome before (λ (file : List ℕ). bytes ≡ file) → length bytes ≤ 1 → mid ≡ before
+    → IfSome mid (λ (file : List ℕ). now ≡ Some (0 ∷ [])) → IfSome before (λ (file : List ℕ). IsLeft file now)
+left_begun before mid now bytes read few same begun = if_some _ _ before read (λ file told is.
+    record { longer = λ more. absurd (omega (arith, more, few, ap length is)); short = λ _. some_at _ mid file (same ∙ told) begun })
+
+-- why the bytes that a disk told aren't a journal that is opened
+pub replay_refused : (c : Cell) (before : Option (List ℕ)) (bytes : List ℕ) (faults now : ℕ) (why : OpenRefusal)
+    → IfSome before (λ (file : List ℕ). bytes ≡ file) → IsReplayRefusal c bytes why → IsOpenRefusal c before faults now why
+replay_refused c before bytes faults now (BadJournal place) read is =
+    (is.0, if_some _ _ before read (λ file told same. subst (λ (l : List ℕ). IsDamagedAt c l place) same is.1))
+replay_refused c before bytes faults now DiskFault read is = absurd is
+replay_refused c before bytes faults now (JournalFull count) read is =
+    (is.0, if_some _ _ before read (λ file told same. subst (λ (l : List ℕ). IsOverLimit c l count) same is.1))
+replay_refused c before bytes faults now FindingsFull read is = is
+replay_refused c before bytes faults now NoMemory read is = tt
 
 -- why a journal isn't opened, without the disk's faults
 pub cause_of : (c : Cell) (before : Option (List ℕ)) (faults now : ℕ) (why : OpenRefusal) → IsOpenRefusal c before faults now why → IsOpenCause c before why

@@ -1,5 +1,5 @@
 -- A text that a book is asked to take.
-use Rattle.std.proofs.Common.{◌≡◌, ℕ, ◌+◌, List, [], ◌∷◌, length, Bool, true, false, MatchBool, Option, None, Some, sym, ap, subst, ◌∙◌, length-append}
+use Rattle.std.proofs.Common.{◌≡◌, ℕ, ◌+◌, List, [], ◌∷◌, length, Bool, true, false, IfSome, MatchBool, Option, None, Some, sym, ap, subst, ◌∙◌, length-append}
 use Rattle.std.specs.Option.{option_map_or}
 use Rattle.s57_types.specs.declared.cell.Cell.{Cell}
 use Rattle.s57_types.specs.declared.name.RecName.{RecName}
@@ -8,6 +8,7 @@ use Rattle.cell_spec.specs.Edits.{apply_edits}
 use Rattle.cell_spec.specs.declared.finding.Row.{Row}
 use Rattle.edit_sets.specs.FormFault.{GuardedEdits}
 use Rattle.rule_spec.specs.Affected.{RowsAreExact}
+use Rattle.cell_bench.specs.Benches.{IsPlanned}
 use Rattle.rule_spec.specs.Findings.{finding_total}
 use Rattle.history_spec.specs.declared.entry.Asked.TheVariants.{Commit}
 use Rattle.history_spec.specs.declared.reply.Reply.{Reply}
@@ -73,3 +74,10 @@ pub rows_right : (book : BookState) (edits : List Edit) (rows : List Row) (base 
 rows_right book edits rows base cell base_is cell_is right =
     subst (λ (n : ℕ). RowsAreExact edits (cell_told book.opening book.entries n) rows) (sym base_is)
     (subst (λ (d : Cell). RowsAreExact edits d rows) (cell_is ∙ newest_cell book.opening book.entries) right)
+
+-- and what was built ahead on the newest cell is right on it, too
+pub ahead_right : (book : BookState) (edits : List Edit) (ahead : Option Cell) (base : ℕ) (cell : Cell) → base ≡ length (history_of book).commits
+    → cell ≡ (history_of book).cell → IfSome ahead (IsPlanned cell edits) → IfSome ahead (IsPlanned (cell_told book.opening book.entries base) edits)
+ahead_right book edits ahead base cell base_is cell_is right =
+    subst (λ (n : ℕ). IfSome ahead (IsPlanned (cell_told book.opening book.entries n) edits)) (sym base_is)
+    (subst (λ (d : Cell). IfSome ahead (IsPlanned d edits)) (cell_is ∙ newest_cell book.opening book.entries) right)

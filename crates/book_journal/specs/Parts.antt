@@ -27,6 +27,14 @@ IsPartRefusal prepared (EntryTooLong bytes) = (text_limit < length (text_asked p
 IsPartRefusal prepared LogFull = ⊥
 IsPartRefusal prepared NoMemory = Unit {0}
 
+-- the text is over the limit, or memory is out, or an earlier call ended in a fault of the disk
+abbrev pub IsTooLongOrOut : KeepRefusal → Type 0
+IsTooLongOrOut DiskFault = ⊥
+IsTooLongOrOut Broken = Unit {0}
+IsTooLongOrOut (EntryTooLong bytes) = Unit {0}
+IsTooLongOrOut LogFull = ⊥
+IsTooLongOrOut NoMemory = Unit {0}
+
 -- the book is full, or memory is out
 abbrev pub IsFullOrOut : KeepRefusal → Type 0
 IsFullOrOut DiskFault = ⊥

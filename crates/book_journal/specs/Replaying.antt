@@ -81,8 +81,13 @@ pub record IsCounted (c : Cell) (file : List ℕ) (first : ℕ) (rest : List ℕ
   pub ended : count ≡ 0 → IsEnd rest
   pub follows : HasNoEntry rest → count ≡ 0
 
+-- a list has this number of commits, which is over the limit
+abbrev pub IsOverLimit : Cell → List ℕ → ℕ → Type 0
+IsOverLimit c file count = (commits : List AcceptedCommit) × IsJournalOf c file commits × (commit_limit < length commits) × (count ≡ length commits)
+
 -- a book that has the commits of a journal, an entry for each and no others, and the place where the list of a file of more than one byte ends
 pub record IsReplayed (c : Cell) (file : List ℕ) (book : BookState) (place : ℕ) : Type 0 where
+  pub within : finding_total c ≤ finding_limit
   pub opening : book.opening ≡ c
   pub journal : IsJournalOf c file (history_of book).commits
   pub entries : length book.entries ≡ length (history_of book).commits
@@ -91,11 +96,10 @@ pub record IsReplayed (c : Cell) (file : List ℕ) (book : BookState) (place : �
   pub rest : List ℕ
   pub read : 1 < length file → IsReadTo c file (history_of book).commits rest × IsEnd rest
 
--- why a journal isn't taken into a book
+-- why a journal isn't taken into a book: the cell has too many findings, or not too many and its list is refused, or memory is out
 abbrev pub IsReplayRefusal : Cell → List ℕ → OpenRefusal → Type 0
-IsReplayRefusal c file (BadJournal place) = IsDamagedAt c file place
+IsReplayRefusal c file (BadJournal place) = (finding_total c ≤ finding_limit) × IsDamagedAt c file place
 IsReplayRefusal c file DiskFault = ⊥
-IsReplayRefusal c file (JournalFull count) =
-    (commits : List AcceptedCommit) × IsJournalOf c file commits × (commit_limit < length commits) × (count ≡ length commits)
+IsReplayRefusal c file (JournalFull count) = (finding_total c ≤ finding_limit) × IsOverLimit c file count
 IsReplayRefusal c file FindingsFull = finding_limit < finding_total c
 IsReplayRefusal c file NoMemory = Unit {0}

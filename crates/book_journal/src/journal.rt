@@ -1,16 +1,18 @@
 //! A journal of accepted commits.
 
-ghost use Rattle.std.specs.Prelude.{◌≡◌, ◌+◌, ◌*◌, ◌<◌, ◌≤◌, ◌^◌, [], Err, IfErr, IfOk, IfSome, IsSome, OnErr, OnOk, Some, false, length, true};
+ghost use Rattle.std.specs.Prelude.{◌≡◌, ◌+◌, ◌*◌, ◌<◌, ◌≤◌, ◌^◌, ◌↔◌, [], Err, IfErr, IfOk, IfSome, IsSome, MatchResult, OnErr, OnOk, Some, false};
+ghost use Rattle.std.specs.Prelude.{length, true};
 ghost use Rattle.cell_spec.specs.Edits.{touched_keys};
 ghost use Rattle.cell_spec.specs.Writable.{IsWritable};
 ghost use Rattle.commit_book.specs.Books.{IsBookRefusal, IsEntered, IsNews, entry_limit, history_of};
-ghost use Rattle.commit_book.specs.Prepared.{AreRight, commit_budget};
+ghost use Rattle.commit_book.specs.Prepared.{AreRight, IsAheadRight, commit_budget};
 ghost use Rattle.crash_disk.specs.Disk.{LeavesOnly, Only};
 ghost use Rattle.enc_outside.specs.Count.{Rose};
 ghost use Rattle.book_journal.specs.Entries.{HaveLines, text_limit};
+ghost use Rattle.book_journal.specs.Journals.{IsAcceptance};
 ghost use Rattle.book_journal.specs.Keeping.{HasOrHasNot, IsAsBefore, IsStanding};
 ghost use Rattle.book_journal.specs.Opening.{IsBookOfJournal, IsOpenCause, IsOpenedAt};
-ghost use Rattle.book_journal.specs.Parts.{IsFullOrOut, IsPartOf, IsPartRefusal, commit_asked, text_asked};
+ghost use Rattle.book_journal.specs.Parts.{IsFullOrOut, IsPartOf, IsPartRefusal, IsTooLongOrOut, commit_asked, text_asked};
 ghost use Rattle.book_journal.specs.Standing.{IsKeepRefusal, IsStill};
 ghost use Rattle.book_journal.specs.Writing.{IsTornEntry, with_entry};
 
@@ -21,7 +23,7 @@ use crate::reply::is_accepted;
 use crate::text::text_of;
 use crate::writing::add_entry;
 use chain_topo::Steps;
-use commit_book::{Asked, Book, BookRefusal, Prepared, Told};
+use commit_book::{Asked, Book, BookRefusal, Prepared, Reply, Told};
 use crash_disk::Disk;
 use edit_sets::FormFault;
 use s57_types::Cell;
@@ -83,7 +85,7 @@ impl<'a, D: Disk> Journal<'a, D> {
         ensures opened { IfOk result (λ journal. IsOpenedAt cell journal.book journal.end (D.content disk.old) (D.content journal.disk.now)
             (D.images journal.disk.now)) }
         ensures whole { IfOk result (λ journal. journal.broken ≡ false) }
-        ensures stays_told { IfOk result (λ journal. IsSome (D.content disk.old) → IsSome (D.content journal.disk.now)) }
+        ensures stays_told { IfOk result (λ journal. IsSome (D.content journal.disk.now) ↔ IsSome (D.content disk.old)) }
         ensures still { IfOk result (IsStill D.content D.images) }
         // A crash at any moment of the call leaves what is read as something that a crash before it may have left.
         ensures moments { IfOk result (λ journal. IfSome (D.content disk.old)
@@ -173,6 +175,16 @@ impl<'a, D: Disk> Journal<'a, D> {
         self.book.faulty(alloc, desk, fault)
     }
 
+    /// Whether no call ended in a fault of the disk.
+    fn need_whole(&self) -> Result<(), KeepRefusal>
+        ensures { MatchResult result (λ _. self.now.broken ≡ false) (λ why. (why ≡ KeepRefusal.Broken) × (self.now.broken ≡ true)) }
+    {
+        if self.broken {
+            return Err(KeepRefusal::Broken);
+        }
+        Ok(())
+    }
+
     /// Adds an entry to the list on the disk. After an `Err`, which is a fault of the disk, no further commit is kept.
     fn keep(&mut self, part: &[u8]) -> Result<(), KeepRefusal>
         requires some { 0 < length part.now }
@@ -225,13 +237,14 @@ impl<'a, D: Disk> Journal<'a, D> {
         ensures same_reference { self.new.disk.ghost_name ≡ self.old.disk.ghost_name }
         ensures ok { IfOk result (λ told. IsEntered self.old.book desk (Asked.Commit prepared.now.base prepared.now.edits) self.new.book told.reply) }
         ensures news { IfOk result (IsNews prepared.now.base self.new.book) }
+        ensures refused { IfOk result (λ told. ¬ (IsAcceptance told.reply) → self.new.disk.now ≡ self.old.disk.now) }
         ensures whole { OnOk result (self.new.broken ≡ false) }
-        ensures stays_told { IsSome (D.content self.old.disk.now) → IsSome (D.content self.new.disk.now) }
+        ensures stays_told { IsSome (D.content self.new.disk.now) ↔ IsSome (D.content self.old.disk.now) }
         ensures err { IfErr result (IsKeepRefusal D.faults desk prepared.now self.old self.new) }
         ensures broken { self.old.broken ≡ true → result ≡ Err KeepRefusal.Broken }
-        ensures long { text_limit < length (text_asked prepared.now) → OnOk result ⊥ }
+        ensures long { text_limit < length (text_asked prepared.now) → MatchResult result (λ _. ⊥) IsTooLongOrOut }
         ensures full { self.old.broken ≡ false → length (text_asked prepared.now) ≤ text_limit → length self.old.book.entries ≡ entry_limit
-            → IfErr result (IsFullOrOut) }
+            → MatchResult result (λ _. ⊥) IsFullOrOut }
         // A crash at any moment of the call leaves the commits from before it, or these and the new one.
         ensures moments { self.old.broken ≡ false → IfSome (D.content self.old.disk.now)
             (λ _. LeavesOnly D.moment D.left_since self.old.disk.now self.new.disk.now
@@ -241,9 +254,7 @@ impl<'a, D: Disk> Journal<'a, D> {
         ensures alone { prepared.now.base ≡ length (history_of self.old.book).commits → steps.new ≤ steps.old
             + 4 * (length (touched_keys prepared.now.edits.edits (history_of self.old.book).cell) + length prepared.now.edits.edits) }
     {
-        if self.broken {
-            return Err(KeepRefusal::Broken);
-        }
+        self.need_whole()?;
         self.book.known();
         prepared.edits().known();
         let part = part_of(alloc, desk, prepared)?;
@@ -255,5 +266,53 @@ impl<'a, D: Disk> Journal<'a, D> {
             Ok(()) => Ok(told),
             Err(why) => Err(untold(told, why)),
         }
+    }
+
+    /// A commit without its news. What was built ahead is right, too: where no commit came since, it is taken and not planned again.
+    ///
+    /// An `Err` is as that of a commit.
+    pub fn answer_commit<L: Ledger>(
+        &mut self,
+        alloc: Global,
+        desk: u32,
+        prepared: &Prepared,
+        steps: &mut Steps<L>,
+    ) -> Result<Reply, KeepRefusal>
+        requires base { prepared.now.base ≤ length (history_of self.old.book).commits }
+        requires level { prepared.now.edits.nall ≡ self.old.book.opening.head.nall }
+        requires rows { AreRight self.old.book.opening self.old.book.entries prepared.now }
+        requires ahead { IsAheadRight self.old.book.opening self.old.book.entries prepared.now }
+        requires lines { HaveLines prepared.now.edits.edits }
+        requires still { IsStill D.content D.images self.old }
+        ensures still { IsStill D.content D.images self.new }
+        ensures same_reference { self.new.disk.ghost_name ≡ self.old.disk.ghost_name }
+        ensures ok { IfOk result (IsEntered self.old.book desk (Asked.Commit prepared.now.base prepared.now.edits) self.new.book) }
+        ensures refused { IfOk result (λ reply. ¬ (IsAcceptance reply) → self.new.disk.now ≡ self.old.disk.now) }
+        ensures whole { OnOk result (self.new.broken ≡ false) }
+        ensures stays_told { IsSome (D.content self.new.disk.now) ↔ IsSome (D.content self.old.disk.now) }
+        ensures err { IfErr result (IsKeepRefusal D.faults desk prepared.now self.old self.new) }
+        ensures broken { self.old.broken ≡ true → result ≡ Err KeepRefusal.Broken }
+        ensures long { text_limit < length (text_asked prepared.now) → MatchResult result (λ _. ⊥) IsTooLongOrOut }
+        ensures full { self.old.broken ≡ false → length (text_asked prepared.now) ≤ text_limit → length self.old.book.entries ≡ entry_limit
+            → MatchResult result (λ _. ⊥) IsFullOrOut }
+        // A crash at any moment of the call leaves the commits from before it, or these and the new one.
+        ensures moments { self.old.broken ≡ false → IfSome (D.content self.old.disk.now)
+            (λ _. LeavesOnly D.moment D.left_since self.old.disk.now self.new.disk.now
+            (HasOrHasNot self.old.book.opening (history_of self.old.book).commits (commit_asked desk prepared.now))) }
+        ensures no_fall { D.faults self.old.disk.now ≤ D.faults self.new.disk.now }
+        ensures steps { steps.new ≤ steps.old + commit_budget self.old.book prepared.now }
+        ensures alone { prepared.now.base ≡ length (history_of self.old.book).commits → steps.new ≤ steps.old
+            + 4 * (length (touched_keys prepared.now.edits.edits (history_of self.old.book).cell) + length prepared.now.edits.edits) }
+    {
+        self.need_whole()?;
+        self.book.known();
+        prepared.edits().known();
+        let part = part_of(alloc, desk, prepared)?;
+        let answered = self.book.answer_commit(alloc, desk, prepared, steps)?;
+        if !is_accepted(&answered.reply) {
+            return Ok(answered.reply);
+        }
+        self.keep(&part)?;
+        Ok(answered.reply)
     }
 }

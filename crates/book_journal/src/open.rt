@@ -1,6 +1,6 @@
 //! Opening a journal.
 
-ghost use Rattle.std.specs.Prelude.{◌≤◌, IfErr, IfOk, IfSome, IsSome};
+ghost use Rattle.std.specs.Prelude.{◌≤◌, ◌↔◌, IfErr, IfOk, IfSome, IsSome};
 ghost use Rattle.cell_spec.specs.Writable.{IsWritable};
 ghost use Rattle.crash_disk.specs.Disk.{LeavesOnly};
 ghost use Rattle.book_journal.specs.Keeping.{IsAsBefore};
@@ -34,7 +34,7 @@ pub fn open_book<R: Threads + Sync, L: Ledger, D: Disk>(
     ensures opened { IfOk result (λ opened. IsOpenedAt cell opened.0 opened.1 (D.content disk.old) (D.content disk.new) (D.images disk.new)) }
     ensures err { IfErr result (IsOpenRefusal cell (D.content disk.old) (D.faults disk.old) (D.faults disk.new)) }
     ensures left { IfErr result (LeavesBytes (D.content disk.old) (D.content disk.new)) }
-    ensures stays_told { IsSome (D.content disk.old) → IsSome (D.content disk.new) }
+    ensures stays_told { IsSome (D.content disk.new) ↔ IsSome (D.content disk.old) }
     ensures moments { IfSome (D.content disk.old) (λ _. LeavesOnly D.moment D.left_since disk.old disk.new (IsAsBefore cell (D.images disk.old))) }
     ensures no_fall { D.faults disk.old ≤ D.faults disk.new }
 {

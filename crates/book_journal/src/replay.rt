@@ -1,8 +1,9 @@
 //! The commits of a list of entries, taken into a book one after the other.
 
 ghost use Rattle.std.specs.Prelude.{◌≡◌, ◌<◌, ◌≤◌, ◌^◌, [], IfOk, MatchResult, length};
+ghost use Rattle.cell_bench.specs.Benches.{IsLoadRefusal};
 ghost use Rattle.cell_spec.specs.Writable.{IsWritable};
-ghost use Rattle.commit_book.specs.Books.{history_of};
+ghost use Rattle.commit_book.specs.Books.{IsOpened, history_of};
 ghost use Rattle.book_journal.specs.Keeping.{commit_limit};
 ghost use Rattle.book_journal.specs.Replaying.{IsBenchTaken, IsBookTaken, IsBookTo, IsCounted, IsFilled, IsListRefusal, IsReplayRefusal, IsReplayed};
 
@@ -13,8 +14,8 @@ use crate::text::read_set;
 use cell_bench::{Bench, PlanRefusal};
 use cell_spec::Rows;
 use chain_topo::Steps;
-use commit_book::Book;
-use recheck::prepare;
+use commit_book::{Book, LoadRefusal};
+use recheck::{load, prepare};
 use s57_types::{Cell, Duplicate};
 use std::alloc::{AllocError, Global};
 use std::sync::ledger::Ledger;
@@ -45,8 +46,8 @@ fn take_entry<R: Threads + Sync, L: Ledger>(
     };
     let base = book.commits();
     let prepared = prepare(rt, alloc, book.bench(), base, set)?;
-    match book.commit(alloc, desk, &prepared, steps) {
-        Ok(told) => Ok(is_accepted(&told.reply)),
+    match book.answer_commit(alloc, desk, &prepared, steps) {
+        Ok(answered) => Ok(is_accepted(&answered.reply)),
         Err(_) => Err(AllocError),
     }
 }
@@ -134,6 +135,15 @@ fn count_rest<L: Ledger>(
     Ok(count)
 }
 
+/// The book of a writable cell before its first commit.
+fn opened<R: Threads + Sync>(rt: &R, alloc: Global, cell: Cell) -> Result<Book, LoadRefusal>
+    requires { IsWritable cell }
+    ensures { MatchResult result (IsOpened cell) (IsLoadRefusal cell) }
+{
+    let bench = load(rt, alloc, cell)?;
+    Ok(Book::of_bench(alloc, bench))
+}
+
 /// The book of the commits of a journal, and the place where their list ends.
 ///
 /// An `Err` says that the cell has more findings than the limit, tells the place of a damaged entry or how many commits over the limit there
@@ -148,7 +158,7 @@ pub(crate) fn replay<R: Threads + Sync, L: Ledger>(
     requires { IsWritable cell }
     ensures { MatchResult result (λ replayed. IsReplayed cell bytes.now replayed.0 replayed.1) (IsReplayRefusal cell bytes.now) }
 {
-    let mut book = Book::make(alloc, cell, steps)?;
+    let mut book = opened(rt, alloc, cell)?;
     if bytes.len() <= 1 {
         return Ok((book, 0));
     }

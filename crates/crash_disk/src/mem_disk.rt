@@ -77,7 +77,7 @@ fn replay(
 }
 
 impl MemDisk {
-    ghost use Rattle.std.specs.Prelude.{◌≡◌, ◌+◌, ◌≤◌, ◌↔◌, [], IfOk, IsTrue, OnErr, OnOk, length};
+    ghost use Rattle.std.specs.Prelude.{◌≡◌, ◌+◌, ◌≤◌, ◌↔◌, [], ◌∷◌, IfOk, IsErr, IsTrue, OnErr, OnOk, length};
     ghost use Rattle.enc_outside.specs.Count.{Counts, Rose};
     ghost use Rattle.crash_disk.specs.Calls.{IsImage};
     ghost use Rattle.crash_disk.specs.MemDisk.{IsFailing, IsIdle, IsSame, IsWritten, calls_up_to, failed_calls, failing_call, mem_bytes, mem_calls};
@@ -151,6 +151,7 @@ impl MemDisk {
     /// Counts a call that failed.
     fn fail(&mut self) -> DiskFailed
         ensures idle { IsIdle self.old self.new }
+        ensures failing { failing_call self.new ≡ failing_call self.old }
         ensures no_fall { failed_calls self.old ≤ failed_calls self.new }
         ensures rise { Rose (failed_calls self.old) (failed_calls self.new) }
     {
@@ -163,6 +164,9 @@ impl MemDisk {
     fn pass(&mut self) -> Result<(), DiskFailed>
         ensures idle { IsIdle self.old self.new }
         ensures faults { Counts (failed_calls self.old) (failed_calls self.new) result }
+        ensures set { IsFailing self.old → IsErr result }
+        ensures failing { failing_call self.new ≡ failing_call self.old }
+        ensures calls { OnOk result (mem_calls self.new ≡ Call.Idle ∷ mem_calls self.old) }
     {
         if self.is_failing() {
             return Err(self.fail());
@@ -178,6 +182,7 @@ impl MemDisk {
         requires { at ≤ length (mem_bytes self.old) }
         ensures ok { OnOk result (IsWritten at bytes.now self.old self.new) }
         ensures err { OnErr result (IsSame self.old self.new) }
+        ensures failing { failing_call self.new ≡ failing_call self.old }
     {
         let next = overlay(self.alloc, &self.bytes, at, bytes)?;
         let written = Vec::from_slice(self.alloc, bytes)?;
@@ -188,9 +193,12 @@ impl MemDisk {
 }
 
 impl Disk for MemDisk {
-    ghost use Rattle.std.specs.Prelude.{Some, length};
-    ghost use Rattle.crash_disk.specs.Calls.{IsImage, LeftSince, newest_first};
-    ghost use Rattle.crash_disk.specs.MemDisk.{failed_calls, image_is_left, kept_is_image, left_is_image, mem_bytes, mem_calls};
+    ghost use Rattle.std.specs.Prelude.{◌≡◌, ◌+◌, ◌<◌, ◌≤◌, ◌∷◌, IfOk, IsErr, OnErr, OnOk, Some, length, slice_range};
+    ghost use Rattle.enc_outside.specs.Count.{Counts};
+    ghost use Rattle.crash_disk.specs.Calls.{Goes, IsImage, LeftSince, newest_first};
+    ghost use Rattle.crash_disk.specs.Disk.{Follows, NoMore, Only, SameImages, Torn};
+    ghost use Rattle.crash_disk.specs.MemDisk.{failed_calls, failing_call, image_is_left, kept_is_image, left_is_image, mem_bytes, mem_calls};
+    ghost use Rattle.crash_disk.specs.MemDisk.{IsFailing, IsIdle, IsWritten};
 
     ghost content = { λ disk. Some (mem_bytes disk) };
 
@@ -208,19 +216,54 @@ impl Disk for MemDisk {
 
     ghost only_now = { λ disk image left. left_is_image (mem_calls disk) image left };
 
-    fn length(&mut self) -> Result<u64, DiskFailed> {
+    /// It fails at the call that was set, and where memory was refused.
+    fn length(&mut self) -> Result<u64, DiskFailed>
+        ensures length { IfOk result (λ n. n ≡ length (mem_bytes self.old)) }
+        ensures same { mem_bytes self.new ≡ mem_bytes self.old }
+        ensures images { SameImages (IsImage (mem_calls self.old)) (IsImage (mem_calls self.new)) }
+        ensures time { Goes (mem_calls self.old) (mem_calls self.new) }
+        ensures faults { Counts (failed_calls self.old) (failed_calls self.new) result }
+        ensures set { IsFailing self.old → IsErr result }
+        ensures failing { failing_call self.new ≡ failing_call self.old }
+        ensures calls { OnOk result (mem_calls self.new ≡ Call.Idle ∷ mem_calls self.old) }
+        ensures err { OnErr result (IsIdle self.old self.new) }
+    {
         self.pass()?;
         Ok(self.bytes.len() as u64)
     }
 
-    fn read_at(&mut self, at: u64, into: &mut [u8]) -> Result<(), DiskFailed> {
+    /// It fails at the call that was set, and where memory was refused.
+    fn read_at(&mut self, at: u64, into: &mut [u8]) -> Result<(), DiskFailed>
+        requires { at + length into.old ≤ length (mem_bytes self.old) }
+        ensures filled { OnOk result (into.new ≡ slice_range (mem_bytes self.old) at (at + length into.old)) }
+        ensures same { mem_bytes self.new ≡ mem_bytes self.old }
+        ensures images { SameImages (IsImage (mem_calls self.old)) (IsImage (mem_calls self.new)) }
+        ensures time { Goes (mem_calls self.old) (mem_calls self.new) }
+        ensures faults { Counts (failed_calls self.old) (failed_calls self.new) result }
+        ensures set { IsFailing self.old → IsErr result }
+        ensures failing { failing_call self.new ≡ failing_call self.old }
+        ensures calls { OnOk result (mem_calls self.new ≡ Call.Idle ∷ mem_calls self.old) }
+        ensures err { OnErr result (IsIdle self.old self.new) }
+    {
         self.pass()?;
         let at = at as usize;
         into.copy_from_slice(&self.bytes[at..at + into.len()]);
         Ok(())
     }
 
-    fn write_at(&mut self, at: u64, bytes: &[u8]) -> Result<(), DiskFailed> {
+    /// It fails at the call that was set, and where memory was refused.
+    fn write_at(&mut self, at: u64, bytes: &[u8]) -> Result<(), DiskFailed>
+        requires some { 0 < length bytes.now }
+        requires within { at ≤ length (mem_bytes self.old) }
+        ensures written { OnOk result (IsWritten at bytes.now self.old self.new) }
+        ensures others { Torn at (length bytes.now) (mem_bytes self.old) (mem_bytes self.new) }
+        ensures crash { Follows (Torn at (length bytes.now)) (IsImage (mem_calls self.old)) (IsImage (mem_calls self.new)) }
+        ensures time { Goes (mem_calls self.old) (mem_calls self.new) }
+        ensures faults { Counts (failed_calls self.old) (failed_calls self.new) result }
+        ensures set { IsFailing self.old → IsErr result }
+        ensures failing { failing_call self.new ≡ failing_call self.old }
+        ensures err { OnErr result (IsIdle self.old self.new) }
+    {
         if self.is_failing() {
             return Err(self.fail());
         }
@@ -230,7 +273,18 @@ impl Disk for MemDisk {
         }
     }
 
-    fn sync(&mut self) -> Result<(), DiskFailed> {
+    /// It fails at the call that was set, and where memory was refused.
+    fn sync(&mut self) -> Result<(), DiskFailed>
+        ensures durable { OnOk result (Only (mem_bytes self.old) (IsImage (mem_calls self.new))) }
+        ensures same { mem_bytes self.new ≡ mem_bytes self.old }
+        ensures crash { NoMore (IsImage (mem_calls self.old)) (IsImage (mem_calls self.new)) }
+        ensures time { Goes (mem_calls self.old) (mem_calls self.new) }
+        ensures faults { Counts (failed_calls self.old) (failed_calls self.new) result }
+        ensures set { IsFailing self.old → IsErr result }
+        ensures failing { failing_call self.new ≡ failing_call self.old }
+        ensures calls { OnOk result (mem_calls self.new ≡ Call.Synced ∷ mem_calls self.old) }
+        ensures err { OnErr result (IsIdle self.old self.new) }
+    {
         if self.is_failing() {
             return Err(self.fail());
         }

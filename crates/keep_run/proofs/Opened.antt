@@ -39,10 +39,10 @@ module _ (c : Cell) (before now : Option (List ℕ)) (faults faults_now : ℕ) (
 
   pub open_ends : (why : OpenRefusal) → IsOpenRefusal c before faults faults_now why → LeavesBytes before now why
       → IsKeepEnd c before now faults faults_now (status_of why)
-  open_ends (BadJournal place) is left = (is, left)
+  open_ends (BadJournal place) is left = (is.1, left)
   open_ends DiskFault is left = is
   open_ends (JournalFull count) is left =
-      (if_some _ _ before is (λ file told long. record { commits = long.0; journal = long.1; more = long.2; count_is = long.3 }), left)
+      (if_some _ _ before is.1 (λ file told long. record { commits = long.0; journal = long.1; more = long.2; count_is = long.3 }), left)
   open_ends FindingsFull is left = tt
   open_ends NoMemory is left = tt
 

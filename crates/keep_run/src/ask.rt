@@ -1,6 +1,6 @@
 //! What a session asks of a journal: the one desk, whose base is the newest commit at every moment, since nobody else commits.
 
-ghost use Rattle.std.specs.Prelude.{◌≡◌, ◌<◌, ◌≤◌, IfErr, IfOk, IfSome, IsSome, OnOk, false, length};
+ghost use Rattle.std.specs.Prelude.{◌≡◌, ◌<◌, ◌≤◌, ◌↔◌, IfErr, IfOk, IfSome, IsSome, OnOk, false, length};
 ghost use Rattle.book_journal.specs.Entries.{HaveLines, edit_lines, text_limit};
 ghost use Rattle.book_journal.specs.Standing.{IsStill};
 ghost use Rattle.commit_book.specs.Books.{entry_limit, history_of};
@@ -22,7 +22,7 @@ use std::sync::ledger::Ledger;
 use std::thread::Threads;
 
 /// The number of the one desk.
-const DESK: u32 = 1;
+pub(crate) const DESK: u32 = 1;
 
 /// The answer of a log that isn't full.
 fn reply_of(told: Result<Told, BookRefusal>) -> Result<Reply, KeepRefusal>
@@ -86,7 +86,7 @@ fn keep_set<R: Threads + Sync, L: Ledger, D: Disk>(
     ensures still { IsStill D.content D.images journal.new }
     ensures same_reference { journal.new.disk.ghost_name ≡ journal.old.disk.ghost_name }
     ensures whole { OnOk result (journal.new.broken ≡ false) }
-    ensures stays_told { IsSome (D.content journal.old.disk.now) → IsSome (D.content journal.new.disk.now) }
+    ensures stays_told { IsSome (D.content journal.new.disk.now) ↔ IsSome (D.content journal.old.disk.now) }
     ensures ok { IfOk result (IsEntered journal.old.book
         (commit_event (length (history_of journal.old.book).commits) set.edits set.guards) journal.new.book) }
     ensures err { IfErr result (IsStop (D.faults journal.old.disk.now) (D.faults journal.new.disk.now)) }
@@ -98,10 +98,7 @@ fn keep_set<R: Threads + Sync, L: Ledger, D: Disk>(
     let book = journal.book();
     book.known();
     let prepared = prepare(rt, alloc, book.bench(), book.commits(), set)?;
-    match journal.commit(alloc, DESK, &prepared, steps) {
-        Ok(told) => Ok(told.reply),
-        Err(why) => Err(why),
-    }
+    Ok(journal.answer_commit(alloc, DESK, &prepared, steps)?)
 }
 
 impl Session {
@@ -123,7 +120,7 @@ impl Session {
         ensures still { IsStill D.content D.images journal.new }
         ensures same_reference { journal.new.disk.ghost_name ≡ journal.old.disk.ghost_name }
         ensures whole { OnOk result (journal.new.broken ≡ false) }
-        ensures stays_told { IsSome (D.content journal.old.disk.now) → IsSome (D.content journal.new.disk.now) }
+        ensures stays_told { IsSome (D.content journal.new.disk.now) ↔ IsSome (D.content journal.old.disk.now) }
         ensures ok { IfOk result (IsEntered journal.old.book (offered journal.old.book self.now) journal.new.book) }
         ensures err { IfErr result (IsStop (D.faults journal.old.disk.now) (D.faults journal.new.disk.now)) }
         ensures moments { IfSome (D.content journal.old.disk.now)

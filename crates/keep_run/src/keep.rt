@@ -1,6 +1,6 @@
 //! A journal opened, a script run over it, and its text.
 
-ghost use Rattle.std.specs.Prelude.{◌≡◌, ◌≤◌, ◌<◌, ◌^◌, IfErr, IfOk, IfSome, IsSome, false, length};
+ghost use Rattle.std.specs.Prelude.{◌≡◌, ◌≤◌, ◌<◌, ◌^◌, ◌↔◌, IfErr, IfOk, IfSome, IsSome, false, length};
 ghost use Rattle.book_journal.specs.Keeping.{IsStanding, commit_limit};
 ghost use Rattle.book_journal.specs.Standing.{IsStill};
 ghost use Rattle.cell_spec.specs.Writable.{IsWritable};
@@ -72,7 +72,7 @@ fn run_kept<R: Threads + Sync, L: Ledger, D: Disk>(
     requires few { length (history_of journal.old.book).commits ≤ commit_limit }
     requires within { IsScriptWithin script.now }
     ensures same_reference { journal.new.disk.ghost_name ≡ journal.old.disk.ghost_name }
-    ensures stays_told { IsSome (D.content journal.old.disk.now) → IsSome (D.content journal.new.disk.now) }
+    ensures stays_told { IsSome (D.content journal.new.disk.now) ↔ IsSome (D.content journal.old.disk.now) }
     ensures ok { IfOk result (IsKeptOn journal.old.book.opening (history_of journal.old.book).commits script.now
         (D.content journal.new.disk.now) (D.images journal.new.disk.now)) }
     ensures err { IfErr result (IsStop (D.faults journal.old.disk.now) (D.faults journal.new.disk.now)) }
@@ -105,7 +105,7 @@ fn run_over<R: Threads + Sync, L: Ledger, D: Disk>(
     requires entries { length book.entries ≡ length (history_of book).commits }
     requires few { length (history_of book).commits ≤ commit_limit }
     requires within { IsScriptWithin script.now }
-    ensures stays_told { IsSome (D.content disk.old) → IsSome (D.content disk.new) }
+    ensures stays_told { IsSome (D.content disk.new) ↔ IsSome (D.content disk.old) }
     ensures ok { IfOk result (IsKeptOn book.opening (history_of book).commits script.now (D.content disk.new) (D.images disk.new)) }
     ensures err { IfErr result (IsStop (D.faults disk.old) (D.faults disk.new)) }
     ensures moments { IfSome (D.content disk.old)
@@ -137,7 +137,7 @@ pub(crate) fn keep<R: Threads + Sync, L: Ledger, D: Disk>(
     requires some_part { 0 < L.parts }
     ensures ok { IfOk result (IsKept cell script.now (D.content disk.old) (D.content disk.new) (D.images disk.new)) }
     ensures err { IfErr result (IsKeepEnd cell (D.content disk.old) (D.content disk.new) (D.faults disk.old) (D.faults disk.new)) }
-    ensures stays_told { IsSome (D.content disk.old) → IsSome (D.content disk.new) }
+    ensures stays_told { IsSome (D.content disk.new) ↔ IsSome (D.content disk.old) }
     ensures moments { IfSome (D.content disk.old)
         (λ file. LeavesOnly D.moment D.left_since disk.old disk.new (IsKeptImage cell script.now file (D.images disk.old))) }
     ensures no_fall { D.faults disk.old ≤ D.faults disk.new }

@@ -1,6 +1,6 @@
 //! A command of a session over a journal.
 
-ghost use Rattle.std.specs.Prelude.{◌≡◌, ◌≤◌, ◌<◌, ◌∷◌, [], IfErr, IfSome, IsSome, OnOk, false, length};
+ghost use Rattle.std.specs.Prelude.{◌≡◌, ◌≤◌, ◌<◌, ◌↔◌, ◌∷◌, [], IfErr, IfSome, IsSome, OnOk, false, length};
 ghost use Rattle.book_journal.specs.Standing.{IsStill};
 ghost use Rattle.commit_book.specs.Books.{entry_limit};
 ghost use Rattle.crash_disk.specs.Disk.{LeavesOnly};
@@ -33,7 +33,7 @@ pub(crate) fn serve<R: Threads + Sync, L: Ledger, D: Disk>(
     ensures still { IsStill D.content D.images journal.new }
     ensures same_reference { journal.new.disk.ghost_name ≡ journal.old.disk.ghost_name }
     ensures whole { OnOk result (journal.new.broken ≡ false) }
-    ensures stays_told { IsSome (D.content journal.old.disk.now) → IsSome (D.content journal.new.disk.now) }
+    ensures stays_told { IsSome (D.content journal.new.disk.now) ↔ IsSome (D.content journal.old.disk.now) }
     ensures ok { OnOk result (IsDone journal.old.book session.old command.now journal.new.book session.new) }
     ensures err { IfErr result (IsStop (D.faults journal.old.disk.now) (D.faults journal.new.disk.now)) }
     ensures moments { IfSome (D.content journal.old.disk.now)

@@ -1,6 +1,6 @@
 //! A session over a journal, as one call of the program.
 
-ghost use Rattle.std.specs.Prelude.{◌≡◌, ◌≤◌, IfErr, IfSome, IsSome, Some, map, string_bytes};
+ghost use Rattle.std.specs.Prelude.{◌≡◌, ◌≤◌, ◌↔◌, IfErr, IfSome, IsSome, Some, map, string_bytes};
 ghost use Rattle.crash_disk.specs.Disk.{LeavesOnly};
 ghost use Rattle.enc_outside.specs.Files.{StaysUntold};
 ghost use Rattle.call_files.specs.Outside.{outside};
@@ -8,6 +8,7 @@ ghost use Rattle.keep_run.specs.Causes.{IsAskedIn, IsAskedOf, IsImageIn, IsImage
 ghost use Rattle.keep_run.specs.Ends.{IsEnd};
 ghost use Rattle.keep_run.specs.Words.{form_of, keep_form};
 
+use crate::ask::DESK;
 use crate::keep::keep;
 use crate::report::Kept;
 use book_journal::a_journal_has_one_reading;
@@ -20,9 +21,6 @@ use std::alloc::Global;
 use std::marker::Brand;
 use std::sync::ledger::Blank;
 use std::thread::Threads;
-
-/// The number of the one session.
-const DESK: u32 = 1;
 
 /// Does what the words `keep CELL OUT JOURNAL S` say: runs the script S as one session, of desk 1, over the commits that the journal on the disk has,
 /// and has each commit that is accepted on the disk before it goes on. The text that is put tells how many commits the journal had, the session's
@@ -46,7 +44,7 @@ pub fn run_keep<R: Threads + Sync, H: Shelf, O: Sink, D: Disk>(
     ensures moments { IfSome (D.content disk.old) (λ file. LeavesOnly D.moment D.left_since disk.old disk.new
         (IsImageOf (map string_bytes words.now) (H.files shelf.old) file (D.images disk.old))) }
     ensures untouched { IsUntouched result → disk.new ≡ disk.old }
-    ensures stays_told { IsSome (D.content disk.old) → IsSome (D.content disk.new) }
+    ensures stays_told { IsSome (D.content disk.new) ↔ IsSome (D.content disk.old) }
     ensures untold { StaysUntold (H.files shelf.old) (H.files shelf.new) }
     ensures untold_put { StaysUntold (O.written out.old) (O.written out.new) }
     ensures read_faults { H.read_faults shelf.old ≤ H.read_faults shelf.new }
@@ -74,7 +72,7 @@ fn asked_keep<R: Threads + Sync, H: Shelf, D: Disk>(
     ensures moments { IfSome (D.content disk.old) (λ file. LeavesOnly D.moment D.left_since disk.old disk.new
         (IsImageOf (map string_bytes words.now) (H.files shelf.old) file (D.images disk.old))) }
     ensures untouched { IfErr result (λ status. IsUntouched status → disk.new ≡ disk.old) }
-    ensures stays_told { IsSome (D.content disk.old) → IsSome (D.content disk.new) }
+    ensures stays_told { IsSome (D.content disk.new) ↔ IsSome (D.content disk.old) }
     ensures disk_faults { D.faults disk.old ≤ D.faults disk.new }
     ensures reads { OnlyReads (H.files shelf.old) (H.files shelf.new)
         (H.read_faults shelf.old) (H.read_faults shelf.new) (H.write_faults shelf.old) (H.write_faults shelf.new) }
@@ -111,7 +109,7 @@ fn kept_work<R: Threads + Sync, H: Shelf, D: Disk>(
     ensures moments { IfSome (D.content disk.old) (λ file. LeavesOnly D.moment D.left_since disk.old disk.new
         (IsImageIn (Some (keep_form cell.now out.now script.now)) (H.files shelf.old) file (D.images disk.old))) }
     ensures untouched { IfErr result (λ status. IsUntouched status → disk.new ≡ disk.old) }
-    ensures stays_told { IsSome (D.content disk.old) → IsSome (D.content disk.new) }
+    ensures stays_told { IsSome (D.content disk.new) ↔ IsSome (D.content disk.old) }
     ensures disk_faults { D.faults disk.old ≤ D.faults disk.new }
     ensures reads { OnlyReads (H.files shelf.old) (H.files shelf.new)
         (H.read_faults shelf.old) (H.read_faults shelf.new) (H.write_faults shelf.old) (H.write_faults shelf.new) }

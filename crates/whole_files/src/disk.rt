@@ -1,6 +1,7 @@
 //! The real file store.
 
 ghost use Rattle.std.specs.Prelude.{◌≡◌, ◌≤◌, None, IfOk, length};
+ghost use Rattle.enc_outside.specs.Count.{Rose};
 
 use enc_outside::{Failed, Got, Shelf};
 use std::fs::{File, OpenOptions};
@@ -28,6 +29,26 @@ impl<'a, R: Files<File = File>> DiskShelf<'a, R> {
             read_faults: 0,
             write_faults: 0,
         }
+    }
+
+    /// Counts a read that failed.
+    fn failed_to_read(&mut self) -> Failed
+        ensures no_fall { self.old.read_faults ≤ self.new.read_faults }
+        ensures rise { Rose self.old.read_faults self.new.read_faults }
+        ensures others { self.new.write_faults ≡ self.old.write_faults }
+    {
+        self.read_faults = self.read_faults.saturating_add(1);
+        Failed
+    }
+
+    /// Counts a write that failed.
+    fn failed_to_write(&mut self) -> Failed
+        ensures no_fall { self.old.write_faults ≤ self.new.write_faults }
+        ensures rise { Rose self.old.write_faults self.new.write_faults }
+        ensures others { self.new.read_faults ≡ self.old.read_faults }
+    {
+        self.write_faults = self.write_faults.saturating_add(1);
+        Failed
     }
 }
 
@@ -65,10 +86,7 @@ impl<R: Files<File = File>> Shelf for DiskShelf<'_, R> {
             Ok(0) => Ok(Got::End),
             Ok(n) => Ok(Got::Bytes(n)),
             Err(error) if error.kind() == ErrorKind::NotFound => Ok(Got::Absent),
-            Err(_) => {
-                self.read_faults = self.read_faults.saturating_add(1);
-                Err(Failed)
-            }
+            Err(_) => Err(self.failed_to_read()),
         }
     }
 
@@ -76,17 +94,13 @@ impl<R: Files<File = File>> Shelf for DiskShelf<'_, R> {
         if fs::create(self.rt, name).is_ok() {
             return Ok(());
         }
-        self.write_faults = self.write_faults.saturating_add(1);
-        Err(Failed)
+        Err(self.failed_to_write())
     }
 
     fn append(&mut self, name: &str, bytes: &[u8]) -> Result<usize, Failed> {
         match append_some(self.rt, name, bytes) {
             Ok(n) if n > 0 => Ok(n),
-            _ => {
-                self.write_faults = self.write_faults.saturating_add(1);
-                Err(Failed)
-            }
+            _ => Err(self.failed_to_write()),
         }
     }
 }

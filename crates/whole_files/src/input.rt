@@ -1,10 +1,13 @@
 //! Reading a file whole.
 
-ghost use Rattle.std.specs.Prelude.{◌≡◌, ◌≤◌, ◌<◌, ◌^◌, Some, length, IfOk, IfErr, IfSome};
+ghost use Rattle.std.specs.Prelude.{◌≡◌, ◌≤◌, ◌<◌, ◌^◌, Some, length, IfOk, IfErr, IfSome, OnOk};
 ghost use Rattle.whole_files.specs.Input.{IsInputCause, IsUntoldCause};
 
 use enc_outside::{Got, Shelf};
 use std::alloc::Global;
+
+/// How many bytes a read asks for at most: a store may open the file for each read.
+const CHUNK: usize = 65_536;
 
 /// Why a file was not read.
 #[derive(Clone, Copy, Debug, PartialEq, Eq)]
@@ -35,10 +38,11 @@ pub fn read_file<H: Shelf>(
     ensures untold { IfErr result (IsUntoldCause (H.read_faults shelf.old) (H.read_faults shelf.new)) }
     ensures files { H.files shelf.new ≡ H.files shelf.old }
     ensures read_faults { H.read_faults shelf.old ≤ H.read_faults shelf.new }
+    ensures kept { OnOk result (H.read_faults shelf.new ≡ H.read_faults shelf.old) }
     ensures write_faults { H.write_faults shelf.new ≡ H.write_faults shelf.old }
 {
     let mut bytes = Vec::new(alloc);
-    let mut chunk = [0u8; 4096];
+    let mut chunk = [0u8; CHUNK];
     while bytes.len() <= limit {
         match shelf.read_at(name, bytes.len() as u64, &mut chunk) {
             Ok(Got::Bytes(n)) => {

@@ -1,6 +1,7 @@
 //! The real disk of a journal.
 
-ghost use Rattle.std.specs.Prelude.{◌≡◌, None};
+ghost use Rattle.std.specs.Prelude.{◌≡◌, ◌≤◌, None};
+ghost use Rattle.enc_outside.specs.Count.{Rose};
 
 use crash_disk::{Disk, DiskFailed};
 use std::fs::{File, OpenOptions};
@@ -49,6 +50,15 @@ impl<'a, R: Files<File = File>> FileDisk<'a, R> {
             file: None,
             faults: 0,
         }
+    }
+
+    /// Counts a call that failed.
+    fn failed(&mut self) -> DiskFailed
+        ensures no_fall { self.old.faults ≤ self.new.faults }
+        ensures rise { Rose self.old.faults self.new.faults }
+    {
+        self.faults = self.faults.saturating_add(1);
+        DiskFailed
     }
 
     /// The file, opened. A call that fails lets go of it, and the next one opens it again.
@@ -122,40 +132,28 @@ impl<R: Files<File = File>> Disk for FileDisk<'_, R> {
     fn length(&mut self) -> Result<u64, DiskFailed> {
         match self.measure() {
             Ok(length) => Ok(length),
-            Err(_) => {
-                self.faults = self.faults.saturating_add(1);
-                Err(DiskFailed)
-            }
+            Err(_) => Err(self.failed()),
         }
     }
 
     fn read_at(&mut self, at: u64, into: &mut [u8]) -> Result<(), DiskFailed> {
         match self.read(at, into) {
             Ok(()) => Ok(()),
-            Err(_) => {
-                self.faults = self.faults.saturating_add(1);
-                Err(DiskFailed)
-            }
+            Err(_) => Err(self.failed()),
         }
     }
 
     fn write_at(&mut self, at: u64, bytes: &[u8]) -> Result<(), DiskFailed> {
         match self.write(at, bytes) {
             Ok(()) => Ok(()),
-            Err(_) => {
-                self.faults = self.faults.saturating_add(1);
-                Err(DiskFailed)
-            }
+            Err(_) => Err(self.failed()),
         }
     }
 
     fn sync(&mut self) -> Result<(), DiskFailed> {
         match self.keep() {
             Ok(()) => Ok(()),
-            Err(_) => {
-                self.faults = self.faults.saturating_add(1);
-                Err(DiskFailed)
-            }
+            Err(_) => Err(self.failed()),
         }
     }
 }

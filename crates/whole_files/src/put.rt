@@ -1,6 +1,6 @@
 //! Putting a text whole.
 
-ghost use Rattle.std.specs.Prelude.{◌≤◌, OnErr, OnOk};
+ghost use Rattle.std.specs.Prelude.{◌≡◌, ◌≤◌, OnErr, OnOk};
 ghost use Rattle.enc_outside.specs.Count.{Rose};
 ghost use Rattle.enc_outside.specs.Files.{StaysUntold, Told};
 ghost use Rattle.whole_files.specs.Output.{Adds, AddsFront};
@@ -14,6 +14,7 @@ pub fn put_all<O: Sink>(out: &mut O, text: &[u8]) -> Result<(), Failed>
     ensures cause { OnErr result (Rose (O.faults out.old) (O.faults out.new)) }
     ensures untold { StaysUntold (O.written out.old) (O.written out.new) }
     ensures faults { O.faults out.old ≤ O.faults out.new }
+    ensures kept { OnOk result (O.faults out.new ≡ O.faults out.old) }
 {
     let mut done = 0;
     while done < text.len() {

@@ -1,7 +1,7 @@
 use Rattle.std.proofs.Common.{ℕ, ◌≤◌, List, length, ap, arith, subst}
 use Rattle.commit_book.specs.Books.{history_of}
 use Rattle.book_journal.specs.Journals.{IsJournalOf}
-use Rattle.book_journal.proofs.Opening.{begun_after, begun_told, no_place, read_journal, read_short}
+use Rattle.book_journal.proofs.Opening.{begun_after, begun_told, left_begun, no_place, read_journal, read_short}
 use Rattle.book_journal.proofs.open.open_book.Goals as goal
 
 pub returns-clause-opened : goal.returns-clause-opened
@@ -17,6 +17,9 @@ returns-clause-opened g c =
           (subst (λ (l : List ℕ). IsJournalOf c.args.cell l (history_of book).commits) c.deref.ensures.value replayed.journal);
       standing = begun_told g.D.Disk.content g.D.Disk.images c.args.cell book place file c.read_disk.new.disk c.begin_list.new.disk short replayed
           c.begin_list.ensures.told c.in_ok-begin_list.ensures.content c.in_ok-begin_list.ensures.kept;
+      left = left_begun (g.D.Disk.content c.args.disk.now) (g.D.Disk.content c.read_disk.new.disk) (g.D.Disk.content c.begin_list.new.disk)
+          c.in_ok-bytes.bytes.items c.in_ok-bytes.ensures.bytes (omega (arith, c.len.ensures, c.if-len-gt1.false)) c.read_disk.ensures.same
+          c.in_ok-begin_list.ensures.content;
     }
 
 -- an empty list is made of a file of at most one byte

@@ -56,7 +56,7 @@ returns-in-Ok-run_over-clause-moments g c =
     let new = c.run_over.new.disk in
     let commits = (history_of c.in-Ok.opened.0).commits in
     while_run g.D.Disk.moment g.D.Disk.left_since g.D.Disk.content g.D.Disk.images c.args.cell c.args.script.now c.args.disk.now mid
-    c.in-Ok.ensures.moments new commits c.in-Ok.ensures.opened.journal c.in-Ok.ensures.stays_told
+    c.in-Ok.ensures.moments new commits c.in-Ok.ensures.opened.journal c.in-Ok.ensures.stays_told.1
     (subst (λ (cell : Cell). IfSome (g.D.Disk.content mid)
     (λ _. LeavesOnly g.D.Disk.moment g.D.Disk.left_since mid new (IsKeptTo cell commits c.args.script.now))) c.in-Ok.ensures.book.opening
     c.in-Ok-run_over.ensures.moments)

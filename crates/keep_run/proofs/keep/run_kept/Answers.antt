@@ -23,7 +23,7 @@ loop-command-init g c =
       still = c.requires.still;
       same_reference = refl;
       whole = c.requires.whole;
-      stays_told = λ told. told;
+      stays_told = (λ told. told, λ told. told);
       run = subst (λ (rest : List Command). IsRunTo book.opening commits script rest book (draft_of session) session.transcript)
           (sym c.commands-command-items.ensures) begun;
       moments = at_start g.D.Disk.content g.D.Disk.images g.D.Disk.moment g.D.Disk.left_since journal script (draft_of session) session.transcript
@@ -44,7 +44,7 @@ returns-in_err-serve-clause-moments g c =
     let before = c.loop-command.invariant in
     so_far old.book.opening (history_of old.book).commits c.args.script.now c.commands-command-items.result.now c.loop-command.command-index
     c.command-item.result c.loop-command-test.true c.command-item.is c.loop-command.journal.book c.loop-command.session before.run g.D.Disk.moment
-    g.D.Disk.left_since g.D.Disk.content old.disk.now c.loop-command.journal.disk.now c.serve.new.journal.disk.now before.moments before.stays_told
+    g.D.Disk.left_since g.D.Disk.content old.disk.now c.loop-command.journal.disk.now c.serve.new.journal.disk.now before.moments before.stays_told.1
     c.serve.ensures.moments
 
 pub loop-command-preserved : goal.loop-command-preserved
@@ -58,14 +58,14 @@ loop-command-preserved g c =
       still = step.still;
       same_reference = step.same_reference ∙ before.same_reference;
       whole = step.whole;
-      stays_told = λ told. step.stays_told (before.stays_told told);
+      stays_told = (λ told. before.stays_told.0 (step.stays_told.0 told), λ told. step.stays_told.1 (before.stays_told.1 told));
       run = next_done old.book.opening (history_of old.book).commits c.args.script.now c.commands-command-items.result.now c.loop-command.command-index
           c.command-item.result c.loop-command-test.true c.command-item.is c.loop-command.journal.book c.loop-command.session before.run
           c.serve.new.journal.book c.serve.new.session step.ok;
       moments = so_far old.book.opening (history_of old.book).commits c.args.script.now c.commands-command-items.result.now
           c.loop-command.command-index c.command-item.result c.loop-command-test.true c.command-item.is c.loop-command.journal.book
           c.loop-command.session before.run g.D.Disk.moment g.D.Disk.left_since g.D.Disk.content old.disk.now c.loop-command.journal.disk.now
-          c.serve.new.journal.disk.now before.moments before.stays_told step.moments;
+          c.serve.new.journal.disk.now before.moments before.stays_told.1 step.moments;
       no_fall = omega (arith, fell, falls);
     }
 

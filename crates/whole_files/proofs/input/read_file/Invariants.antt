@@ -1,4 +1,4 @@
-use Rattle.std.proofs.Common.{◌≡◌, ◌≤◌, ◌-◌, ◌+◌, length, vec_len, IfSome}
+use Rattle.std.proofs.Common.{◌≡◌, ◌-◌, ◌+◌, length, vec_len, IfSome}
 use Rattle.whole_files.specs.Input.{IsFrontOf}
 use Rattle.whole_files.proofs.input.read_file.Given as goal
 
@@ -6,9 +6,9 @@ abbrev pub invariant-loop-chunk : goal.invariant-loop-chunk
 invariant-loop-chunk g l = record {
   front : IfSome (g.H.Shelf.files l.initial.shelf) (λ files. IsFrontOf l.bytes.items (files l.name));
   files : g.H.Shelf.files l.shelf ≡ g.H.Shelf.files l.initial.shelf;
-  read_faults : g.H.Shelf.read_faults l.initial.shelf ≤ g.H.Shelf.read_faults l.shelf;
+  read_faults : g.H.Shelf.read_faults l.shelf ≡ g.H.Shelf.read_faults l.initial.shelf;
   write_faults : g.H.Shelf.write_faults l.shelf ≡ g.H.Shelf.write_faults l.initial.shelf;
-  chunk : length l.chunk ≡ 4096;
+  chunk : length l.chunk ≡ 65536;
 }
 
 abbrev pub decreases-loop-chunk : goal.decreases-loop-chunk

@@ -1,4 +1,4 @@
-use Rattle.std.proofs.Common.{arith, take, drop}
+use Rattle.std.proofs.Common.{◌∙◌, arith, refl, take, drop}
 use Rattle.std.proofs.Math.Seq.{take-add}
 use Rattle.std.proofs.lemmas.List.{take_rest, length-take, length-drop}
 use Rattle.whole_files.proofs.Puts.{told_more}
@@ -14,5 +14,5 @@ loop-done-preserved g c = let text = c.args.text.now in let done = c.loop-done.d
           (g.O.Sink.written c.loop-done.out) (g.O.Sink.written c.put.new.self)
           c.loop-done.invariant.told c.put.ensures.untold took);
       untold = λ none. c.put.ensures.untold (c.loop-done.invariant.untold none);
-      faults = omega (arith, c.put.ensures.faults.no_fall);
+      faults = c.in_ok-done.ensures.faults.kept refl ∙ c.loop-done.invariant.faults;
     }

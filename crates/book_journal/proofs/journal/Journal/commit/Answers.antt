@@ -32,7 +32,7 @@ keep-requires-clause-room g c =
     )
 
 pub keep-requires-clause-standing : goal.keep-requires-clause-standing
-keep-requires-clause-standing g c = stands_ready g.D.Disk.content g.D.Disk.images c.args.self.now c.requires.still c.if-self.false
+keep-requires-clause-standing g c = stands_ready g.D.Disk.content g.D.Disk.images c.args.self.now c.requires.still c.in_ok-need_whole.ensures
 
 -- an entry that is kept stands in the list
 pub returns-in-Ok-clause-still : goal.returns-in-Ok-clause-still
@@ -46,7 +46,7 @@ returns-in-Ok-clause-still g c =
     let sized = ap length c.deref.ensures.value in
     let entered = subst (λ (book : BookState). IsEntered c.args.self.now.book c.args.desk (Commit c.args.prepared.now.base c.args.prepared.now.edits) book
     c.in_ok-told.told.reply) (sym c.keep.ensures.book) told in
-    still_more g.D.Disk.content g.D.Disk.images c.args.self.now c.keep.new.self c.requires.still c.if-self.false c.args.desk c.args.prepared.now
+    still_more g.D.Disk.content g.D.Disk.images c.args.self.now c.keep.new.self c.requires.still c.in_ok-need_whole.ensures c.args.desk c.args.prepared.now
     c.in_ok-told.told.reply entered c.if-not-is_accepted.ensures accepted c.deref.result.now
     (record { part_is = c.deref.ensures.value ∙ part.part_is; short = part.short }) kept.end c.keep.ensures.told kept.content kept.kept
 
@@ -54,7 +54,7 @@ returns-in-Ok-clause-still g c =
 pub returns-in-Ok-clause-moments : goal.returns-in-Ok-clause-moments
 returns-in-Ok-clause-moments g c whole =
     entry_written g.D.Disk.content g.D.Disk.images c.args.self.now c.requires.still g.D.Disk.moment g.D.Disk.left_since
-    (commit_asked c.args.desk c.args.prepared.now) c.if-self.false c.deref.result.now (c.deref.ensures.value ∙ c.in_ok-part.ensures.ok.part_is)
+    (commit_asked c.args.desk c.args.prepared.now) c.in_ok-need_whole.ensures c.deref.result.now (c.deref.ensures.value ∙ c.in_ok-part.ensures.ok.part_is)
     (set_accepted c.args.self.now.book c.commit.new.self c.args.desk c.args.prepared.now c.in_ok-told.told.reply c.in_ok-told.ensures.ok
     c.if-not-is_accepted.ensures (omega (arith, c.ranges.desk.fits)) c.requires.level c.requires.lines _ c.edits.ensures
     c.known-2.ensures.form c.in_ok-part.ensures.ok.short) c.keep.new.self.disk.now c.keep.ensures.moments
@@ -62,7 +62,7 @@ returns-in-Ok-clause-moments g c whole =
 pub returns-clause-moments : goal.returns-clause-moments
 returns-clause-moments g c whole =
     entry_written g.D.Disk.content g.D.Disk.images c.args.self.now c.requires.still g.D.Disk.moment g.D.Disk.left_since
-    (commit_asked c.args.desk c.args.prepared.now) c.if-self.false c.deref.result.now (c.deref.ensures.value ∙ c.in_ok-part.ensures.ok.part_is)
+    (commit_asked c.args.desk c.args.prepared.now) c.in_ok-need_whole.ensures c.deref.result.now (c.deref.ensures.value ∙ c.in_ok-part.ensures.ok.part_is)
     (set_accepted c.args.self.now.book c.commit.new.self c.args.desk c.args.prepared.now c.in_ok-told.told.reply c.in_ok-told.ensures.ok
     c.if-not-is_accepted.ensures (omega (arith, c.ranges.desk.fits)) c.requires.level c.requires.lines _ c.edits.ensures
     c.known-2.ensures.form c.in_ok-part.ensures.ok.short) c.keep.new.self.disk.now c.keep.ensures.moments
