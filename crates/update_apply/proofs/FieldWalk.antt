@@ -1,10 +1,10 @@
 -- The fields of a record from a place on.
-use Rattle.std.proofs.Common.{◌≡◌, ℕ, ◌+◌, ◌≤◌, Bool, true, false, not, List, [], ◌∷◌, ◌++◌, length, take, drop, Some, None, Result, Ok}
+use Rattle.std.proofs.Common.{◌≡◌, ℕ, ◌+◌, ◌≤◌, ◌||◌, Bool, true, false, not, List, [], ◌∷◌, ◌++◌, length, take, drop, Option, Some, None, Result, Ok}
 use Rattle.std.proofs.Common.{Err, refl, sym, ap, ◌∙◌}
-use Rattle.std.specs.Prelude.{slice_get, filter, nat_eq, IfOk, OnOk}
+use Rattle.std.specs.Prelude.{slice_get, filter, find, nat_eq, IfOk, OnOk}
 use Rattle.std.specs.Cmp.Lexicographic.{pointwise}
-use Rattle.std.specs.List.{flat_map}
-use Rattle.std.specs.Option.{option_or}
+use Rattle.std.specs.List.{flat_map, list_any}
+use Rattle.std.specs.Option.{option_map, option_or}
 use Rattle.std.specs.Result.{result_unwrap_or}
 use Rattle.std.proofs.lemmas.List.{append-nil, drop_all}
 use Rattle.std.proofs.lemmas.List.Concat.{flat_map-append}
@@ -14,9 +14,8 @@ use Rattle.field_spec.specs.declared.fault.FieldFault.{FieldFault}
 use Rattle.file_spec.specs.FieldTags.{is_tagged, tag_text}
 use Rattle.file_spec.specs.RecordReading.{field_fault, rows_of}
 use Rattle.file_spec.specs.declared.tag.FieldTag.{FieldTag}
-use Rattle.file_spec.specs.declared.tag.FieldTag.TheVariants as tags
 use Rattle.file_spec.specs.declared.tag.RecordType.{RecordType}
-use Rattle.cell_read.proofs.FieldSteps.{drop_at, take_at}
+use Rattle.cell_read.proofs.FieldSteps.{any_more, drop_at, find_here, find_later, take_at}
 use Rattle.update_spec.specs.ControlFields.{control_in}
 use Rattle.update_spec.specs.UpdateFields.{control_fault, update_field_fault, update_fields_fault}
 use Rattle.update_spec.specs.declared.control.ControlTag.{ControlTag}
@@ -44,13 +43,48 @@ module _ {X : Type 0} (tag : FieldTag) (content : List ℕ → Result (List X) F
   rows_joined = ap (rows_of tag content) (take_at fields k f is) ∙ ap (flat_map _) (filter-append (is_tagged tag) (take k fields) (f ∷ []))
       ∙ flat_map-append _ (filter (is_tagged tag) (take k fields)) (filter (is_tagged tag) (f ∷ []))
 
-  pub rows_here : is_tagged tag f ≡ true → rows_of tag content (take (k + 1) fields) ≡ rows_of tag content (take k fields)
+  rows_here : is_tagged tag f ≡ true → rows_of tag content (take (k + 1) fields) ≡ rows_of tag content (take k fields)
       ++ result_unwrap_or (content f.bytes) []
   rows_here tagged = rows_joined ∙ ap (λ rows. rows_of tag content (take k fields) ++ rows) (rw tagged (append-nil (result_unwrap_or (content f.bytes) [])))
+
+  pub rows_grown : (old new : List X) → old ≡ rows_of tag content (take k fields) → is_tagged tag f ≡ true
+      → new ≡ old ++ result_unwrap_or (content f.bytes) [] → new ≡ rows_of tag content (take (k + 1) fields)
+  rows_grown old new so_far here is = is ∙ ap (λ rows. rows ++ result_unwrap_or (content f.bytes) []) so_far ∙ sym (rows_here here)
 
   pub rows_elsewhere : is_tagged tag f ≡ false → rows_of tag content (take (k + 1) fields) ≡ rows_of tag content (take k fields)
   rows_elsewhere other = rows_joined ∙ ap (λ rows. rows_of tag content (take k fields) ++ rows) (rw other refl) ∙ append-nil (rows_of tag
       content (take k fields))
+
+-- the field at a place, of which the tag is known
+pub at_name : {P : Type 0} (fields : List Field) (k : ℕ) (name : List ℕ) → option_map (λ (f : Field). f.tag) (slice_get fields k) ≡ Some name
+    → ((f : Field) → slice_get fields k ≡ Some f → f.tag ≡ name → P) → P
+at_name {P} fields k name is then = by (slice_get fields k) refl is
+  where
+    by : (found : Option Field) → slice_get fields k ≡ found → option_map (λ (f : Field). f.tag) found ≡ Some name → P
+    by None e named = absurd cc
+    by (Some f) e named = then f e cc
+
+pub name_is : (fields : List Field) (k : ℕ) (name : List ℕ) (f : Field) → option_map (λ (x : Field). x.tag) (slice_get fields k) ≡ Some name
+    → slice_get fields k ≡ Some f → f.tag ≡ name
+name_is fields k name f is here = let tagged : Some f.tag ≡ Some name = ap (option_map (λ (x : Field). x.tag)) (sym here) ∙ is in cc
+
+-- whether a test of the tag holds of one of the fields, with one field more
+pub named_more : (p : List ℕ → Bool) (fields : List Field) (k : ℕ) (name : List ℕ) → option_map (λ (f : Field). f.tag) (slice_get fields k) ≡ Some name
+    → list_any (λ (f : Field). p f.tag) (take (k + 1) fields) ≡ (list_any (λ (f : Field). p f.tag) (take k fields) || p name)
+named_more p fields k name is = at_name fields k name is
+    (λ f here named. any_more (λ (x : Field). p x.tag) fields k f here ∙ ap (λ t. list_any (λ (x : Field). p x.tag) (take k fields) || p t) named)
+
+-- the first field of a tag of this text, from a place on
+pub found_here : (text : List ℕ) (fields : List Field) (k : ℕ) (name : List ℕ) (f : Field) → option_map (λ (x : Field). x.tag) (slice_get fields k) ≡ Some name
+    → slice_get fields k ≡ Some f → pointwise nat_eq name text ≡ true → find (λ (x : Field). pointwise nat_eq x.tag text) (drop k fields) ≡ Some f
+found_here text fields k name f is here same =
+    find_here (λ (x : Field). pointwise nat_eq x.tag text) fields k f here (ap (λ t. pointwise nat_eq t text) (name_is fields k name f is here) ∙ same)
+
+pub found_later : (text : List ℕ) (fields : List Field) (k : ℕ) (name : List ℕ) → option_map (λ (x : Field). x.tag) (slice_get fields k) ≡ Some name
+    → pointwise nat_eq name text ≡ false
+    → find (λ (x : Field). pointwise nat_eq x.tag text) (drop k fields) ≡ find (λ (x : Field). pointwise nat_eq x.tag text) (drop (k + 1) fields)
+found_later text fields k name is other = at_name fields k name is
+    (λ f here named. find_later (λ (x : Field). pointwise nat_eq x.tag text) fields k f here (ap (λ t. pointwise nat_eq t text) named ∙ other))
 
 -- what a comparison of a field's name with a tag's text tells
 not_false : (b : Bool) → not b ≡ false → b ≡ true
@@ -61,15 +95,15 @@ not_true : (b : Bool) → not b ≡ true → b ≡ false
 not_true true is = absurd cc
 not_true false is = refl
 
-pub same_tag : (tag : FieldTag) (f : Field) (text : List ℕ) (differ : Bool) → text ≡ tag_text tag → differ ≡ not (pointwise nat_eq f.tag text)
-    → differ ≡ false → is_tagged tag f ≡ true
-same_tag tag f text differ is differs fails =
-    ap (pointwise nat_eq f.tag) (sym is) ∙ not_false (pointwise nat_eq f.tag text) (sym differs ∙ fails)
+pub same_tag : (tag : FieldTag) (f : Field) (name text : List ℕ) (differ : Bool) → f.tag ≡ name → text ≡ tag_text tag
+    → differ ≡ not (pointwise nat_eq name text) → differ ≡ false → is_tagged tag f ≡ true
+same_tag tag f name text differ named is differs fails =
+    ap (λ t. pointwise nat_eq t (tag_text tag)) named ∙ ap (pointwise nat_eq name) (sym is) ∙ not_false (pointwise nat_eq name text) (sym differs ∙ fails)
 
-pub other_tag : (tag : FieldTag) (f : Field) (text : List ℕ) (differ : Bool) → text ≡ tag_text tag → differ ≡ not (pointwise nat_eq f.tag text)
-    → differ ≡ true → is_tagged tag f ≡ false
-other_tag tag f text differ is differs holds =
-    ap (pointwise nat_eq f.tag) (sym is) ∙ not_true (pointwise nat_eq f.tag text) (sym differs ∙ holds)
+pub other_tag : (tag : FieldTag) (f : Field) (name text : List ℕ) (differ : Bool) → f.tag ≡ name → text ≡ tag_text tag
+    → differ ≡ not (pointwise nat_eq name text) → differ ≡ true → is_tagged tag f ≡ false
+other_tag tag f name text differ named is differs holds =
+    ap (λ t. pointwise nat_eq t (tag_text tag)) named ∙ ap (pointwise nat_eq name) (sym is) ∙ not_true (pointwise nat_eq name text) (sym differs ∙ holds)
 
 -- which definition says the fault of a field
 pub control_step : (nall : ℕ) (type : RecordType) (before : List Field) (f : Field) (tag : ControlTag) → control_in type f ≡ Some tag

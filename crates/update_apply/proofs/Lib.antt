@@ -1,4 +1,7 @@
 pub mod FieldWalk
+pub mod KeptRows
+pub mod LongRecords
+pub mod SizedRows
 pub mod Steps
 pub mod Faultless
 pub mod GoodRecords

@@ -1,2 +1,4 @@
 pub mod FileParts
 pub mod Gives
+pub mod Kept
+pub mod RowSizes

@@ -2,14 +2,20 @@
 
 ghost use Rattle.std.specs.Prelude.{◌≡◌, not};
 ghost use Rattle.std.specs.Option.{option_or};
+ghost use Rattle.s57_types.specs.declared.record.Rec.{Rec as SpecRec};
+ghost use Rattle.cell_read.specs.KeptRecords.{IsKeptOf};
 ghost use Rattle.file_spec.specs.RecordFaults.{demand};
 ghost use Rattle.file_spec.specs.declared.fault.RecordFault.TheVariants.{TooLong};
 ghost use Rattle.update_spec.specs.ControlFields.{has_controls};
 ghost use Rattle.update_spec.specs.UpdateRecords.{is_new, is_short};
 ghost use Rattle.update_spec.specs.declared.fault.UpdateFault.TheVariants.{BadControl, Record, TargetThere};
+ghost use Rattle.update_apply.specs.Gives.{GivesUpdate};
+ghost use Rattle.update_apply.specs.Kept.{added_unless_long};
 
+use crate::refusal::StepRefusal;
 use crate::tags::has_controls;
 use crate::target::is_new;
+use cell_spec::Edit;
 use chain_topo::ListLook;
 use file_spec::{RecordFault, RecordType};
 use iso_frame::Frame;
@@ -55,5 +61,17 @@ impl<'a> Case<'a> {
             return None;
         }
         Some(UpdateFault::Record(RecordFault::TooLong))
+    }
+
+    /// The edit that adds a record, of which all is kept, or so much that it is too long as the whole record is.
+    pub fn addition(&self, rec: Rec) -> Result<Edit, StepRefusal>
+        requires { self.now.nall ≡ self.now.look.now.head.nall }
+        ensures { (whole : SpecRec) → IsKeptOf self.now.look.now.head.nall rec whole →
+            GivesUpdate result (added_unless_long self.now.look.now whole) }
+    {
+        match self.length_fault(&rec) {
+            Some(fault) => Err(StepRefusal::Fault(fault)),
+            None => Ok(Edit::Add(rec)),
+        }
     }
 }

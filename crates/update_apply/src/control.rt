@@ -1,6 +1,6 @@
 //! Control fields.
 
-ghost use Rattle.std.specs.Prelude.{◌≡◌, MatchOption, Ok, Err};
+ghost use Rattle.std.specs.Prelude.{◌≡◌, ◌<◌, MatchOption, IfSome, Ok, Err};
 ghost use Rattle.std.specs.Option.{option_map};
 ghost use Rattle.s57_types.specs.Subfield.{unsigned, unsigned_of};
 ghost use Rattle.field_spec.specs.Cutting.{before_terminator, front, split};
@@ -42,7 +42,7 @@ fn take_u16(bytes: &[u8]) -> Option<(u16, &[u8])>
 }
 
 /// The bytes of a field before its terminator.
-fn field_body(bytes: &[u8]) -> Option<&[u8]>
+pub fn field_body(bytes: &[u8]) -> Option<&[u8]>
     ensures { option_map (λ x. x.now) result ≡ before_terminator bytes.now }
 {
     let (last, body) = bytes.split_last()?;
@@ -55,7 +55,8 @@ fn field_body(bytes: &[u8]) -> Option<&[u8]>
 /// What a control field says, or None where it is bad.
 #[tactic(auto, unfolding(update_spec::specs::ControlFields::control_content))]
 pub fn read_control(bytes: &[u8]) -> Option<Control>
-    ensures { MatchOption result (control_content bytes.now ≡ Err BadField) (λ control. control_content bytes.now ≡ Ok control) }
+    ensures counted { IfSome result (λ control. control.count < 65536) }
+    ensures said { MatchOption result (control_content bytes.now ≡ Err BadField) (λ control. control_content bytes.now ≡ Ok control) }
 {
     let (instruction, rest) = take_u8(field_body(bytes)?)?;
     let (index, rest) = take_u16(rest)?;
@@ -72,7 +73,8 @@ pub fn read_control(bytes: &[u8]) -> Option<Control>
 
 /// What the control field of a tag says, if the record has it.
 pub fn control_among(frame: &Frame<'_>, tag: ControlTag) -> Option<Control>
-    ensures { result ≡ control_among tag frame.now.fields }
+    ensures counted { IfSome result (λ control. control.count < 65536) }
+    ensures said { result ≡ control_among tag frame.now.fields }
 {
     let bytes = first_field(frame, &control_text(tag))?;
     read_control(bytes)

@@ -2,6 +2,7 @@
 
 ghost use Rattle.std.specs.Prelude.{◌≡◌, ℕ, List, IfOk};
 ghost use Rattle.frame_spec.specs.RecordFrame.{Field};
+ghost use Rattle.cell_read.specs.KeptRecords.{IsKeptOf};
 ghost use Rattle.cell_spec.specs.Names.{same_identity};
 ghost use Rattle.update_spec.specs.UpdateRecords.{feature_edit, feature_name, inserted_feature, modified_feature};
 ghost use Rattle.update_spec.specs.declared.control.Instruction.TheVariants.{Insert, Delete, Modify};
@@ -9,7 +10,7 @@ ghost use Rattle.update_apply.specs.Gives.{GivesUpdate};
 
 use crate::attributes::modified_attributes;
 use crate::case::Case;
-use crate::given::rows_of;
+use crate::given::{kept_rows_of, rows_of};
 use crate::refusal::StepRefusal;
 use crate::rows::modified_rows;
 use crate::target::target_feature;
@@ -39,16 +40,19 @@ fn same_identity(a: Lnam, b: Lnam) -> bool
     a.agen == b.agen && a.fidn == b.fidn && a.fids == b.fids
 }
 
-/// The record that a feature record inserts; national attributes are at the update's level.
-#[tactic(auto, unfolding(update_spec::specs::UpdateRecords::inserted_feature))]
+/// What is kept of the record that a feature record inserts; national attributes are at the update's level.
 fn inserted_feature(
     alloc: Global,
     level: u8,
     ids: Identifiers,
     frame: &Frame<'_>,
 ) -> Result<Rec, AllocError>
-    ensures { IfOk result (λ rec. rec ≡ inserted_feature level ids.frid ids.foid frame.now.fields) }
+    ensures { (nall : ℕ) → IfOk result (λ rec. IsKeptOf nall rec (inserted_feature level ids.frid ids.foid frame.now.fields)) }
 {
+    let attf = rows_of(alloc, frame, FieldTag::Attf, 0)?;
+    let natf = rows_of(alloc, frame, FieldTag::Natf, level)?;
+    let partners = kept_rows_of(alloc, frame, FieldTag::Ffpt)?;
+    let places = kept_rows_of(alloc, frame, FieldTag::Fspt)?;
     Ok(Rec::F(Feature {
         name: feature_name(ids.frid),
         prim: ids.frid.prim,
@@ -56,10 +60,10 @@ fn inserted_feature(
         objl: ids.frid.objl,
         rver: ids.frid.rver,
         foid: ids.foid,
-        attf: rows_of(alloc, frame, FieldTag::Attf, 0)?,
-        natf: rows_of(alloc, frame, FieldTag::Natf, level)?,
-        partners: rows_of(alloc, frame, FieldTag::Ffpt, 0)?,
-        places: rows_of(alloc, frame, FieldTag::Fspt, 0)?,
+        attf,
+        natf,
+        partners,
+        places,
     }))
 }
 
@@ -114,10 +118,7 @@ fn feature_insertion(case: &Case<'_>, ids: Identifiers) -> Result<Edit, StepRefu
         return Err(StepRefusal::Fault(fault));
     }
     let rec = inserted_feature(case.alloc, case.level, ids, case.frame)?;
-    match case.length_fault(&rec) {
-        Some(fault) => Err(StepRefusal::Fault(fault)),
-        None => Ok(Edit::Add(rec)),
-    }
+    case.addition(rec)
 }
 
 /// The edit of a feature record that is deleted.

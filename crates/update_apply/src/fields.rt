@@ -4,14 +4,16 @@ ghost use Rattle.std.specs.Prelude.{◌≡◌, ◌≤◌, ◌<◌, ◌+◌, ◌&
 ghost use Rattle.std.specs.List.{list_any};
 ghost use Rattle.std.specs.Option.{option_or};
 ghost use Rattle.std.specs.Result.{result_err};
+ghost use Rattle.field_spec.specs.Contents.{deep_content, plane_content};
 ghost use Rattle.field_spec.specs.declared.fault.FieldFault.{FieldFault as SpecFault};
 ghost use Rattle.file_spec.specs.FieldTags.{is_tagged, may_repeat};
 ghost use Rattle.file_spec.specs.RecordFaults.{of_field};
 ghost use Rattle.file_spec.specs.RecordReading.{content_fault, field_fault};
 ghost use Rattle.s57_fields.specs.Gives.{Gives};
 ghost use Rattle.update_spec.specs.UpdateFields.{control_fault, update_fields_fault};
+ghost use Rattle.update_apply.specs.RowSizes.{size_fault};
 
-use crate::control::read_control;
+use crate::control::{field_body, read_control};
 use crate::tags::{control_in, control_text, stands_before};
 use cell_read::{may_repeat, tag_in, tag_text};
 use field_spec::FieldFault;
@@ -19,10 +21,15 @@ use file_spec::{FieldTag, RecordFault, RecordType};
 use iso_frame::Frame;
 use s57_fields::{
     FieldRefusal, read_attf, read_attv, read_dsid, read_dspm, read_dssi, read_ffpt, read_foid,
-    read_frid, read_fspt, read_natf, read_sg2d, read_sg3d, read_vrid, read_vrpt,
+    read_frid, read_fspt, read_natf, read_vrid, read_vrpt,
 };
 use std::alloc::{AllocError, Global};
 use update_spec::ControlTag;
+
+/// How many bytes a row of 2-D coordinates takes, and a sounding.
+const PLANE_SIZE: usize = 8;
+
+const DEEP_SIZE: usize = 12;
 
 /// What a reader of a field finds wrong with its bytes, if anything.
 fn fault_of<T: Drop>(read: Result<T, FieldRefusal>) -> Result<Option<FieldFault>, AllocError>
@@ -34,6 +41,37 @@ fn fault_of<T: Drop>(read: Result<T, FieldRefusal>) -> Result<Option<FieldFault>
         Err(FieldRefusal::BadText) => Ok(Some(FieldFault::BadText)),
         Err(FieldRefusal::NoMemory) => Err(AllocError),
     }
+}
+
+/// The fault of the bytes of a field whose rows take so many bytes each, whatever these are, if it has one.
+fn size_fault(size: usize, bytes: &[u8]) -> Option<FieldFault>
+    requires { 0 < size }
+    ensures { result ≡ size_fault size bytes.now }
+{
+    let Some(body) = field_body(bytes) else {
+        return Some(FieldFault::BadField);
+    };
+    if body.len() % size == 0 {
+        None
+    } else {
+        Some(FieldFault::BadField)
+    }
+}
+
+/// The fault of the bytes of 2-D coordinates, if they have one. Any numbers are coordinates, so none is read.
+#[tactic(auto, using(crate::proofs::SizedRows::plane_fault))]
+fn plane_fault(bytes: &[u8]) -> Option<FieldFault>
+    ensures { result ≡ result_err (plane_content bytes.now) }
+{
+    size_fault(PLANE_SIZE, bytes)
+}
+
+/// The fault of the bytes of soundings, if they have one. Any numbers are soundings, so none is read.
+#[tactic(auto, using(crate::proofs::SizedRows::deep_fault))]
+fn deep_fault(bytes: &[u8]) -> Option<FieldFault>
+    ensures { result ≡ result_err (deep_content bytes.now) }
+{
+    size_fault(DEEP_SIZE, bytes)
 }
 
 /// The fault of the bytes of a field, if they have one; national attributes are at the level NALL.
@@ -59,8 +97,8 @@ fn content_fault(
         FieldTag::Vrid => fault_of(read_vrid(alloc, bytes)),
         FieldTag::Attv => fault_of(read_attv(alloc, bytes)),
         FieldTag::Vrpt => fault_of(read_vrpt(alloc, bytes)),
-        FieldTag::Sg2d => fault_of(read_sg2d(alloc, bytes)),
-        FieldTag::Sg3d => fault_of(read_sg3d(alloc, bytes)),
+        FieldTag::Sg2d => Ok(plane_fault(bytes)),
+        FieldTag::Sg3d => Ok(deep_fault(bytes)),
     }
 }
 

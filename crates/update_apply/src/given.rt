@@ -7,6 +7,7 @@ ghost use Rattle.file_spec.specs.RecordReading.{required, rows_of};
 ghost use Rattle.s57_fields.specs.Gives.{Gives};
 ghost use Rattle.update_spec.specs.UpdateFaults.{of_record};
 ghost use Rattle.update_apply.specs.Gives.{GivesUpdate};
+ghost use Rattle.update_apply.specs.Kept.{IsKept};
 
 use crate::refusal::StepRefusal;
 use crate::tags::first_field;
@@ -20,6 +21,9 @@ use s57_fields::{
 use s57_types::{Attr, Dsid, Dssi, End, Frid, Items, Lnam, Partner, Spot, Vrid};
 use std::alloc::{AllocError, Global};
 use update_spec::UpdateFault;
+
+/// How many rows of a tag are enough: no control field counts so many, and a record that has them is too long.
+const ROW_LIMIT: usize = 65_536;
 
 /// What a field of one row holds.
 pub trait Single: Drop + Sized {
@@ -204,10 +208,10 @@ fn append_tagged<T: Given>(
     requires rows { rows.old.items ≡ rows_of tag (T.content level) (take k frame.now.fields) }
     ensures { OnOk result (rows.new.items ≡ rows_of tag (T.content level) (take (k + 1) frame.now.fields)) }
 {
-    let (name, bytes) = frame.field(k);
-    if name != tag_text(tag) {
+    if frame.tag(k) != tag_text(tag) {
         return Ok(());
     }
+    let (_, bytes) = frame.field(k);
     append_field(alloc, level, bytes, rows)
 }
 
@@ -226,6 +230,27 @@ pub fn rows_of<T: Given>(
     let count = frame.count();
     for k in 0..count {
         append_tagged(alloc, frame, tag, level, k, &mut rows)?;
+    }
+    Ok(Items::of_vec(rows))
+}
+
+/// The rows of the fields of a tag, one after the other: all, or those up to the field with which they are enough.
+///
+/// A directory of one record may name the same bytes thousands of times, so all its rows may take gigabytes. An `Err` means out of memory.
+pub fn kept_rows_of<T: Given>(
+    alloc: Global,
+    frame: &Frame<'_>,
+    tag: FieldTag,
+) -> Result<Items<T>, AllocError>
+    ensures { IfOk result (λ rows. IsKept rows (rows_of tag (T.content 0) frame.now.fields)) }
+{
+    let mut rows = Vec::new(alloc);
+    let count = frame.count();
+    for k in 0..count {
+        if rows.len() >= ROW_LIMIT {
+            return Ok(Items::of_vec(rows));
+        }
+        append_tagged(alloc, frame, tag, 0, k, &mut rows)?;
     }
     Ok(Items::of_vec(rows))
 }

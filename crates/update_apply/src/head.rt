@@ -74,8 +74,8 @@ fn identification_fault(head: &Head, dsid: &Dsid) -> Option<UpdateFault>
     None
 }
 
-/// The type of a record that is to be the data set general information.
-fn is_identification(frame: &Frame<'_>) -> Result<(), RecordFault>
+/// Refuses a record that isn't the data set general information.
+fn check_identification(frame: &Frame<'_>) -> Result<(), RecordFault>
     ensures { result ≡ is_identification frame.now.fields }
 {
     match record_type(frame)? {
@@ -139,7 +139,7 @@ pub fn update_identification(
 ) -> Result<(HeadEdit, u8), StepRefusal>
     ensures { GivesUpdate result (update_identification head.now frame.now.fields) }
 {
-    if let Err(fault) = is_identification(frame) {
+    if let Err(fault) = check_identification(frame) {
         return Err(StepRefusal::Fault(UpdateFault::Record(fault)));
     }
     check_fields(alloc, 0, RecordType::GeneralInformation, frame)?;

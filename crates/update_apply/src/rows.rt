@@ -7,7 +7,7 @@ ghost use Rattle.update_spec.specs.UpdatedRows.{changed_rows, has_place, updated
 ghost use Rattle.update_apply.specs.Gives.{GivesUpdate};
 
 use crate::control::control_among;
-use crate::given::{Given, rows_of};
+use crate::given::{Given, kept_rows_of};
 use crate::refusal::StepRefusal;
 use file_spec::FieldTag;
 use iso_frame::Frame;
@@ -125,7 +125,7 @@ pub fn modified_rows<T: Given + Duplicate>(
 ) -> Result<Items<T>, StepRefusal>
     ensures { GivesUpdate result (updated_rows (control_among control frame.now.fields) (rows_of tag (T.content 0) frame.now.fields) rows.now) }
 {
-    let given = rows_of(alloc, frame, tag, 0)?;
+    let given = kept_rows_of(alloc, frame, tag)?;
     let control = control_among(frame, control);
     updated_rows(alloc, control, given, rows.as_slice())
 }

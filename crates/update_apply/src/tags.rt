@@ -48,15 +48,13 @@ fn one_of(first: ControlTag, second: ControlTag, name: &[u8; 4]) -> Option<Contr
 }
 
 /// Whether one of the first so many fields has a tag of this text.
-#[tactic(auto, using(cell_read::proofs::FieldSteps::any_more))]
 pub fn stands_before(frame: &Frame<'_>, text: &[u8; 4], k: usize) -> bool
     requires { k ≤ length frame.now.fields }
     ensures { result ≡ list_any (λ (f : Field). pointwise nat_eq f.tag text.now) (take k frame.now.fields) }
 {
     let mut stands = false;
     for j in 0..k {
-        let (name, _) = frame.field(j);
-        stands |= name == *text;
+        stands |= frame.tag(j) == *text;
     }
     stands
 }
@@ -69,28 +67,25 @@ pub fn has_field(frame: &Frame<'_>, text: &[u8; 4]) -> bool
 }
 
 /// Whether one of the fields is a control field of the record.
-#[tactic(auto, using(cell_read::proofs::FieldSteps::any_more))]
 pub fn has_controls(frame: &Frame<'_>, kind: RecordType) -> bool
     ensures { result ≡ has_controls kind frame.now.fields }
 {
     let mut has_one = false;
     let count = frame.count();
     for k in 0..count {
-        let (name, _) = frame.field(k);
-        has_one |= control_in(kind, &name).is_some();
+        has_one |= control_in(kind, &frame.tag(k)).is_some();
     }
     has_one
 }
 
 /// The bytes of the first field of a tag of this text.
-#[tactic(auto, using(cell_read::proofs::FieldSteps::find_here, cell_read::proofs::FieldSteps::find_later))]
 pub fn first_field<'a>(frame: &'a Frame<'_>, text: &[u8; 4]) -> Option<&'a [u8]>
     ensures { option_map (λ b. b.now) result ≡ option_map (λ (f : Field). f.bytes) (find (λ (f : Field). pointwise nat_eq f.tag text.now) frame.now.fields) }
 {
     let count = frame.count();
     for k in 0..count {
-        let (name, bytes) = frame.field(k);
-        if name == *text {
+        if frame.tag(k) == *text {
+            let (_, bytes) = frame.field(k);
             return Some(bytes);
         }
     }

@@ -1,19 +1,21 @@
 //! Vector records of an update (S-57 Part 3, 8.4.3).
 
-ghost use Rattle.std.specs.Prelude.{◌≡◌, ◌+◌, ◌==◌, List, IfOk};
+ghost use Rattle.std.specs.Prelude.{◌≡◌, ◌+◌, ◌==◌, ℕ, List, IfOk};
 ghost use Rattle.frame_spec.specs.RecordFrame.{Field};
+ghost use Rattle.cell_read.specs.KeptRecords.{IsKeptOf};
 ghost use Rattle.update_spec.specs.ControlFields.{control_among};
 ghost use Rattle.update_spec.specs.UpdatedRows.{updated_coordinates};
 ghost use Rattle.update_spec.specs.UpdateRecords.{given_coordinates, inserted_vector, modified_vector, vector_edit};
 ghost use Rattle.update_spec.specs.declared.control.ControlTag.TheVariants.{Sgcc};
 ghost use Rattle.update_spec.specs.declared.control.Instruction.TheVariants.{Insert, Delete, Modify};
 ghost use Rattle.update_apply.specs.Gives.{GivesUpdate};
+ghost use Rattle.update_apply.specs.Kept.{AreKept};
 
 use crate::attributes::modified_attributes;
 use crate::case::Case;
 use crate::control::control_among;
 use crate::coordinates::updated_coordinates;
-use crate::given::rows_of;
+use crate::given::{kept_rows_of, rows_of};
 use crate::refusal::StepRefusal;
 use crate::rows::modified_rows;
 use crate::target::target_vector;
@@ -25,27 +27,31 @@ use s57_types::{Deep, Plane, Rec, Vector, Vrid};
 use std::alloc::{AllocError, Global};
 use update_spec::{ControlTag, Instruction, UpdateFault};
 
-/// The record that a vector record inserts.
-#[tactic(auto, unfolding(update_spec::specs::UpdateRecords::inserted_vector))]
+/// What is kept of the record that a vector record inserts.
 fn inserted_vector(alloc: Global, vrid: Vrid, frame: &Frame<'_>) -> Result<Rec, AllocError>
-    ensures { IfOk result (λ rec. rec ≡ inserted_vector vrid frame.now.fields) }
+    ensures { (nall : ℕ) → IfOk result (λ rec. IsKeptOf nall rec (inserted_vector vrid frame.now.fields)) }
 {
+    let attrs = rows_of(alloc, frame, FieldTag::Attv, 0)?;
+    let ends = kept_rows_of(alloc, frame, FieldTag::Vrpt)?;
+    let plane = kept_rows_of(alloc, frame, FieldTag::Sg2d)?;
+    let deep = kept_rows_of(alloc, frame, FieldTag::Sg3d)?;
     Ok(Rec::V(Vector {
         name: vrid.name,
         rver: vrid.rver,
-        attrs: rows_of(alloc, frame, FieldTag::Attv, 0)?,
-        ends: rows_of(alloc, frame, FieldTag::Vrpt, 0)?,
-        plane: rows_of(alloc, frame, FieldTag::Sg2d, 0)?,
-        deep: rows_of(alloc, frame, FieldTag::Sg3d, 0)?,
+        attrs,
+        ends,
+        plane,
+        deep,
     }))
 }
 
-/// The coordinates that a record gives.
+/// What is kept of the coordinates that a record gives.
 fn given_coordinates(alloc: Global, frame: &Frame<'_>) -> Result<(Plane, Deep), AllocError>
-    ensures { IfOk result (λ given. given ≡ given_coordinates frame.now.fields) }
+    ensures { IfOk result (λ kept. AreKept (kept.0, kept.1) (given_coordinates frame.now.fields)) }
 {
-    let plane = rows_of(alloc, frame, FieldTag::Sg2d, 0)?;
-    Ok((plane, rows_of(alloc, frame, FieldTag::Sg3d, 0)?))
+    let plane = kept_rows_of(alloc, frame, FieldTag::Sg2d)?;
+    let deep = kept_rows_of(alloc, frame, FieldTag::Sg3d)?;
+    Ok((plane, deep))
 }
 
 /// The coordinates of a modified vector record.
@@ -102,10 +108,7 @@ fn vector_insertion(case: &Case<'_>, vrid: Vrid) -> Result<Edit, StepRefusal>
         return Err(StepRefusal::Fault(fault));
     }
     let rec = inserted_vector(case.alloc, vrid, case.frame)?;
-    match case.length_fault(&rec) {
-        Some(fault) => Err(StepRefusal::Fault(fault)),
-        None => Ok(Edit::Add(rec)),
-    }
+    case.addition(rec)
 }
 
 /// The edit of a vector record that is deleted.
