@@ -17,6 +17,15 @@ use s57_types::Cell;
 use std::alloc::AllocError;
 use text_lines::{push_text, push_word};
 
+/// Where the heading stands, from the page's upper side down, in page units.
+const HEADING: u64 = 330;
+
+/// Where the coordinates of the frame's upper left corner stand, above the frame.
+const UPPER_CORNER: u64 = 850;
+
+/// Where those of its lower right corner stand, below the frame.
+const LOWER_CORNER: u64 = 11_910;
+
 /// How high the page is with so many findings, in page units. A browser shows ten of them as a pixel.
 fn page_height(total: u32) -> u64
     ensures { result ≡ spec_page_height total }
@@ -225,7 +234,7 @@ fn push_key(out: &mut Vec<u8>) -> Result<(), AllocError>
 fn push_heading(out: &mut Vec<u8>, cell: &Cell, total: u32) -> Result<(), AllocError>
     ensures { OnOk result (out.new.items ≡ out.old.items ++ heading_text cell.now total) }
 {
-    push_text_at(out, "heading", PAGE_LEFT, 330)?;
+    push_text_at(out, "heading", PAGE_LEFT, HEADING)?;
     push_counted(out, cell, total)?;
     push_text(out, "</text>\n")
 }
@@ -257,7 +266,7 @@ fn push_corner_head(out: &mut Vec<u8>, y: u64) -> Result<(), AllocError>
 fn push_upper_corner(out: &mut Vec<u8>, around: Box4) -> Result<(), AllocError>
     ensures { OnOk result (out.new.items ≡ out.old.items ++ corner_text 850 (north_west_text around)) }
 {
-    push_corner_head(out, 850)?;
+    push_corner_head(out, UPPER_CORNER)?;
     push_north_west(out, around)?;
     push_text(out, "</text>\n")
 }
@@ -265,7 +274,7 @@ fn push_upper_corner(out: &mut Vec<u8>, around: Box4) -> Result<(), AllocError>
 fn push_lower_corner(out: &mut Vec<u8>, around: Box4) -> Result<(), AllocError>
     ensures { OnOk result (out.new.items ≡ out.old.items ++ corner_text 11910 (south_east_text around)) }
 {
-    push_corner_head(out, 11_910)?;
+    push_corner_head(out, LOWER_CORNER)?;
     push_south_east(out, around)?;
     push_text(out, "</text>\n")
 }
@@ -274,7 +283,7 @@ fn push_list_head(out: &mut Vec<u8>) -> Result<(), AllocError>
     ensures { OnOk result (out.new.items ≡ out.old.items
         ++ corner_text 12290 (codes "Findings. One that has no place in the picture stands in this list alone.")) }
 {
-    push_corner_head(out, 12_290)?;
+    push_corner_head(out, LIST_TOP as u64)?;
     push_text(
         out,
         "Findings. One that has no place in the picture stands in this list alone.",

@@ -1,7 +1,7 @@
 //! The common point of two segments on the page, rounded.
 
 ghost use Rattle.std.specs.Prelude.{◌≡◌, ◌<◌, ◌≤◌, ◌+◌, ◌+ℤ◌, ◌^◌, ◌∷◌, [], ◌++◌, OnOk, unsigned_abs};
-ghost use Rattle.geometry_spec.specs.Areas.{signed_double_area, twice_area_step as spec_area_step};
+ghost use Rattle.geometry_spec.specs.Areas.{signed_double_area as spec_signed_double_area, twice_area_step as spec_area_step};
 ghost use Rattle.picture_places.specs.Places.{common_dots, common_point as spec_common_point, double_area as spec_double_area};
 ghost use Rattle.picture_places.specs.Places.{point_between as spec_point_between, shared_end as spec_shared_end, weighed as spec_weighed};
 
@@ -30,8 +30,8 @@ fn plus(a: i128, b: i128) -> i128
 }
 
 /// Three steps round a triangle: twice its signed area, in square coordinate units.
-fn turn_of(a: Point, b: Point, c: Point) -> i128
-    ensures value { result ≡ signed_double_area (a ∷ b ∷ c ∷ []) }
+fn signed_double_area(a: Point, b: Point, c: Point) -> i128
+    ensures value { result ≡ spec_signed_double_area (a ∷ b ∷ c ∷ []) }
     ensures small { unsigned_abs result ≤ 2 ^ 65 }
 {
     plus(plus(area_step(a, b), area_step(b, c)), area_step(c, a))
@@ -42,7 +42,7 @@ fn double_area(a: Point, b: Point, c: Point) -> u128
     ensures value { result ≡ spec_double_area a b c }
     ensures small { result ≤ 2 ^ 65 }
 {
-    turn_of(a, b, c).unsigned_abs()
+    signed_double_area(a, b, c).unsigned_abs()
 }
 
 /// Between two numbers, by their weights.

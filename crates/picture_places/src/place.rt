@@ -20,7 +20,7 @@ use s57_types::{Feature, Rec, RecName, Spot};
 use std::alloc::{AllocError, Global};
 use std::sync::ledger::Ledger;
 
-/// Whether a finding's number is the place of a boundary's edge.
+/// Whether a finding's number is the place of a spatial pointer of its feature.
 pub(crate) fn is_at_place(kind: u8) -> bool
     ensures { result ≡ spec_is_at_place kind }
 {

@@ -1,5 +1,6 @@
 pub mod Sums
 pub mod Crossings
+pub mod Kept
 pub mod Named
 pub mod Rows
 pub mod EdgeSums

@@ -1,4 +1,5 @@
 pub mod Winding
+pub mod Kept
 pub mod Sorts
 pub mod Totals
 pub mod Sheet

@@ -1,17 +1,20 @@
 //! The winding number of an area.
 
-ghost use Rattle.std.specs.Prelude.{◌≡◌, ◌+ℤ◌, ◌-ℤ◌, IfOk, is_some, map, pos, true};
+ghost use Rattle.std.specs.Prelude.{◌≡◌, ◌==◌, ◌+ℤ◌, ◌-ℤ◌, ℕ, IfOk, OnOk, Some, is_some, pos, true, if◌then◌else◌};
+ghost use Rattle.std.specs.BTreeMap.{get};
+ghost use Rattle.std.specs.Ordering.{nat_cmp};
 ghost use Rattle.std.specs.Option.{option_map_or};
 ghost use Rattle.rule_spec.specs.Records.{feature_named};
-ghost use Rattle.skin_probe.specs.Winding.{backwards, crossing_of as crossing_at, pointer_winding as winding_of_pointer, sum_of};
-ghost use Rattle.skin_probe.specs.Winding.{winding_along as winding_taken, winding_number};
+ghost use Rattle.skin_probe.specs.Kept.{HoldsWindings, edge_name, taken as spec_taken};
+ghost use Rattle.skin_probe.specs.Winding.{crossing_of as crossing_at, edge_winding, pointer_winding as winding_of_pointer, sum_of, winding_number};
 
 use crate::crossing::crossing_of;
 use chain_topo::{Look, Steps, edge_points};
 use check_words::{Segment, segments_of};
 use geo_exact::Point;
-use s57_types::{Feature, Rec, RecName, Spot};
+use s57_types::{Feature, Kind, Rec, RecName, Spot};
 use std::alloc::{AllocError, Global};
+use std::collections::BTreeMap;
 use std::sync::ledger::Ledger;
 
 /// The orientations ORNT.
@@ -43,25 +46,32 @@ fn winding_of(at: Point, segments: &[Segment]) -> Result<i64, AllocError>
     Ok(winding)
 }
 
-/// The same of segments that are taken backwards.
-fn reverse_winding_of(at: Point, segments: &[Segment]) -> Result<i64, AllocError>
-    ensures { IfOk result (λ winding. winding ≡ sum_of (crossing_at at) (map backwards segments.now)) }
-{
-    let winding = winding_of(at, segments)?;
-    let reversed = negated(winding)?;
-    Ok(reversed)
+/// What an edge adds where a spatial pointer goes along it forward.
+#[derive(Clone, Copy)]
+pub(crate) struct EdgeWinding {
+    pub(crate) forward: i64,
 }
 
-/// The same of the segments between points, taken as a spatial pointer of an orientation goes along them.
-fn winding_along(alloc: Global, at: Point, ornt: u8, points: &[Point]) -> Result<i64, AllocError>
-    ensures { IfOk result (λ winding. winding ≡ winding_taken at ornt points.now) }
+/// What an edge adds where a spatial pointer of an orientation goes along it.
+fn taken(ornt: u8, edge: EdgeWinding) -> Result<i64, AllocError>
+    ensures { IfOk result (λ winding. winding ≡ spec_taken ornt edge.forward) }
 {
-    let segments = segments_of(alloc, points)?;
     match ornt {
-        FORWARD => winding_of(at, &segments),
-        REVERSE => reverse_winding_of(at, &segments),
+        FORWARD => Ok(edge.forward),
+        REVERSE => negated(edge.forward),
         _ => Ok(0),
     }
+}
+
+fn keep_winding(
+    known: &mut BTreeMap<u32, EdgeWinding>,
+    id: u32,
+    winding: EdgeWinding,
+) -> Result<(), AllocError>
+    ensures { OnOk result ((q : ℕ) → get nat_cmp known.new q ≡ (if id == q then Some winding else get nat_cmp known.old q)) }
+{
+    known.insert(id, winding)?;
+    Ok(())
 }
 
 /// A point, latitude first, in integer coordinate units, and the cell whose areas may go round it.
@@ -73,23 +83,83 @@ pub(crate) struct Probe<'a, B: Look> {
 }
 
 impl<'a, B: Look> Probe<'a, B> {
-    /// What a spatial pointer adds: nothing where it names no edge with points.
-    fn pointer<L: Ledger>(&self, spot: &Spot, steps: &mut Steps<L>) -> Result<i64, AllocError>
-        ensures { IfOk result (λ winding. winding ≡ winding_of_pointer (B.cell self.now.look.now) self.now.at spot.now) }
+    /// What the edge of a name adds, taken forward: nothing where there is none with points.
+    fn edge<L: Ledger>(
+        &self,
+        name: RecName,
+        steps: &mut Steps<L>,
+    ) -> Result<EdgeWinding, AllocError>
+        ensures { IfOk result (λ edge. edge.forward ≡ edge_winding (B.cell self.now.look.now) self.now.at name) }
     {
-        match edge_points(self.alloc, self.look, spot.to, steps)? {
-            Some(points) => winding_along(self.alloc, self.at, spot.ornt, points.as_slice()),
-            None => Ok(0),
+        let Some(points) = edge_points(self.alloc, self.look, name, steps)? else {
+            return Ok(EdgeWinding { forward: 0 });
+        };
+        let segments = segments_of(self.alloc, points.as_slice())?;
+        let forward = winding_of(self.at, &segments)?;
+        Ok(EdgeWinding { forward })
+    }
+
+    /// The same for the edge of a number, which is worked out once and kept.
+    fn kept<L: Ledger>(
+        &self,
+        known: &mut BTreeMap<u32, EdgeWinding>,
+        id: u32,
+        steps: &mut Steps<L>,
+    ) -> Result<EdgeWinding, AllocError>
+        requires { HoldsWindings (B.cell self.now.look.now) self.now.at known.old }
+        ensures edge { IfOk result (λ edge. edge.forward ≡ edge_winding (B.cell self.now.look.now) self.now.at (edge_name id)) }
+        ensures known { OnOk result (HoldsWindings (B.cell self.now.look.now) self.now.at known.new) }
+    {
+        if let Some(edge) = known.get(&id) {
+            return Ok(*edge);
+        }
+        let name = RecName { kind: Kind::Ve, id };
+        let edge = self.edge(name, steps)?;
+        keep_winding(known, id, edge)?;
+        Ok(edge)
+    }
+
+    /// The same for the edge of a name.
+    fn edge_at<L: Ledger>(
+        &self,
+        known: &mut BTreeMap<u32, EdgeWinding>,
+        name: RecName,
+        steps: &mut Steps<L>,
+    ) -> Result<EdgeWinding, AllocError>
+        requires { HoldsWindings (B.cell self.now.look.now) self.now.at known.old }
+        ensures edge { IfOk result (λ edge. edge.forward ≡ edge_winding (B.cell self.now.look.now) self.now.at name) }
+        ensures known { OnOk result (HoldsWindings (B.cell self.now.look.now) self.now.at known.new) }
+    {
+        match name.kind {
+            Kind::Ve => self.kept(known, name.id, steps),
+            _ => self.edge(name, steps),
         }
     }
 
-    /// What spatial pointers add up to.
+    /// What a spatial pointer adds: nothing where it names no edge with points.
+    fn pointer<L: Ledger>(
+        &self,
+        known: &mut BTreeMap<u32, EdgeWinding>,
+        spot: &Spot,
+        steps: &mut Steps<L>,
+    ) -> Result<i64, AllocError>
+        requires { HoldsWindings (B.cell self.now.look.now) self.now.at known.old }
+        ensures winding { IfOk result (λ winding. winding ≡ winding_of_pointer (B.cell self.now.look.now) self.now.at spot.now) }
+        ensures known { OnOk result (HoldsWindings (B.cell self.now.look.now) self.now.at known.new) }
+    {
+        let edge = self.edge_at(known, spot.to, steps)?;
+        let winding = taken(spot.ornt, edge)?;
+        Ok(winding)
+    }
+
+    /// What spatial pointers add up to. An edge that is named more than once is gone along once.
     fn pointers<L: Ledger>(&self, spots: &[Spot], steps: &mut Steps<L>) -> Result<i64, AllocError>
         ensures { IfOk result (λ winding. winding ≡ sum_of (winding_of_pointer (B.cell self.now.look.now) self.now.at) spots.now) }
     {
+        let mut known = BTreeMap::new(self.alloc);
         let mut winding = 0;
         for spot in spots {
-            let more = self.pointer(spot, steps)?;
+            let more = self.pointer(&mut known, spot, steps)?;
             winding = plus(winding, more)?;
         }
         Ok(winding)

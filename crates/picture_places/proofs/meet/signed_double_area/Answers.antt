@@ -1,7 +1,7 @@
 use Rattle.std.proofs.Common.{◌≡◌, ◌+ℤ◌, ◌∙◌, arith}
 use Rattle.std.proofs.lemmas.Int.{ints}
 use Rattle.picture_places.proofs.Weights.{round_triangle}
-use Rattle.picture_places.proofs.meet.turn_of.Goals as goal
+use Rattle.picture_places.proofs.meet.signed_double_area.Goals as goal
 use mir.Syntax.{w128}
 use mir.Val.{of_z, to_z}
 
