@@ -67,17 +67,19 @@ fn decode(alloc: Global, bytes: &[u8]) -> Result<Cell, Status>
     }
 }
 
-/// The cell of a file, with its findings.
-fn judge_cell<R: Threads + Sync>(rt: &R, alloc: Global, bytes: &[u8]) -> Result<Checked, Status>
-    requires small { length bytes.now ≤ 16777216 }
-    ensures judged { IsJudged (λ checked. checked.cell) (cell_in bytes.now) result }
+/// The cell of a file, with its findings. The file's bytes are given back before these are looked for.
+fn judge_cell<R: Threads + Sync>(rt: &R, alloc: Global, bytes: Vec<u8>) -> Result<Checked, Status>
+    requires small { length bytes.items ≤ 16777216 }
+    ensures judged { IsJudged (λ checked. checked.cell) (cell_in bytes.items) result }
     ensures of_file { IfOk result (λ checked. IsCellOfFile checked.cell) }
     ensures findings { IfOk result (λ checked. IsAllOf checked.cell finding_limit checked.findings) }
     ensures status { IfErr result (IsInputStatus (λ n. ⊥)) }
     ensures kind { IfErr result IsNotOfOrder }
     ensures text { IfErr result IsNotOfText }
 {
-    let cell = match decode(alloc, bytes) {
+    let decoded = decode(alloc, &bytes);
+    drop(bytes);
+    let cell = match decoded {
         Ok(cell) => cell,
         Err(status) => return Err(status),
     };
@@ -88,15 +90,17 @@ fn judge_cell<R: Threads + Sync>(rt: &R, alloc: Global, bytes: &[u8]) -> Result<
     }
 }
 
-/// The bench of a file's cell.
-fn judge_bench<R: Threads + Sync>(rt: &R, alloc: Global, bytes: &[u8]) -> Result<Bench, Status>
-    requires small { length bytes.now ≤ 16777216 }
-    ensures judged { IsJudged (λ bench. bench) (cell_in bytes.now) result }
+/// The bench of a file's cell. The file's bytes are given back before it takes its memory.
+fn judge_bench<R: Threads + Sync>(rt: &R, alloc: Global, bytes: Vec<u8>) -> Result<Bench, Status>
+    requires small { length bytes.items ≤ 16777216 }
+    ensures judged { IsJudged (λ bench. bench) (cell_in bytes.items) result }
     ensures of_file { IfOk result IsCellOfFile }
     ensures status { IfErr result (IsInputStatus (λ n. ⊥)) }
     ensures text { IfErr result IsNotOfText }
 {
-    let cell = match decode(alloc, bytes) {
+    let decoded = decode(alloc, &bytes);
+    drop(bytes);
+    let cell = match decoded {
         Ok(cell) => cell,
         Err(status) => return Err(status),
     };
@@ -126,7 +130,7 @@ pub fn read_cell<R: Threads + Sync, H: Shelf>(
     ensures write_faults { H.write_faults shelf.new ≡ H.write_faults shelf.old }
 {
     let bytes = read_input(alloc, shelf, name, CELL_LIMIT)?;
-    judge_cell(rt, alloc, &bytes)
+    judge_cell(rt, alloc, bytes)
 }
 
 /// The bench of an input file's cell.
@@ -146,7 +150,7 @@ pub fn read_bench<R: Threads + Sync, H: Shelf>(
     ensures write_faults { H.write_faults shelf.new ≡ H.write_faults shelf.old }
 {
     let bytes = read_input(alloc, shelf, name, CELL_LIMIT)?;
-    judge_bench(rt, alloc, &bytes)
+    judge_bench(rt, alloc, bytes)
 }
 
 /// The bytes of an update file, of which there may be as many as of a cell file.
