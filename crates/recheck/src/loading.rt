@@ -19,7 +19,7 @@ use cell_spec::{Keys, Subject, writable_cells_are_readable};
 use chain_topo::ListLook;
 use look_counter::start_counter;
 use rayon::prelude::*;
-use s57_types::{Cell, Duplicate};
+use s57_types::Cell;
 use std::alloc::{AllocError, Global};
 use std::marker::Brand;
 use std::sync::ledger::{Blank, Ledger};
@@ -74,17 +74,6 @@ fn each_in_threads<
     Ok(rows?)
 }
 
-/// The same rows in memory that one thread takes, and as little as they need: what threads take in between isn't given back while rows of theirs stay.
-fn copied(alloc: Global, rows: &[(Subject, Keys)]) -> Result<Vec<(Subject, Keys)>, AllocError>
-    ensures { IfOk result (λ copies. copies.items ≡ rows.now) }
-{
-    let mut copies = Vec::with_capacity(alloc, rows.len())?;
-    for row in rows {
-        copies.push((row.0, row.1.copy(alloc)?))?;
-    }
-    Ok(copies)
-}
-
 /// Subjects with their read sets, in their order.
 fn rows_read<R: Threads + Sync>(
     rt: &R,
@@ -104,8 +93,7 @@ fn rows_read<R: Threads + Sync>(
             ensures { IfOk result (λ row. row ≡ spec_reads_row look.entry.now subject.now) }
         { read(alloc, look, *subject) },
     )?;
-    let copies = copied(alloc, &rows)?;
-    Ok(copies)
+    Ok(rows)
 }
 
 /// The read sets of a cell's records, sides and identifiers.

@@ -1,4 +1,3 @@
-use Rattle.std.proofs.Common.{◌∙◌}
 use Rattle.rayon.proofs.ToStd.{slice-map}
 use Rattle.cell_bench.specs.Singles.{reads_row}
 use Rattle.recheck.proofs.loading.rows_read.Goals as goal
@@ -6,5 +5,4 @@ use Rattle.recheck.proofs.loading.rows_read.Goals as goal
 pub returns : goal.returns
 returns g c =
     let told = c.in_ok-rows.ensures in
-    c.in_ok-copies.ensures ∙ c.deref.ensures.value
-    ∙ slice-map told.0 c.args.subjects.now told.1 (reads_row c.args.look.now) c.in_ok-rows.rows.items told.2
+    slice-map told.0 c.args.subjects.now told.1 (reads_row c.args.look.now) c.in_ok-rows.rows.items told.2
