@@ -4,22 +4,17 @@ use Rattle.std.specs.Cmp.{Equal-is}
 use Rattle.std.specs.List.{list_any}
 use Rattle.std.specs.Ordering.{is_eq}
 use Rattle.std.proofs.lemmas.List.Folds.{list_any-append}
-use Rattle.s57_types.specs.declared.name.RecName.{RecName}
 use Rattle.s57_types.specs.declared.name.Lnam.{Lnam}
 use Rattle.s57_types.specs.declared.cell.Cell.{Cell}
 use Rattle.cell_spec.specs.declared.edit.Edit.{Edit}
 use Rattle.cell_spec.specs.declared.key.Key.{Key}
-use Rattle.cell_spec.specs.declared.key.Key.TheVariants.{Name, Refs, Foid}
+use Rattle.cell_spec.specs.declared.key.Key.TheVariants.{Foid}
 use Rattle.cell_spec.specs.Names.{identity_order, same_key}
 use Rattle.cell_spec.proofs.Orders.{exact_identities, total_identities}
 use Rattle.row_spec.specs.Rows.{value_of, with_row}
 use Rattle.row_spec.proofs.Changes.{value_of-with_row}
 use Rattle.edit_answers.proofs.Ties.{identities_flip}
 use Rattle.affected_subjects.specs.EditedCells.{KnowsBearers, is_borne_after}
-
-or_none : (b : Bool) → b ≡ (b || (false || false))
-or_none true = refl
-or_none false = refl
 
 put_by : (hit old was is : Bool) → (hit ≡ true → was ≡ is) → cond hit (Some was) (cond old (Some is) None) ≡ cond (old || (hit || false)) (Some is) None
 put_by true true was is same = ap Some (same refl)
@@ -28,19 +23,6 @@ put_by false true was is same = refl
 put_by false false was is same = refl
 
 module _ (edits : List Edit) (c : Cell) (keys : List Key) (borne : List (Lnam × Bool)) (known : KnowsBearers keys edits c borne) where
-  -- keys of names have no identifier
-  pub with_name : (n : RecName) → KnowsBearers (keys ++ Name n ∷ []) edits c borne
-  with_name n = record {
-    bearers_are = λ l. known.bearers_are l ∙ ap (λ hit. cond hit (Some (is_borne_after edits c l)) None)
-        (or_none (list_any (same_key (Foid l)) keys) ∙ sym (list_any-append (same_key (Foid l)) keys (Name n ∷ [])));
-  }
-
-  pub with_refs : (n : RecName) → KnowsBearers (keys ++ Refs n ∷ []) edits c borne
-  with_refs n = record {
-    bearers_are = λ l. known.bearers_are l ∙ ap (λ hit. cond hit (Some (is_borne_after edits c l)) None)
-        (or_none (list_any (same_key (Foid l)) keys) ∙ sym (list_any-append (same_key (Foid l)) keys (Refs n ∷ [])));
-  }
-
   pub with_foid : (l : Lnam) → KnowsBearers (keys ++ Foid l ∷ []) edits c (with_row identity_order borne l (is_borne_after edits c l))
   with_foid l = record {
     bearers_are = λ k.

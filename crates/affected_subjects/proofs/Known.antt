@@ -1,5 +1,6 @@
 -- Pairs of mates are subjects of the cell whose tiles tell the mates, so that a second round by tiles that keep all mates adds subjects of the edited cell.
-use Rattle.std.proofs.Common.{◌≡◌, ◌≤◌, ◌&&◌, ◌||◌, inl, inr, Bool, true, false, not, List, [], ◌∷◌, ◌++◌, Option, None, Some, cond, drop, filter, length, map, is_some, is_eq, is_lt, refl, sym, ap, subst, ◌∙◌, arith, Ordering, Less, Equal, Greater, length-append}
+use Rattle.std.proofs.Common.{◌≡◌, ◌≤◌, ◌&&◌, ◌||◌, inl, inr, Bool, true, false, not, List, [], ◌∷◌, ◌++◌, Option, None, Some, cond}
+use Rattle.std.proofs.Common.{drop, filter, length, map, is_some, is_eq, is_lt, refl, sym, ap, subst, ◌∙◌, arith, Ordering, Less, Equal, Greater, length-append}
 use Rattle.std.specs.Prelude.{flat_map, nat_lt, option_and_then, option_map, option_to_list}
 use Rattle.std.specs.List.{list_all}
 use Rattle.std.specs.Option.{option_map_or}

@@ -1,5 +1,6 @@
 -- A subject put among others in order, at the place that a search found.
-use Rattle.std.proofs.Common.{◌≡◌, ◌||◌, ◌<◌, ◌≤◌, ◌+◌, ◌⊎◌, ℕ, zero, suc, inl, inr, Bool, cond, true, false, List, [], ◌∷◌, Result, Ok, Err, length, get_or, refl, ap, ◌∙◌, arith}
+use Rattle.std.proofs.Common.{◌≡◌, ◌||◌, ◌<◌, ◌≤◌, ◌+◌, ◌⊎◌, ℕ, zero, suc, inl, inr, Bool, cond, true, false, List, [], ◌∷◌}
+use Rattle.std.proofs.Common.{Result, Ok, Err, length, get_or, refl, ap, ◌∙◌, arith}
 use Rattle.std.specs.List.{AllByRecursion, insert, list_any}
 use Rattle.std.specs.Result.{MatchResult}
 use Rattle.std.specs.List.Sorted.{IsBinarySearchResult, IsSearchInRange, IsSorted, IsStrictlySortedBy}
@@ -55,7 +56,10 @@ pub sorted_with : (ss : List Subject) (i : ℕ) (s : Subject) → IsStrictlySort
     → ((k : ℕ) (d : Subject) → i ≤ k → k < length ss → subject_order (get_or ss k d) s ≡ Greater)
     → IsStrictlySortedBy subject_order (insert ss i s)
 unfolding IsStrictlySortedBy
-sorted_with ss zero s rises low high = (all_at (λ t. subject_order s t ≡ Less) ss (λ k d within. above (get_or ss k d) s (high k d (omega arith) within)), rises)
+sorted_with ss zero s rises low high = (
+  all_at (λ t. subject_order s t ≡ Less) ss (λ k d within. above (get_or ss k d) s (high k d (omega arith) within)),
+  rises,
+)
 sorted_with [] (suc i) s rises low high = (tt, tt)
 sorted_with (t ∷ ss) (suc i) s rises low high = (
   all_with (λ u. subject_order t u ≡ Less) ss i s (low 0 t (omega arith) (omega arith)) rises.0,

@@ -130,7 +130,8 @@ fn split(alloc: Global, edited: &Edited<'_>, rounds: &Rounds) -> Result<Parts, A
     })
 }
 
-/// What edits reach. It looks up the name of each edit, and the bearers of each touched identifier.
+/// What edits reach. It looks up the name of each edit, and the bearers of each touched identifier: at most as often as there are edits
+/// and touched keys together.
 ///
 /// An `Err` is out of memory.
 pub fn reach_of<L: Ledger>(

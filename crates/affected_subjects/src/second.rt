@@ -43,27 +43,8 @@ fn add_pairs(set: &mut Considered, name: RecName, mates: &[RecName]) -> Result<(
     Ok(())
 }
 
-// Adds the pairs of a record with its mates before, then with those after, unless they are known to be the same.
-fn add_mates(
-    alloc: Global,
-    set: &mut Considered,
-    tiles: &TileIndex,
-    noted: &NotedPlan,
-    name: RecName,
-) -> Result<(), AllocError>
-    requires { noted.now.keeps_mates ≡ true → (n : SpecRecName) → mates_in noted.now.plan n ≡ mates_in tiles.now n }
-    ensures { OnOk result (set.new ≡ add_all set.old (mated tiles.now noted.now.plan (Rec name))) }
-{
-    let before = tiles.mates(alloc, name)?;
-    add_pairs(set, name, before.as_slice())?;
-    if noted.keeps_mates {
-        return Ok(());
-    }
-    let after = tiles.mates_after(alloc, &noted.plan, name)?;
-    add_pairs(set, name, after.as_slice())
-}
-
-// Adds the pairs of a subject, if it is a record.
+// Adds the pairs of a subject, if it is a record: those with its mates before, then those with its mates after, unless they are known to
+// be the same.
 fn add_pairs_of(
     alloc: Global,
     set: &mut Considered,
@@ -74,10 +55,16 @@ fn add_pairs_of(
     requires { noted.now.keeps_mates ≡ true → (n : SpecRecName) → mates_in noted.now.plan n ≡ mates_in tiles.now n }
     ensures { OnOk result (set.new ≡ add_all set.old (mated tiles.now noted.now.plan subject)) }
 {
-    match subject {
-        Subject::Rec(name) => add_mates(alloc, set, tiles, noted, name),
-        Subject::Side(_) | Subject::Pair(..) | Subject::Ident(_) => Ok(()),
+    let Subject::Rec(name) = subject else {
+        return Ok(());
+    };
+    let before = tiles.mates(alloc, name)?;
+    add_pairs(set, name, before.as_slice())?;
+    if noted.keeps_mates {
+        return Ok(());
     }
+    let after = tiles.mates_after(alloc, &noted.plan, name)?;
+    add_pairs(set, name, after.as_slice())
 }
 
 /// Adds the pairs of the records of the first round, one record after the other.

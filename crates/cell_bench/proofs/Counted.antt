@@ -12,7 +12,7 @@ use Rattle.cell_spec.specs.declared.finding.Row.{Row}
 use Rattle.cell_spec.specs.declared.key.Key.{Key}
 use Rattle.cell_spec.specs.declared.key.Subject.{Subject}
 use Rattle.cell_spec.specs.Edits.{apply_edits, is_applicable, touched_keys}
-use Rattle.rule_spec.specs.Affected.{affected_list, change_by, considered, each_once, exact_row, has_valid_row, is_affected, judged_anew, lookup_budget}
+use Rattle.rule_spec.specs.Affected.{affected_list, change_by, considered, each_once, has_valid_row, is_affected, judged_anew, lookup_budget}
 use Rattle.rule_spec.specs.Affected.{plan_budget, reads_counted}
 use Rattle.rule_spec.specs.Findings.{all_findings, finding_total, findings_among, findings_of_subject, is_subject, subjects}
 use Rattle.rule_spec.specs.Reads.{read_set}
@@ -21,7 +21,7 @@ use Rattle.finding_laws.specs.Unaffected.{AffectedListIsSet}
 use Rattle.edit_laws.specs.KeptWritable.{RefusalsAreExact}
 use Rattle.cell_bench.specs.declared.refusal.PlanRefusal.{PlanRefusal}
 use Rattle.cell_bench.specs.Limits.{IsFull}
-use Rattle.cell_bench.specs.Rejudging.{Rejudging, fresh_in, judged_in, planning_look_ups, reads_anew, with_row_of, without, without_all}
+use Rattle.cell_bench.specs.Rejudging.{Rejudging, fresh_in, planning_look_ups, reads_anew, without, without_all}
 use Rattle.cell_bench.specs.Verdicts.{total_of}
 use Rattle.cell_bench.specs.Refusals.{records_refusal}
 use Rattle.cell_bench.proofs.Refused.{full_of_more, taken_so}
@@ -36,14 +36,6 @@ count_in d s = length (findings_of_subject d s)
 
 pub fresh_cons : (d : Cell) (s : Subject) (ss : List Subject) → fresh_in d (s ∷ ss) ≡ count_in d s + fresh_in d ss
 fresh_cons d s ss = sum_by-cons (count_in d) s ss
-
-pub fresh_judged : (d : Cell) (judged : List Subject) (r : Rejudging) → (judged_in d r judged).fresh ≡ r.fresh + fresh_in d judged
-fresh_judged d [] r = omega arith
-fresh_judged d (s ∷ judged) r =
-    let more : (judged_in d (with_row_of r (exact_row d s)) judged).fresh ≡ (r.fresh + count_in d s) + fresh_in d judged =
-    fresh_judged d judged (with_row_of r (exact_row d s)) in
-    let whole = fresh_cons d s judged in
-    omega (arith, more, whole)
 
 -- those that a cell has are those of its subjects
 abbrev row_in : Cell → Subject → Subject × List Finding

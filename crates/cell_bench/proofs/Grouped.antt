@@ -1,6 +1,6 @@
 -- Rows whose findings stand one after the other are found again.
 use Rattle.std.proofs.Common.{◌≡◌, ℕ, ◌+◌, ◌<◌, true, false, List, [], ◌∷◌, ◌++◌, cond, length, map, take, drop, refl, sym, ap, ◌∙◌, subst, append_assoc}
-use Rattle.std.proofs.Common.{length-drop, arith}
+use Rattle.std.proofs.Common.{arith}
 use Rattle.std.specs.declared.cmp.Ordering.TheVariants.{Less}
 use Rattle.std.specs.List.{AllByRecursion, prefix_len}
 use Rattle.std.specs.List.Sorted.{IsStrictlySortedBy}
@@ -102,9 +102,6 @@ pub record IsPartly (all made : List (Subject × List Finding)) (rest : List Sub
   pub whole : made ++ left ≡ all
   pub good : AreRowsOf left rest
 
-pub none_made : (all : List (Subject × List Finding)) (findings : List SubjectFinding) → AreRowsOf all findings → IsPartly all [] findings
-none_made all findings good = record { left = all; whole = refl; good = good }
-
 pub one_more : (all made more : List (Subject × List Finding)) (rest behind : List SubjectFinding) → IsPartly all made rest → more ≡ made ++ front_row rest
     → behind ≡ drop (front_length rest) rest → IsPartly all more behind
 one_more all made more rest behind is pushed cut =
@@ -128,10 +125,6 @@ all_made all made rest is end =
     append_nil : (rows : List (Subject × List Finding)) → rows ++ [] ≡ rows
     append_nil [] = refl
     append_nil (row ∷ rows) = ap (λ others. row ∷ others) (append_nil rows)
-
-pub shorter : (findings : List SubjectFinding) → 0 < length findings → length (drop (front_length findings) findings) < length findings
-shorter [] some = some
-shorter (f ∷ fs) some = omega (arith, length-drop (front_length (f ∷ fs)) (f ∷ fs), about_first f fs)
 
 -- ---- the findings of a cell
 some_when : (fs : List Finding) → nat_lt 0 (length fs) ≡ true → 0 < length fs

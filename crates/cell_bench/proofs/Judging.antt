@@ -1,13 +1,11 @@
 -- What the steps of judging anew come to.
 use Rattle.std.proofs.Common.{◌≡◌, ◌+◌, List, [], ◌∷◌, length, map, refl, sym, ap, ◌∙◌, subst, arith}
-use Rattle.std.specs.Prelude.{sum_by}
 use Rattle.std.proofs.lemmas.List.Folds.{fold-map}
 use Rattle.std.proofs.lemmas.List.Sums.{sum_by-cons}
 use Rattle.s57_types.specs.declared.cell.Cell.{Cell}
 use Rattle.cell_spec.specs.declared.edit.Edit.{Edit}
 use Rattle.cell_spec.specs.declared.finding.Finding.{Finding}
 use Rattle.cell_spec.specs.declared.finding.Row.{Row}
-use Rattle.cell_spec.specs.declared.key.Key.{Key}
 use Rattle.cell_spec.specs.declared.key.Subject.{Subject}
 use Rattle.cell_spec.specs.Edits.{apply_edits}
 use Rattle.rule_spec.specs.Findings.{findings_of_subject}
@@ -15,7 +13,7 @@ use Rattle.rule_spec.specs.Affected.{affected_list, change_by, exact_row}
 use Rattle.affected_subjects.specs.Reached.{gone_list}
 use Rattle.cell_bench.specs.declared.refusal.PlanRefusal.{PlanRefusal}
 use Rattle.cell_bench.specs.Limits.{IsFull}
-use Rattle.cell_bench.specs.Rejudging.{Rejudging, fresh_among, fresh_in, judged_in, reads_anew, unchanged, with_row_of, with_rows, without_all}
+use Rattle.cell_bench.specs.Rejudging.{Rejudging, fresh_among, fresh_in, judged_in, unchanged, with_row_of, with_rows, without_all}
 use Rattle.cell_bench.proofs.Counted.{fresh_cons, fresh_left}
 
 -- the rows of subjects are those that judging them gives
@@ -58,7 +56,3 @@ module _ (edits : List Edit) (c : Cell) (rows : List (Subject × List Finding)) 
       let same : fresh_in over judged ≡ fresh_in (apply_edits edits c) (affected_list (change_by edits c)) = λ i. fresh_in (are.over_is i) (are.judged_is i) in
       let sum : after.fresh + fresh_in over judged ≡ fresh_in (apply_edits edits c) (affected_list (change_by edits c)) = omega (arith, none, same) in
       subst (λ count. IsFull count why) sum is
-
-  pub reads_so : (stale : List Key) (ready : List Row)
-      → sum_by (reads_anew over stale ready) judged ≡ sum_by (reads_anew (apply_edits edits c) stale ready) (affected_list (change_by edits c))
-  reads_so stale ready = λ i. sum_by (reads_anew (are.over_is i) stale ready) (are.judged_is i)

@@ -1,23 +1,22 @@
 -- The set of invalidated keys, and the valid rows by their subjects.
 use Rattle.std.proofs.Common.{◌≡◌, ℕ, ◌&&◌, ◌||◌, Bool, true, false, List, [], ◌∷◌, ◌++◌, Option, Some, cond, is_some, refl, sym, ap, ◌∙◌, subst}
-use Rattle.std.specs.Prelude.{All, IsTrue, not, slice_get}
+use Rattle.std.specs.Prelude.{not, slice_get}
 use Rattle.std.specs.Cmp.{Equal-is}
 use Rattle.std.specs.List.{list_any}
 use Rattle.std.proofs.lemmas.Cmp.{eq_by_cmp_equiv}
 use Rattle.std.proofs.lemmas.List.Folds.{list_any-append}
-use Rattle.s57_types.specs.declared.cell.Cell.{Cell}
 use Rattle.cell_spec.specs.declared.finding.Row.{Row}
 use Rattle.cell_spec.specs.declared.key.Key.{Key}
 use Rattle.cell_spec.specs.declared.key.Subject.{Subject}
 use Rattle.cell_spec.specs.Names.{key_order, same_key, same_subject, subject_order}
 use Rattle.cell_spec.proofs.Orders.{total_keys}
 use Rattle.cell_spec.proofs.SubjectOrder.{exact_subjects, total_subjects}
-use Rattle.rule_spec.specs.Affected.{exact_row, has_valid_row, is_still_valid}
+use Rattle.rule_spec.specs.Affected.{has_valid_row, is_still_valid}
 use Rattle.row_spec.specs.Rows.{value_of, with_row}
 use Rattle.row_spec.proofs.Changes.{value_of-with_row}
 use Rattle.answer_laws.proofs.Tests.{any_same}
 use Rattle.finding_laws.proofs.Tests.{any_either}
-use Rattle.cell_bench.specs.Ready.{AreExact, ArePlaces, Ready, IsSetOf, IsValidAt, is_in}
+use Rattle.cell_bench.specs.Ready.{ArePlaces, IsSetOf, IsValidAt, is_in}
 
 same_turned : (j k : Key) → same_key j k ≡ same_key k j
 same_turned j k = (eq_by_cmp_equiv total_keys).symm j k
@@ -57,9 +56,6 @@ valid_is stale set row is =
     ap not (any_same (is_in set) (λ k. list_any (same_key k) stale) is row.reads ∙ sym (either_way stale row.reads))
 
 -- ---- places
-pub no_places : (stale : List Key) (rows : List Row) → ArePlaces stale rows [] []
-no_places stale rows = record { valid = λ s place here. cc; found = λ s. refl }
-
 has_more : (stale : List Key) (first : List Row) (row : Row) (s : Subject)
     → has_valid_row stale (first ++ row ∷ []) s ≡ (has_valid_row stale first s || ((same_subject row.subject s && is_still_valid stale row) || false))
 has_more stale first row s =
@@ -109,11 +105,3 @@ placed stale rows first row at places here is are = record {
       valid = is;
     }
     by s place false tied has = are.valid s place has
-
--- rows that are right are so by any name
-pub exact_so : (d : Cell) (rows : List Row) (stale : List Key) (ready : Ready) → ready.rows ≡ rows → ready.stale ≡ stale
-    → AreExact d (record { rows = rows; stale = stale })
-    → AreExact d ready
-exact_so d rows stale ready rows_are stale_are is =
-    subst (λ those. All (λ (row : Row). IsTrue (is_still_valid ready.stale row) → row ≡ exact_row d row.subject) those) (sym rows_are)
-    (subst (λ keys. All (λ (row : Row). IsTrue (is_still_valid keys row) → row ≡ exact_row d row.subject) rows) (sym stale_are) is)

@@ -6,4 +6,3 @@ pub mod Singles
 pub mod Limits
 pub mod Refusals
 pub mod Benches
-pub mod Prepared

@@ -91,7 +91,7 @@ impl Bench {
         }
     }
 
-    /// What edits that find their records reach. It looks up the name of each edit twice, and asks once for each key that they touch.
+    /// What edits that find their records reach. It looks up the name of each edit, and the bearers of each touched identifier.
     ///
     /// An `Err` is out of memory.
     pub fn reach<L: Ledger>(

@@ -50,10 +50,6 @@ module _ (edits : List Edit) (c : Cell) (keys : List Key) (pointers : List (RecN
       → value_of identity_order bearers l ≡ cond (list_any (same_key (Foid l)) (keys ++ key ∷ [])) (bearers_then l) None
   bearers_stay = other_key Foid keys bearers_then (λ l. None) (λ l. value_of identity_order bearers l) merged.bearers_are
 
-  -- a name's record needs no list
-  pub with_name : (n : RecName) → AreMerged (keys ++ Name n ∷ []) edits c pointers bearers
-  with_name n = record { pointers_are = pointers_stay (Name n) (λ m. refl); bearers_are = bearers_stay (Name n) (λ l. refl) }
-
   pub with_pointers : (n : RecName) → AreMerged (keys ++ Refs n ∷ []) edits c
       (with_row name_order pointers n (pointers_after edits n (lookup_pointers c n))) bearers
   with_pointers n =

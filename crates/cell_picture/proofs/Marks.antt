@@ -1,37 +1,16 @@
--- The text of the marks and rows of findings, the first and those behind it.
-use Rattle.std.proofs.Common.{◌≡◌, ℕ, ◌+◌, ◌<◌, List, [], ◌∷◌, ◌++◌, Option, Some, drop, take, get_or, length, ap, sym, ◌∙◌, append_assoc}
+-- The text of a mark, of a dot, and of all shapes.
+use Rattle.std.proofs.Common.{◌≡◌, ℕ, ◌+◌, ◌<◌, List, [], ◌∷◌, ◌++◌, Option, Some, take, get_or, length, ap, ◌∙◌}
 use Rattle.std.specs.List.{flat_map}
-use Rattle.std.proofs.lemmas.List.{append-nil, drop_more, take_more}
+use Rattle.std.proofs.lemmas.List.{append-nil, take_more}
 use Rattle.std.proofs.lemmas.List.Concat.{flat_map-append}
 use Rattle.s57_types.specs.declared.cell.Cell.{Cell}
-use Rattle.cell_findings.specs.Rows.{line_of}
 use Rattle.cell_findings.specs.declared.list.SubjectFinding.{SubjectFinding}
 use Rattle.geometry_spec.specs.declared.tile.Box4.{Box4}
-use Rattle.picture_places.specs.Labels.{anchor_of, field_of, free_field}
+use Rattle.picture_places.specs.Labels.{field_of, free_field}
 use Rattle.picture_places.specs.declared.page.PagePoint.{PagePoint}
 use Rattle.picture_places.specs.Strokes.{Stroke}
-use Rattle.cell_picture.specs.ShapeText.{mark_text, row_text, shape_text, spot_text}
-use Rattle.cell_picture.specs.Shapes.{drawing_order, finding_shapes, mark_at, mark_in, marks_from, place_of, record_shapes, row_of, rows_from, shapes}
-use Rattle.cell_picture.specs.Shapes.{spot_at, taken_with}
-
-pub rows_more : (k : ℕ) (fs : List SubjectFinding) (d : SubjectFinding) → k < length fs
-    → flat_map shape_text (rows_from (k + 1) (drop k fs)) ≡
-    row_text (row_of (k + 1) (get_or fs k d)) ++ flat_map shape_text (rows_from (k + 1 + 1) (drop (k + 1) fs))
-rows_more k fs d within = ap (λ rest. flat_map shape_text (rows_from (k + 1) rest)) (drop_more fs k d within)
-
-pub marks_more : (c : Cell) (around : Box4) (taken : List ℕ) (k : ℕ) (fs : List SubjectFinding) (d : SubjectFinding) → k < length fs
-    → flat_map shape_text (marks_from c around taken (k + 1) (drop k fs)) ≡
-    flat_map shape_text (mark_at (k + 1) (line_of (get_or fs k d)) (place_of c around (get_or fs k d)) taken (anchor_of (place_of c around (get_or fs k d))))
-    ++ flat_map shape_text (marks_from c around (taken_with taken (anchor_of (place_of c around (get_or fs k d)))) (k + 1 + 1) (drop (k + 1) fs))
-marks_more c around taken k fs d within =
-    ap (λ rest. flat_map shape_text (marks_from c around taken (k + 1) rest)) (drop_more fs k d within)
-    ∙ flat_map-append shape_text
-    (mark_at (k + 1) (line_of (get_or fs k d)) (place_of c around (get_or fs k d)) taken (anchor_of (place_of c around (get_or fs k d))))
-    (marks_from c around (taken_with taken (anchor_of (place_of c around (get_or fs k d)))) (k + 1 + 1) (drop (k + 1) fs))
-
--- a text and then more, appended part by part
-pub on : (before first rest all : List ℕ) (left : List ℕ) → before ++ left ≡ all → left ≡ first ++ rest → (before ++ first) ++ rest ≡ all
-on before first rest all left is cut = append_assoc before first rest ∙ ap (λ text. before ++ text) (sym cut) ∙ is
+use Rattle.cell_picture.specs.ShapeText.{mark_text, shape_text, spot_text}
+use Rattle.cell_picture.specs.Shapes.{drawing_order, finding_shapes, mark_at, mark_in, record_shapes, rows_from, shapes, spot_at}
 
 -- the text of a mark or a dot at a point
 pub mark_here : (number : ℕ) (line : List ℕ) (strokes : List Stroke) (taken : List ℕ) (held : Option PagePoint) (p : PagePoint) → held ≡ Some p

@@ -11,8 +11,6 @@ find_hit p xs ys x h = rw (find-append p xs ys) (rw h refl)
 pub find_missed : {X : Type 0} (p : X → Bool) (xs ys : List X) → find p xs ≡ None → find p (xs ++ ys) ≡ find p ys
 find_missed p xs ys h = rw (find-append p xs ys) (rw h refl)
 
-pub ruleset joined = (find_hit, find_missed)
-
 -- a pair found in the row of one item is the first of all rows from there on, and where the row has none the next rows decide
 pub row_hit : {X Y : Type 0} (p : X × Y → Bool) (xs : List X) (ys : List Y) (i : ℕ) (d : X) (found : X × Y) →
     i < length xs → find p (map (λ y. (get_or xs i d, y)) ys) ≡ Some found → find p (each_with_each (drop i xs) ys) ≡ Some found

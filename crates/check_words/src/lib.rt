@@ -4,10 +4,10 @@
 
 mod area;
 mod line;
-mod lookup;
+mod numbers;
 mod record;
 
 pub use area::{AREA, is_coverage_area, is_group1_area};
 pub use line::{Numbered, Segment, numbered, same_point, segments_of};
-pub use lookup::{listed_record, number};
+pub use numbers::number;
 pub use record::is_edge_name;

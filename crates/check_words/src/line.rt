@@ -20,7 +20,7 @@ pub fn same_point(p: Point, q: Point) -> bool
     p.0 == q.0 && p.1 == q.1
 }
 
-/// The segments between neighbouring points.
+/// The segments between neighbouring points. An `Err` means out of memory.
 pub fn segments_of(alloc: Global, points: &[Point]) -> Result<Vec<Segment>, AllocError>
     ensures { IfOk result (λ segments. segments.items ≡ spec_segments points.now) }
 {
@@ -31,7 +31,7 @@ pub fn segments_of(alloc: Global, points: &[Point]) -> Result<Vec<Segment>, Allo
         .collect(alloc)
 }
 
-/// Segments with their numbers from 1.
+/// Segments with their numbers from 1. An `Err` means out of memory.
 pub fn numbered(alloc: Global, segments: &[Segment]) -> Result<Vec<Numbered>, AllocError>
     ensures { IfOk result (λ list. list.items ≡ enumerate_from 1 segments.now) }
 {

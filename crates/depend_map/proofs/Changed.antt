@@ -1,5 +1,6 @@
 -- What a change of a subject's reads leaves of the rows and of the pairs, and the pairs of rows that are read in.
-use Rattle.std.proofs.Common.{◌≡◌, ◌&&◌, ◌||◌, Bool, true, false, List, [], ◌∷◌, ◌++◌, Option, None, Some, cond, refl, sym, ap, ◌∙◌, append_assoc, Ordering, Less, Equal, Greater, is_eq}
+use Rattle.std.proofs.Common.{◌≡◌, ◌&&◌, ◌||◌, Bool, true, false, List, [], ◌∷◌, ◌++◌, Option, None, Some, cond, refl, sym, ap, ◌∙◌, append_assoc}
+use Rattle.std.proofs.Common.{Ordering, Less, Equal, Greater, is_eq}
 use Rattle.std.specs.Cmp.{Equal-is}
 use Rattle.std.specs.List.{AllByRecursion, list_any}
 use Rattle.std.specs.List.Sorted.{IsStrictlySortedBy}
@@ -79,21 +80,6 @@ pub more_kept : (kept : List (Subject × List Key)) (row : Subject × List Key) 
     → (kept ++ row ∷ []) ++ kept_of rest ≡ all
 more_kept kept row rest all known is = kept_by kept row rest all (is_single row.0) known is
 
-left_by : (kept : List (Subject × List Key)) (row : Subject × List Key) (rest all : List (Subject × List Key)) (b : Bool)
-    → kept ++ cond b (row ∷ kept_of rest) (kept_of rest) ≡ all → b ≡ false → kept ++ kept_of rest ≡ all
-left_by kept row rest all true known is = cc
-left_by kept row rest all false known is = known
-
--- one that isn't
-pub one_left : (kept : List (Subject × List Key)) (row : Subject × List Key) (rest all : List (Subject × List Key)) → kept ++ kept_of (row ∷ rest) ≡ all
-    → is_single row.0 ≡ false
-    → kept ++ kept_of rest ≡ all
-one_left kept row rest all known is = left_by kept row rest all (is_single row.0) known is
-
-pub append_none : {X : Type 0} (xs : List X) → xs ++ [] ≡ xs
-append_none [] = refl
-append_none (x ∷ xs) = ap (λ rest. x ∷ rest) (append_none xs)
-
 -- rows that are kept ascend as all do
 each_kept_by : (P : Subject → Type 0) (row : Subject × List Key) (rest : List (Subject × List Key)) (b : Bool) → P row.0
     → AllByRecursion P (keys_of (kept_of rest))
@@ -150,7 +136,8 @@ any_pair k s [] ascending = refl
 any_pair k s (row ∷ rows) ascending =
     list_any-append (λ (row : (Key × Subject) × Unit {0}). same_pair row.0.0 row.0.1 k s) (rows_under row.0 row.1) (reader_rows rows)
     ∙ ap (λ b. b || list_any (λ (row : (Key × Subject) × Unit {0}). same_pair row.0.0 row.0.1 k s) (reader_rows rows)) (of_row k s row.0 row.1)
-    ∙ row_by (same_subject row.0 s) (holds_key row.1 k) (list_any (λ (row : (Key × Subject) × Unit {0}). same_pair row.0.0 row.0.1 k s) (reader_rows rows)) k row.1
+    ∙ row_by (same_subject row.0 s) (holds_key row.1 k)
+    (list_any (λ (row : (Key × Subject) × Unit {0}). same_pair row.0.0 row.0.1 k s) (reader_rows rows)) k row.1
     (value_of subject_order rows s) refl
     (any_pair k s rows (sorted_tail subject_order row.0 (keys_of rows) ascending))
     (λ tie. value_of-above subject_order rows s (above_tied subject_order total_subjects row.0 s rows ((Equal-is (subject_order row.0 s)).0 tie)

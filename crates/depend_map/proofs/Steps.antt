@@ -56,10 +56,3 @@ module _ (subject : Subject) (keys : List Key) (i : ℕ) (d : Key) (k : Key) (s 
       known
       ∙ one_there (same_subject subject s) (same_key k j) (holds_key (take i keys) k) was (λ e f. sym known ∙ has e f)
       ∙ ap (λ b. (same_subject subject s && b) || was) (sym one_more)
-
--- ---- pairs that are put one after the other
-pub next_put : (first rest before after all : Bool) → ((first || rest) || before) ≡ all → after ≡ (first || before) → (rest || after) ≡ all
-next_put true true before after all known is = known
-next_put true false before after all known is = is ∙ known
-next_put false true before after all known is = known
-next_put false false before after all known is = is ∙ known

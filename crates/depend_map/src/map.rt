@@ -131,7 +131,7 @@ impl DependMap {
         *self = plan.map;
     }
 
-    /// The map of these rows, without those of pairs.
+    /// The map of these rows, without those of pairs. An `Err` means out of memory.
     pub fn from_rows(alloc: Global, rows: Vec<(Subject, Keys)>) -> Result<DependMap, AllocError>
         requires { IsAscending subject_order rows.items }
         ensures { IfOk result (λ map. map ≡ kept_of rows.items) }

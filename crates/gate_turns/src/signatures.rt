@@ -84,7 +84,7 @@ pub struct Signed {
 
 /// The signatures that so many threads leave, with as many turns each: no number is above that of the threads.
 ///
-/// An `Err` says that there is no memory for the lock or for its handles.
+/// An `Err` says that there is no memory for the lock or for the list of the threads.
 pub fn signatures_of<R: Threads + Wait + Sync>(
     rt: &R,
     alloc: Global,

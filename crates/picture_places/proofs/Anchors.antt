@@ -20,14 +20,6 @@ pub first_held : (xs ys : List Stroke) → anchor_of (xs ++ ys) ≡ or_else (anc
 first_held [] ys = refl
 first_held (x ∷ xs) ys = ap (or_else (middle_of x)) (first_held xs ys) ∙ or_else_on (middle_of x) (anchor_of xs) (anchor_of ys)
 
--- of one stroke, its middle
-pub one_held : (x : Stroke) → anchor_of (x ∷ []) ≡ middle_of x
-one_held x = by (middle_of x)
-  where
-    by : (at : Option PagePoint) → or_else at None ≡ at
-    by None = refl
-    by (Some p) = refl
-
 half_of_two : (n : ℕ) → (n + n) / 2 ≡ n
 half_of_two n = omega arith
 

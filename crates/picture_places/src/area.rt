@@ -140,7 +140,7 @@ impl<'a, 'b> View<'a, 'b> {
         }
     }
 
-    /// The strokes of an area's loops.
+    /// The strokes of an area's loops. An `Err` means out of memory.
     pub fn area_strokes_of<L: Ledger>(
         &self,
         feature: &Feature,

@@ -83,7 +83,7 @@ fn box_around(points: &[Point]) -> Box4
     }
 }
 
-/// The least box around all positions of a cell, in integer coordinate units.
+/// The least box around all positions of a cell, in integer coordinate units. An `Err` means out of memory.
 pub fn extent_of(alloc: Global, cell: &Cell) -> Result<Box4, AllocError>
     ensures { IfOk result (λ around. around ≡ spec_extent_of cell.now) }
 {

@@ -215,7 +215,7 @@ impl<'a, 'b> View<'a, 'b> {
     }
 
     /// Where the mark of a finding on a subject is held, if it is anywhere. `held` is the record at which the last one was held that was about
-    /// one as a whole: findings on one record follow each other.
+    /// one as a whole: findings on one record follow each other. An `Err` means out of memory.
     pub fn mark_anchor<L: Ledger>(
         &self,
         subject: Subject,

@@ -176,7 +176,7 @@ impl<'a, 'b> View<'a, 'b> {
     }
 
     /// Where a finding on a subject is: the strokes of a node, a segment, a common point, or of the nodes or edges of a record. A finding on
-    /// an identifier is nowhere.
+    /// an identifier is nowhere. An `Err` means out of memory.
     pub fn place_of<L: Ledger>(
         &self,
         subject: Subject,

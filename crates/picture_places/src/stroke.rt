@@ -93,7 +93,7 @@ impl<'a, 'b> View<'a, 'b> {
         self.push_node(strokes, vector)
     }
 
-    /// The strokes of a vector record: one of an edge, and of a node a dot at each of its positions.
+    /// The strokes of a vector record: one of an edge, and of a node a dot at each of its positions. An `Err` means out of memory.
     pub fn vector_strokes_of<L: Ledger>(
         &self,
         vector: &Vector,

@@ -1,4 +1,4 @@
-//! Tests of winding numbers: drawn closed lines, counted by another ray.
+//! Tests of winding numbers: points that are typed out, and drawn closed lines, counted by another ray.
 #![tactic(auto)]
 
 #[cfg(test)]

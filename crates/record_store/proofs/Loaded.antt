@@ -1,5 +1,5 @@
 -- A cell as what additions of all its records make of an empty one.
-use Rattle.std.proofs.Common.{◌≡◌, Bool, true, false, List, [], ◌∷◌, ◌++◌, Option, Some, cond, filter, find, map, refl, sym, ap, subst, ◌∙◌, append-nil, arith}
+use Rattle.std.proofs.Common.{◌≡◌, Bool, true, false, List, [], ◌∷◌, ◌++◌, Option, Some, cond, filter, find, map, refl, sym, ap, subst, ◌∙◌, append-nil}
 use Rattle.std.specs.Prelude.{◌==◌, ◌&&◌, filter_map, not}
 use Rattle.std.specs.List.{AllByRecursion, IsDistinct, list_all}
 use Rattle.std.proofs.lemmas.List.Elements.{filter-append}
@@ -19,7 +19,7 @@ use Rattle.cell_spec.proofs.EachItem.{each_append, each_weaker}
 use Rattle.answer_laws.specs.EditedAnswers.{FindTheirRecords, has_a_list}
 use Rattle.answer_laws.specs.EditedCells.{EditsAddUp}
 use Rattle.answer_laws.proofs.EditedLists.{IsOfKind}
-use Rattle.record_store.specs.Lists.{AreRecords, HaveOwnKinds, cell_of, empty_of, no_lists}
+use Rattle.record_store.specs.Lists.{HaveOwnKinds, empty_of}
 use Rattle.record_store.proofs.Edits.{no_edits}
 use Rattle.record_store.proofs.OneEdit.{kind_list}
 
@@ -134,17 +134,3 @@ module _ (add_up : EditsAddUp) (whole : Cell) (r : Rec) (rest : List Rec) (c : C
 
 pub all_added : (whole c : Cell) → IsLeft whole [] c → c ≡ whole
 all_added whole c left = no_edits c ∙ left.leaves
-
--- no records are those of an empty cell
-pub no_records : (h : CellHead) → AreRecords [] no_lists (cell_of h no_lists)
-no_records h = record {
-  kinds = record {
-    vi = λ k d lt. absurd (omega arith);
-    vc = λ k d lt. absurd (omega arith);
-    ve = λ k d lt. absurd (omega arith);
-    fe =
-        λ k d lt. absurd (omega arith);
-  };
-  held = λ n. refl;
-  placed = λ n held is. cc;
-}

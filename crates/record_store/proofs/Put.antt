@@ -7,7 +7,7 @@ use Rattle.std.specs.declared.cmp.Ordering.{Ordering}
 use Rattle.s57_types.specs.declared.name.RecName.{RecName}
 use Rattle.s57_types.specs.declared.name.Lnam.{Lnam}
 use Rattle.cell_spec.specs.declared.key.Key.{Key}
-use Rattle.cell_spec.specs.declared.key.Key.TheVariants.{Name, Refs, Foid}
+use Rattle.cell_spec.specs.declared.key.Key.TheVariants.{Refs, Foid}
 use Rattle.cell_spec.specs.declared.key.Ref.{Ref}
 use Rattle.cell_spec.specs.Names.{identity_order, name_order, same_key}
 use Rattle.cell_spec.proofs.Orders.{exact_identities, exact_names, total_identities, total_names}
@@ -43,10 +43,6 @@ module _ (keys : List Key) (refs : RecName → List Ref) (names : Lnam → List 
       → list_in (value_of identity_order held l) ≡ cond (list_any (same_key (Foid l)) (keys ++ key ∷ [])) (names l)
       (list_in (value_of identity_order bearers l))
   bearers_stay = other_key Foid keys names (λ l. list_in (value_of identity_order bearers l)) (λ l. list_in (value_of identity_order held l)) put.bearers_are
-
-  -- the key of a record needs no list
-  pub name_put : (n : RecName) → ArePut (keys ++ Name n ∷ []) refs names pointers now bearers held
-  name_put n = record { pointers_are = pointers_stay (Name n) (λ m. refl); bearers_are = bearers_stay (Name n) (λ l. refl) }
 
   pointers_with : (n : RecName) (next : List (RecName × List Ref)) → ListIsPut name_order n (refs n) now next
       → ArePut (keys ++ Refs n ∷ []) refs names pointers next bearers held

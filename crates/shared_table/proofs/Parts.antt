@@ -101,10 +101,6 @@ module _ {K V : Type 0} where
       → part.1 ≡ block_at (blocks_of parts) k
   part_rows parts k part lt is = ap (λ p. p.1) is ∙ sym (block_at-parts parts k part lt)
 
-  pub part_begins : (cmp : K → K → Ordering) (parts : List (K × List (K × V))) (k : ℕ) (part : K × List (K × V)) → AreParts cmp parts
-      → k < length parts → part ≡ get_or parts k part → Begins part
-  part_begins cmp parts k part are lt is = subst Begins (sym is) (are.begin k part lt)
-
   module _ (cmp : K → K → Ordering) (total : IsTotalOrder cmp) (key : K) where
     begins_at : (parts : List (K × List (K × V))) (k : ℕ) (d : K × List (K × V)) (answer : Bool) → All Begins parts → k < length parts
         → is_le (cmp (get_or parts k d).0 key) ≡ answer → begins_by cmp (block_at (blocks_of parts) k) key ≡ answer

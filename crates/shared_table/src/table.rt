@@ -19,7 +19,7 @@ use std::sync::Arc;
 type Root<K, V> = Top<K, V, LowerLevels<K, V>>;
 
 /// A sorted table, seen as its rows in ascending order of their keys. A copy is a count and shares all pieces, and a change of one of
-/// the two leaves the other as it is. An `Err` means out of memory, and leaves the table as it was.
+/// the two leaves the other as it is.
 pub struct SharedTable<K: Ord + Drop, V: Drop> {
     root: Option<Arc<Root<K, V>, Global>>,
 }
@@ -48,7 +48,7 @@ impl<K: Ord + Drop, V: Drop> SharedTable<K, V> {
         SharedTable { root: None }
     }
 
-    /// The same table, which shares all that it holds.
+    /// The same table, which shares all that it holds. An `Err` means out of memory.
     pub fn share(&self) -> Result<SharedTable<K, V>, AllocError>
         ensures { IfOk result (λ table. table ≡ self.now) }
     {
@@ -127,7 +127,7 @@ impl<K: Ord + Drop, V: Drop> SharedTable<K, V> {
 }
 
 impl<K: Ord + Copy + Drop, V: Duplicate + Drop> SharedTable<K, V> {
-    /// The table of rows whose keys ascend already.
+    /// The table of rows whose keys ascend already. An `Err` means out of memory.
     pub fn from_ascending(alloc: Global, rows: Vec<(K, V)>) -> Result<SharedTable<K, V>, AllocError>
         requires { IsAscending K.cmp rows.items }
         ensures { IfOk result (λ table. table ≡ rows.items) }
@@ -138,7 +138,7 @@ impl<K: Ord + Copy + Drop, V: Duplicate + Drop> SharedTable<K, V> {
         })
     }
 
-    /// Puts the value at the key.
+    /// Puts the value at the key. An `Err` means out of memory, and leaves the table as it was.
     pub fn put(&mut self, alloc: Global, key: K, value: V) -> Result<(), AllocError>
         ensures ok { OnOk result (self.new ≡ with_row K.cmp self.old key value) }
         ensures err { OnErr result (self.new ≡ self.old) }
@@ -146,7 +146,7 @@ impl<K: Ord + Copy + Drop, V: Duplicate + Drop> SharedTable<K, V> {
         put_at_top(&mut self.root, alloc, key, value)
     }
 
-    /// Takes the key's row out, if there is one.
+    /// Takes the key's row out, if there is one. An `Err` means out of memory, and leaves the table as it was.
     pub fn take(&mut self, alloc: Global, key: &K) -> Result<(), AllocError>
         ensures ok { OnOk result (self.new ≡ without_key K.cmp self.old key.now) }
         ensures err { OnErr result (self.new ≡ self.old) }

@@ -1,17 +1,10 @@
 -- How many numbers and tiles there are, and one more of them.
-use Rattle.std.proofs.Common.{◌≡◌, ◌&&◌, ◌||◌, ℕ, ◌+◌, Bool, true, false, sym, ap, ◌∙◌, arith, ℤ, is_eq, min}
-use Rattle.std.specs.Prelude.{int_le, int_lt, nat_lt, pos, ◌+ℤ◌, ◌≤ℤ◌, ◌<ℤ◌, unsigned_abs}
+use Rattle.std.proofs.Common.{◌≡◌, ◌&&◌, ◌||◌, ℕ, ◌+◌, Bool, false, sym, ap, ◌∙◌, arith, ℤ, is_eq, min}
+use Rattle.std.specs.Prelude.{int_le, int_lt, nat_lt, pos, ◌+ℤ◌, ◌≤ℤ◌}
 use Rattle.std.specs.Ordering.{int_cmp}
 use Rattle.std.proofs.Math.Bool.{and-false, and-or_distrib_left, and-or_distrib_right, or-false, or_assoc}
 use Rattle.std.proofs.lemmas.Bool.Decides.{nat_tests}
 use Rattle.std.proofs.lemmas.Int.{ints}
-use Rattle.geometry_spec.specs.Tiles.{at_least_zero}
-
-none_by : (z : ℤ) → z <ℤ pos 0 → at_least_zero (z +ℤ pos 1) ≡ 0
-none_by z below = grind (arith, ints, nat_tests)
-
-some_by : (z : ℤ) → pos 0 ≤ℤ z → at_least_zero (z +ℤ pos 1) ≡ unsigned_abs z + 1
-some_by z from = grind (arith, ints, nat_tests)
 
 -- a product over a limit is over it where it is cut off behind the limit
 pub over_cut : (n : ℕ) → nat_lt 64 (min n 18446744073709551615) ≡ nat_lt 64 n
@@ -74,7 +67,3 @@ module _ (f x : ℤ) (r all : Bool) where
       → now ≡ (all || ((int_le f x && int_lt x n) && r))
   next_row c n before now le next was is =
       last_row c before now le was is ∙ ap (λ w. all || ((int_le f x && w) && r)) (before_next c n x next)
-
--- there is none from a number to a lesser one
-pub none_back : (f t x : ℤ) → int_lt t f ≡ true → (int_le f x && int_le x t) ≡ false
-none_back f t x less = grind (arith, ints, nat_tests)

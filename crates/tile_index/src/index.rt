@@ -112,7 +112,7 @@ impl TileIndex {
         Ok(ascending_names(without(near, name)))
     }
 
-    /// The names that may touch this one after a plan.
+    /// The names that may touch this one after a plan. An `Err` means out of memory.
     pub fn mates_after(
         &self,
         alloc: Global,
@@ -139,7 +139,8 @@ impl TileIndex {
         Ok(self.plan_noting_mates(alloc, changes)?.plan)
     }
 
-    /// The same plan, and whether it is known to leave all mates as they were: where no change gives a name other ranges.
+    /// The same plan, and whether it is known to leave all mates as they were: where no change gives a name other ranges. An `Err` means
+    /// out of memory.
     pub fn plan_noting_mates(
         &self,
         alloc: Global,

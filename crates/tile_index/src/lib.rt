@@ -1,7 +1,7 @@
 //! The tiles under connected nodes and edges, and which of them may touch.
 //!
-//! A tile is a square of 65,536 coordinate units. Two may touch where they share a tile, or where one of them is oversized: the box of one
-//! of its segments covers over 64 tiles.
+//! A tile is a square of 65,536 coordinate units. Two nodes or edges may touch where they share a tile, or where one is oversized: the box of
+//! one of its segments covers over 64 tiles.
 #![tactic(auto)]
 
 mod change;

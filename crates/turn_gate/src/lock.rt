@@ -43,7 +43,7 @@ pub struct MakeRefusal<V: Drop> {
 }
 
 impl<V: Chronicle + Send + Drop> Gate<V> {
-    /// Puts a value with an empty history behind a lock. The handle has the number 0.
+    /// Puts a value with an empty history behind a lock. The handle has the number 0. An `Err` means out of memory, and gives the value back.
     pub fn make(alloc: Global, value: V) -> Result<(Gate<V>, GateSeat<V>), MakeRefusal<V>>
         requires empty { V.entries value ≡ [] }
         ensures ok { IfOk result (λ made. made.1 ≡ first_handle made.0 (V.origin value)) }

@@ -23,7 +23,16 @@ fn drawn_script(alloc: Global, state: &mut u32) -> Result<String, Fail> {
     let (y, x, z) = (draw(state), draw(state), draw(state) % 100);
     let code = draw(state) % 65_536;
     Ok(format!(in alloc;
-        "add vi {id} 1 a={code}:T{x}%20%25 d={y},-{x},{z} d=0,0,-2147483648\nadd vc 4294967295 65535 a=1: p=-2147483648,2147483647\nadd vc 0 {code} p={y},{x}\nadd ve {id} {z} a=2:%80%FF e=vc:4294967295:1:2:1:255 e=vc:0:255:255:2:1 p={y},{x} p=-{x},{y}\nadd fe {id} 7 2 {z} {code} 1 {id} 9 a=18:1 a=18:x{y} n={code}:A%00B%00 n=300: f={code}:{y}:3:2:master f=65535:4294967295:0:1: s=ve:{id}:1:255:2 s=ve:1:2:255:255\ncommit\nset vc 4 {code} p={x},{y}\ndel fe 1\ncommit\n"
+        "add vi {id} 1 a={code}:T{x}%20%25 d={y},-{x},{z} d=0,0,-2147483648\n\
+         add vc 4294967295 65535 a=1: p=-2147483648,2147483647\n\
+         add vc 0 {code} p={y},{x}\n\
+         add ve {id} {z} a=2:%80%FF e=vc:4294967295:1:2:1:255 e=vc:0:255:255:2:1 p={y},{x} p=-{x},{y}\n\
+         add fe {id} 7 2 {z} {code} 1 {id} 9 a=18:1 a=18:x{y} n={code}:A%00B%00 n=300: \
+         f={code}:{y}:3:2:master f=65535:4294967295:0:1: s=ve:{id}:1:255:2 s=ve:1:2:255:255\n\
+         commit\n\
+         set vc 4 {code} p={x},{y}\n\
+         del fe 1\n\
+         commit\n"
     )?)
 }
 

@@ -6,12 +6,13 @@ use std::process::Abort;
 use std::test::Fail;
 
 /// A connected node: a record number, an identifier and one position.
-const NODE: [u8; 67] =
-    *b"00067 D     00046   12040001300VRID903SG2D912\x1e\x03\x00\x1e\x78\x01\x00\x00\x00\x01\x00\x01\x1e\x00\x00\x00\x00\x00\x00\x00\x00\x1e";
+const NODE: [u8; 67] = *b"00067 D     00046   12040001300VRID903SG2D912\x1e\
+       \x03\x00\x1e\x78\x01\x00\x00\x00\x01\x00\x01\x1e\x00\x00\x00\x00\x00\x00\x00\x00\x1e";
 
 /// The same with wide entries.
 const WIDE_NODE: [u8; 88] =
-    *b"00088 D     00067   550400010000300000VRID0000900003SG2D0000900012\x1e\x03\x00\x1e\x78\x01\x00\x00\x00\x01\x00\x01\x1e\x00\x00\x00\x00\x00\x00\x00\x00\x1e";
+    *b"00088 D     00067   550400010000300000VRID0000900003SG2D0000900012\x1e\
+       \x03\x00\x1e\x78\x01\x00\x00\x00\x01\x00\x01\x1e\x00\x00\x00\x00\x00\x00\x00\x00\x1e";
 
 /// The tags and contents of the node's fields.
 const NODE_FIELDS: [([u8; 4], &[u8]); 3] = [

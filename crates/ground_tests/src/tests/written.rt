@@ -33,7 +33,9 @@ fn a_node_is_appended(rt: HostRuntime) -> Result<(), Fail> {
     let out = written(rt.alloc(), LeaderKind::Dr, &NODE, b"before")?;
     assert_eq!(rt;
         out.as_slice(),
-        b"before00067 D     00046   12040001300VRID903SG2D912\x1e\x03\x00\x1e\x78\x01\x00\x00\x00\x01\x00\x01\x1e\x00\x00\x00\x00\x00\x00\x00\x00\x1e".as_slice()
+        b"before00067 D     00046   12040001300VRID903SG2D912\x1e\
+          \x03\x00\x1e\x78\x01\x00\x00\x00\x01\x00\x01\x1e\x00\x00\x00\x00\x00\x00\x00\x00\x1e"
+            .as_slice()
     );
     Ok(())
 }

@@ -10,9 +10,13 @@ use Rattle.depend_map.specs.Readers.{has_pair, reader_order, same_pair}
 use Rattle.depend_map.proofs.Pairs.{exact_rows, has-rows, pairs_ascend, row_order, total_rows}
 use Rattle.depend_map.proofs.set.set_of.Goals as goal
 
+-- a row of the set: a key, a subject that reads it, and no value
+abbrev Row : Type 0
+Row = (Key × Subject) × Unit {0}
+
 pub distinct-requires : goal.distinct-requires
 distinct-requires c = record {
-  exact = subst (λ (order : (Key × Subject) × Unit {0} → (Key × Subject) × Unit {0} → Ordering). (a b : (Key × Subject) × Unit {0}) → order a b ≡ Equal → a ≡ b)
+  exact = subst (λ (order : Row → Row → Ordering). (a b : Row) → order a b ≡ Equal → a ≡ b)
       (λ i a b. sym (λ j. ordering_then (ordering_then (c.orders_are_by_parts.ensures.keys a.0.0 b.0.0 j)
       (c.orders_are_by_parts.ensures.subjects a.0.1 b.0.1 j)) Equal) i)
       exact_rows;
@@ -20,7 +24,7 @@ distinct-requires c = record {
 
 pub from_ascending-requires : goal.from_ascending-requires
 from_ascending-requires c =
-    let those = subst (λ (order : (Key × Subject) × Unit {0} → (Key × Subject) × Unit {0} → Ordering). c.distinct.result.items ≡ ascending order c.args.rows.items)
+    let those = subst (λ (order : Row → Row → Ordering). c.distinct.result.items ≡ ascending order c.args.rows.items)
     (λ i a b. ordering_then (ordering_then (c.orders_are_by_parts.ensures.keys a.0.0 b.0.0 i) (c.orders_are_by_parts.ensures.subjects a.0.1 b.0.1 i)) Equal)
     c.distinct.ensures in
     let rises = subst (IsAscending reader_order) (sym those) (pairs_ascend (ascending row_order c.args.rows.items)
@@ -30,7 +34,7 @@ from_ascending-requires c =
 
 pub returns : goal.returns
 returns c = λ k s.
-    let those = subst (λ (order : (Key × Subject) × Unit {0} → (Key × Subject) × Unit {0} → Ordering). c.distinct.result.items ≡ ascending order c.args.rows.items)
+    let those = subst (λ (order : Row → Row → Ordering). c.distinct.result.items ≡ ascending order c.args.rows.items)
     (λ i a b. ordering_then (ordering_then (c.orders_are_by_parts.ensures.keys a.0.0 b.0.0 i) (c.orders_are_by_parts.ensures.subjects a.0.1 b.0.1 i)) Equal)
     c.distinct.ensures in
     ap (λ rows. has_pair rows k s) (c.in_ok-set.ensures ∙ those)
