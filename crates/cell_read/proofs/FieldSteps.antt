@@ -45,7 +45,7 @@ pub any_more : {X : Type 0} (p : X → Bool) (xs : List X) (k : ℕ) (x : X) →
 any_more p xs k x is = ap (list_any p) (take_at xs k x is) ∙ list_any-append p (take k xs) (x ∷ []) ∙ ap (λ b. list_any p (take k xs) || b) (or-false (p x))
 
 -- the tag of the field at a place, of which no more is known
-at_tag : {P : Type 0} (fields : List Field) (k : ℕ) (name : List ℕ) → option_map (λ (f : Field). f.tag) (slice_get fields k) ≡ Some name
+pub at_tag : {P : Type 0} (fields : List Field) (k : ℕ) (name : List ℕ) → option_map (λ (f : Field). f.tag) (slice_get fields k) ≡ Some name
     → ((f : Field) → slice_get fields k ≡ Some f → f.tag ≡ name → P) → P
 at_tag {P} fields k name is then = by (slice_get fields k) refl is
   where
@@ -53,12 +53,11 @@ at_tag {P} fields k name is then = by (slice_get fields k) refl is
     by None e tagged = absurd cc
     by (Some f) e tagged = then f e cc
 
-pub tagged_more : (tag : FieldTag) (fields : List Field) (k : ℕ) (name : List ℕ)
-    → option_map (λ (f : Field). f.tag) (slice_get fields k) ≡ Some name
-    → list_any (is_tagged tag) (take (k + 1) fields) ≡ (list_any (is_tagged tag) (take k fields) || pointwise nat_eq name (tag_text tag))
-tagged_more tag fields k name is = at_tag fields k name is
-    (λ f here tagged. any_more (is_tagged tag) fields k f here
-    ∙ ap (λ t. list_any (is_tagged tag) (take k fields) || pointwise nat_eq t (tag_text tag)) tagged)
+-- whether a test of the tag holds of one of the fields, with one field more
+pub named_more : (p : List ℕ → Bool) (fields : List Field) (k : ℕ) (name : List ℕ) → option_map (λ (f : Field). f.tag) (slice_get fields k) ≡ Some name
+    → list_any (λ (f : Field). p f.tag) (take (k + 1) fields) ≡ (list_any (λ (f : Field). p f.tag) (take k fields) || p name)
+named_more p fields k name is = at_tag fields k name is
+    (λ f here tagged. any_more (λ (x : Field). p x.tag) fields k f here ∙ ap (λ t. list_any (λ (x : Field). p x.tag) (take k fields) || p t) tagged)
 
 -- the name of the first field but the record identifier, from a place on
 pub named_here : (fields : List Field) (k : ℕ) (name : List ℕ) → option_map (λ (f : Field). f.tag) (slice_get fields k) ≡ Some name

@@ -3,6 +3,8 @@ use Rattle.std.proofs.Common.{◌≡◌, ◌≤◌, ◌<◌, ◌+◌, ℕ, Bool,
 use Rattle.std.proofs.Common.{inl, inr, arith}
 use Rattle.std.specs.List.{list_any}
 use Rattle.std.specs.Option.{option_or}
+use Rattle.std.specs.Prelude.{IfErr}
+use Rattle.std.specs.Result.{IsErrAnd}
 use Rattle.std.proofs.lemmas.Bool.{lt-ltb, cases_lt}
 use Rattle.frame_spec.specs.FrameDecision.{frame_at}
 use Rattle.frame_spec.specs.RecordFrame.{Field, FrameView}
@@ -23,7 +25,7 @@ use Rattle.file_spec.specs.declared.fault.RecordFault.{RecordFault}
 use Rattle.file_spec.specs.declared.fault.RecordFault.TheVariants.{TwiceName, TooLong, TooMany}
 use Rattle.file_spec.proofs.RecordSteps.{records_after-next, records_after-end}
 use Rattle.cell_read.specs.FileParts.{data_records}
-use Rattle.cell_read.specs.Gives.{GivesRecord, GivesCell, IsFault, IsFaultAt, refusal_at}
+use Rattle.cell_read.specs.Gives.{GivesRecord, GivesCell, GivesNext, IsFault, IsFaultAt, refusal_at}
 use Rattle.cell_read.specs.RecordsFrom.{record_said, following_fault}
 use Rattle.cell_read.specs.declared.refusal.RecordRefusal.{RecordRefusal}
 use Rattle.cell_read.specs.declared.refusal.RecordRefusal.TheVariants.{Fault, NoMemory}
@@ -106,11 +108,12 @@ unfolding with_following
 following-end number c b at past = ap (with_following number c) (records_after-end b at false past)
 
 -- no record stands there
-pub following-frame_fault : (number : ℕ) (c : Cell) (b : List ℕ) (at : ℕ) (fault : FrameFault) (r : RecordRefusal) → r ≡ Fault (of_frame fault)
-    → at < length b → frame_at b at false ≡ Err fault
-    → IsFaultAt number at r (with_following number c (records_after b at false))
+pub following-frame_fault : {X : Type 0} (number : ℕ) (c : Cell) (b : List ℕ) (at : ℕ) (fault : FrameFault) (r : Result X RecordRefusal)
+    → IsErrAnd r (λ e. e ≡ Fault (of_frame fault)) → at < length b → frame_at b at false ≡ Err fault
+    → IfErr r (λ e. IsFaultAt number at e (with_following number c (records_after b at false)))
 unfolding with_following
-following-frame_fault number c b at fault r refused before is = rw refused (read_on (with_following number c) b at false (Err fault) before is)
+following-frame_fault number c b at fault (Ok x) told before is = tt
+following-frame_fault number c b at fault (Err e) told before is = rw told (read_on (with_following number c) b at false (Err fault) before is)
 
 -- the record there has a fault
 following-fault : (number : ℕ) (c : Cell) (b : List ℕ) (at : ℕ) (frame : FrameView) (fault : RecordFault) → at < length b
@@ -152,6 +155,11 @@ module _ {X : Type 0} (number : ℕ) (meaning : List Field → Result X RecordFa
       → IsFaultAt number at r (said_by_next number (length b) meaning (records_after b at first))
   next-frame_fault fault r refused within is = rw refused
       (read_none (said_by_next number (length b) meaning) (λ n f. Err (fault_at number n (of_frame f))) b at first fault within is refl refl)
+
+  pub next-no_frame : (fault : FrameFault) (r : Result (X × ℕ) RecordRefusal) → IsErrAnd r (λ e. e ≡ Fault (of_frame fault)) → at ≤ length b
+      → frame_at b at first ≡ Err fault → GivesNext b first number at meaning r
+  next-no_frame fault (Ok x) told within is = absurd told
+  next-no_frame fault (Err e) told within is = next-frame_fault fault e told within is
 
   pub next-refused : (frame : FrameView) (e : RecordRefusal) → frame_at b at first ≡ Ok frame → GivesRecord {X = X} (Err e) (meaning frame.fields)
       → IsFaultAt number at e (said_by_next number (length b) meaning (records_after b at first))

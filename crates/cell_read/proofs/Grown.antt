@@ -1,6 +1,5 @@
 -- The names and the number of a cell's records, with one record more.
 use Rattle.std.proofs.Common.{◌≡◌, ◌+◌, ◌==◌, ◌||◌, Bool, true, false, List, [], ◌∷◌, ◌++◌, length, refl, sym, ap, ◌∙◌, length-append, arith}
-use Rattle.std.specs.declared.cmp.Ordering.{Ordering}
 use Rattle.std.specs.List.{list_any}
 use Rattle.s57_types.specs.declared.name.Kind.{Kind}
 use Rattle.s57_types.specs.declared.name.Kind.TheVariants.{Head}
@@ -11,7 +10,7 @@ use Rattle.cell_spec.specs.Lookup.{all_records, name_of, is_named}
 use Rattle.cell_spec.specs.Names.{kind_rank, is_of_kind, same_name}
 use Rattle.file_spec.specs.CellRecords.{with_record_of_kind}
 use Rattle.file_spec.proofs.GrownCell.{stands}
-use Rattle.cell_read.specs.NamesSeen.{has_name, IsKnown}
+use Rattle.cell_read.specs.NamesSeen.{Ascends, has_name, IsKnown}
 use Rattle.cell_read.specs.declared.reading.Reading.{Reading}
 
 or_swap : (a b c : Bool) → (a || (b || c)) ≡ (b || (a || c))
@@ -38,12 +37,13 @@ count_grown kind r c listed = let s = stands kind r c listed in
     omega (arith, grown, old)
 
 -- what is known of a reading with one record more
-pub known_grown : (order : RecName → RecName → Ordering) (old new : Reading) (r : Rec) → is_of_kind Head (name_of r) ≡ false
-    → IsKnown order old → new.cell ≡ with_record_of_kind (name_of r).kind r old.cell
-    → ((n : RecName) → has_name order new.names n ≡ (same_name n (name_of r) || has_name order old.names n)) → new.count ≡ old.count + 1 → IsKnown order new
-known_grown order old new r listed known cell_is names_are count_is = record {
+pub known_grown : (old new : Reading) (r : Rec) → is_of_kind Head (name_of r) ≡ false
+    → IsKnown old → new.cell ≡ with_record_of_kind (name_of r).kind r old.cell
+    → ((n : RecName) → has_name new.names n ≡ (same_name n (name_of r) || has_name old.names n)) → Ascends new.names → new.count ≡ old.count + 1 → IsKnown new
+known_grown old new r listed known cell_is names_are ascends count_is = record {
   names_are = λ n. names_are n ∙ ap (λ b. same_name n (name_of r) || b) (known.names_are n)
       ∙ sym (names_grown (name_of r).kind r old.cell n listed) ∙ ap (λ c. list_any (is_named n) (all_records c)) (sym cell_is);
+  ascends = ascends;
   count_is = let counted = count_grown (name_of r).kind r old.cell listed in let same = ap (λ c. length (all_records c)) cell_is in
       let before = known.count_is in omega (arith, counted, same, before, count_is);
 }

@@ -101,24 +101,28 @@ feature_long nall f many =
     ) in
     ap (λ ns. nat_le (record_length ns) length_limit) (feature_lengths nall f) ∙ record_long (present (3 ∷ 13 ∷ 9 ∷ rows)) past
 
--- what is kept of a vector or feature, where the rest of it is the same
-kept_vector : (nall : ℕ) (k v : Vector) → record k { ends = v.ends; plane = v.plane; deep = v.deep } ≡ v
-    → IsKept k.ends v.ends → IsKept k.plane v.plane → IsKept k.deep v.deep → IsKeptOf nall (V k) (V v)
-kept_vector nall k v is (all a) (all b) (all c) = same (sym (rw (a, b, c) refl) ∙ ap V is)
-kept_vector nall k v is (enough a b) plane deep = long (ap (λ (x : Vector). x.name) is)
-    (vector_long nall k (omega (arith, a))) (vector_long nall v (omega (arith, b)))
-kept_vector nall k v is (all e) (enough a b) deep = long (ap (λ (x : Vector). x.name) is)
-    (vector_long nall k (omega (arith, a))) (vector_long nall v (omega (arith, b)))
-kept_vector nall k v is (all e) (all f) (enough a b) = long (ap (λ (x : Vector). x.name) is)
-    (vector_long nall k (omega (arith, a))) (vector_long nall v (omega (arith, b)))
+-- what is kept of a vector or feature, up to a limit that makes it too long, where the rest of it is the same
+module _ (limit : ℕ) (far : row_limit ≤ limit) (nall : ℕ) where
+  vectors_long : (k v : Vector) → k.name ≡ v.name → limit ≤ length k.ends + length k.plane + length k.deep
+      → limit ≤ length v.ends + length v.plane + length v.deep → IsKeptOf nall (V k) (V v)
+  vectors_long k v named a b = long named (vector_long nall k (omega (arith, far, a))) (vector_long nall v (omega (arith, far, b)))
 
-kept_feature : (nall : ℕ) (k f : Feature) → record k { partners = f.partners; places = f.places } ≡ f
-    → IsKept k.partners f.partners → IsKept k.places f.places → IsKeptOf nall (F k) (F f)
-kept_feature nall k f is (all a) (all b) = same (sym (rw (a, b) refl) ∙ ap F is)
-kept_feature nall k f is (enough a b) places = long (ap (λ (x : Feature). x.name) is)
-    (feature_long nall k (omega (arith, a))) (feature_long nall f (omega (arith, b)))
-kept_feature nall k f is (all e) (enough a b) = long (ap (λ (x : Feature). x.name) is)
-    (feature_long nall k (omega (arith, a))) (feature_long nall f (omega (arith, b)))
+  features_long : (k f : Feature) → k.name ≡ f.name → limit ≤ length k.partners + length k.places → limit ≤ length f.partners + length f.places
+      → IsKeptOf nall (F k) (F f)
+  features_long k f named a b = long named (feature_long nall k (omega (arith, far, a))) (feature_long nall f (omega (arith, far, b)))
+
+  pub kept_vector : (k v : Vector) → record k { ends = v.ends; plane = v.plane; deep = v.deep } ≡ v
+      → IsKept limit k.ends v.ends → IsKept limit k.plane v.plane → IsKept limit k.deep v.deep → IsKeptOf nall (V k) (V v)
+  kept_vector k v is (all a) (all b) (all c) = same (sym (rw (a, b, c) refl) ∙ ap V is)
+  kept_vector k v is (enough a b) plane deep = vectors_long k v (ap (λ (x : Vector). x.name) is) (omega (arith, a)) (omega (arith, b))
+  kept_vector k v is (all e) (enough a b) deep = vectors_long k v (ap (λ (x : Vector). x.name) is) (omega (arith, a)) (omega (arith, b))
+  kept_vector k v is (all e) (all f) (enough a b) = vectors_long k v (ap (λ (x : Vector). x.name) is) (omega (arith, a)) (omega (arith, b))
+
+  pub kept_feature : (k f : Feature) → record k { partners = f.partners; places = f.places } ≡ f
+      → IsKept limit k.partners f.partners → IsKept limit k.places f.places → IsKeptOf nall (F k) (F f)
+  kept_feature k f is (all a) (all b) = same (sym (rw (a, b) refl) ∙ ap F is)
+  kept_feature k f is (enough a b) places = features_long k f (ap (λ (x : Feature). x.name) is) (omega (arith, a)) (omega (arith, b))
+  kept_feature k f is (all e) (enough a b) = features_long k f (ap (λ (x : Feature). x.name) is) (omega (arith, a)) (omega (arith, b))
 
 -- what is made of the values that were kept, and of all of them
 abbrev pub IsAlike : ℕ → Result Rec RecordFault → Result Rec RecordFault → Type 0
@@ -137,13 +141,13 @@ alike_check nall (Some e) kept said is = refl
 vector_alike : (nall : ℕ) (k v : FieldValues) → AreKept k v → IsAlike nall (vector_from k) (vector_from v)
 vector_alike nall k v is = subst (λ (u : FieldValues). IsAlike nall (vector_from k) (vector_from u)) is.others
     (alike_step nall (ok_or k.vrid MissingField) _ _
-    (λ d. alike_check nall (demand (d.ruin == 1) NotBase) _ _ (kept_vector nall _ _ refl is.ends is.plane is.deep)))
+    (λ d. alike_check nall (demand (d.ruin == 1) NotBase) _ _ (kept_vector row_limit (omega arith) nall _ _ refl is.ends is.plane is.deep)))
 
 feature_alike : (nall : ℕ) (k v : FieldValues) → AreKept k v → IsAlike nall (feature_from k) (feature_from v)
 feature_alike nall k v is = subst (λ (u : FieldValues). IsAlike nall (feature_from k) (feature_from u)) is.others
     (alike_step nall (ok_or k.frid MissingField) _ _
     (λ d. alike_step nall (ok_or k.foid MissingField) _ _
-    (λ l. alike_check nall (demand (d.ruin == 1) NotBase) _ _ (kept_feature nall _ _ refl is.partners is.places))))
+    (λ l. alike_check nall (demand (d.ruin == 1) NotBase) _ _ (kept_feature row_limit (omega arith) nall _ _ refl is.partners is.places))))
 
 -- a record by the values of its fields that were kept
 pub vector_kept : (nall : ℕ) (fields : List Field) (k : FieldValues) (made : Result Rec RecordFault) → AreKept k (values_of 0 fields)

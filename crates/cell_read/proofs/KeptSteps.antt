@@ -13,10 +13,10 @@ use Rattle.cell_read.specs.declared.values.FieldValues.{FieldValues}
 use Rattle.cell_read.proofs.ValueSteps.{with_all}
 
 -- rows behind others
-kept_rows : {X : Type 0} (kept rows more : List X) → IsKept kept rows → IsKept (kept_with kept more) (rows ++ more)
+kept_rows : {X : Type 0} (kept rows more : List X) → IsKept row_limit kept rows → IsKept row_limit (kept_with kept more) (rows ++ more)
 kept_rows {X} kept rows more is = by (nat_le row_limit (length kept)) refl is
   where
-    by : (b : Bool) → nat_le row_limit (length kept) ≡ b → IsKept kept rows → IsKept (if b then kept else kept ++ more) (rows ++ more)
+    by : (b : Bool) → nat_le row_limit (length kept) ≡ b → IsKept row_limit kept rows → IsKept row_limit (if b then kept else kept ++ more) (rows ++ more)
     by true many (all e) = let long : row_limit ≤ length kept = grind (arith, nat_tests) in
         enough long (omega (arith, long, length-append rows more, ap length e))
     by true many (enough k r) = enough k (omega (arith, r, length-append rows more))
@@ -35,8 +35,8 @@ kept_whole kept values is = record {
 }
 
 -- values by what is kept of each list of rows, and by the others
-as_kept : {kept values : FieldValues} → IsKept kept.partners values.partners → IsKept kept.places values.places → IsKept kept.ends values.ends
-    → IsKept kept.plane values.plane → IsKept kept.deep values.deep
+as_kept : {kept values : FieldValues} → IsKept row_limit kept.partners values.partners → IsKept row_limit kept.places values.places
+    → IsKept row_limit kept.ends values.ends → IsKept row_limit kept.plane values.plane → IsKept row_limit kept.deep values.deep
     → record kept { partners = values.partners; places = values.places; ends = values.ends; plane = values.plane; deep = values.deep } ≡ values
     → AreKept kept values
 as_kept r p e x d o = record { partners = r; places = p; ends = e; plane = x; deep = d; others = o }

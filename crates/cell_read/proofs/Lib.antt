@@ -4,6 +4,6 @@ pub mod Grown
 pub mod KeptRecords
 pub mod KeptSteps
 pub mod ListedRecords
-pub mod NameOrder
+pub mod NameKeys
 pub mod RecordSteps
 pub mod ValueSteps

@@ -9,15 +9,16 @@ row_limit = 12500
 abbrev pub kept_with : {X : Type 0} → List X → List X → List X
 kept_with rows more = if nat_le row_limit (length rows) then rows else rows ++ more
 
-pub data IsKept {X : Type 0} (kept rows : List X) : Type 0 where
-  all : kept ≡ rows → IsKept kept rows
-  enough : row_limit ≤ length kept → row_limit ≤ length rows → IsKept kept rows
+-- all rows, or so many that they reach a limit
+pub data IsKept {X : Type 0} (limit : ℕ) (kept rows : List X) : Type 0 where
+  all : kept ≡ rows → IsKept limit kept rows
+  enough : limit ≤ length kept → limit ≤ length rows → IsKept limit kept rows
 
 -- values of which the rows of the fields that may stand several times are kept
 pub record AreKept (kept values : FieldValues) : Type 0 where
-  pub partners : IsKept kept.partners values.partners
-  pub places : IsKept kept.places values.places
-  pub ends : IsKept kept.ends values.ends
-  pub plane : IsKept kept.plane values.plane
-  pub deep : IsKept kept.deep values.deep
+  pub partners : IsKept row_limit kept.partners values.partners
+  pub places : IsKept row_limit kept.places values.places
+  pub ends : IsKept row_limit kept.ends values.ends
+  pub plane : IsKept row_limit kept.plane values.plane
+  pub deep : IsKept row_limit kept.deep values.deep
   pub others : record kept { partners = values.partners; places = values.places; ends = values.ends; plane = values.plane; deep = values.deep } ≡ values

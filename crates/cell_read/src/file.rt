@@ -13,7 +13,7 @@ use crate::reading::{Reading, add_record, empty_reading};
 use crate::records::read_record;
 use crate::refusal::{ReadRefusal, RecordRefusal};
 use iso_frame::next_record;
-use s57_types::{Cell, Dsid, Dspm, Dssi, Head, RecName};
+use s57_types::{Cell, Dsid, Dspm, Dssi, Head};
 use std::alloc::Global;
 
 /// Adds the vector or feature record at a place, and answers its length.
@@ -24,17 +24,14 @@ fn read_next(
     reading: &mut Reading,
 ) -> Result<usize, RecordRefusal>
     requires before_end { at < length bytes.now }
-    requires known { IsKnown ⟦<RecName as Ord>⟧.cmp reading.old }
-    ensures known { OnOk result (IsKnown ⟦<RecName as Ord>⟧.cmp reading.new) }
+    requires known { IsKnown reading.old }
+    ensures known { OnOk result (IsKnown reading.new) }
     ensures within { IfOk result (λ n. (0 < n) × (at + n ≤ length bytes.now)) }
     ensures step { (number : ℕ) → IfOk result (λ n. with_following number reading.old.cell (records_after bytes.now at false) ≡
         with_following (number + 1) reading.new.cell (records_after bytes.now (at + n) false)) }
     ensures fault { (number : ℕ) → IfErr result (λ e. IsFaultAt number at e (with_following number reading.old.cell (records_after bytes.now at false))) }
 {
-    let frame = match next_record(bytes, at, false) {
-        Ok(frame) => frame,
-        Err(fault) => return Err(RecordRefusal::of_frame(fault)),
-    };
+    let frame = next_record(bytes, at, false)?;
     let rec = match read_record(alloc, reading.cell.head.nall, &frame) {
         Ok(rec) => rec,
         Err(refusal) => return Err(refusal),
@@ -79,10 +76,7 @@ fn general_information_at(
     ensures next { (number : ℕ) → GivesNext bytes.now false number at general_information result }
     ensures within { IfOk result (λ x. x.1 ≤ length bytes.now) }
 {
-    let frame = match next_record(bytes, at, false) {
-        Ok(frame) => frame,
-        Err(fault) => return Err(RecordRefusal::of_frame(fault)),
-    };
+    let frame = next_record(bytes, at, false)?;
     match read_general_information(alloc, &frame) {
         Ok(general) => Ok((general, at + frame.length())),
         Err(refusal) => Err(refusal),
@@ -99,10 +93,7 @@ fn geographic_reference_at(
     ensures next { (number : ℕ) → GivesNext bytes.now false number at geographic_reference result }
     ensures within { IfOk result (λ x. x.1 ≤ length bytes.now) }
 {
-    let frame = match next_record(bytes, at, false) {
-        Ok(frame) => frame,
-        Err(fault) => return Err(RecordRefusal::of_frame(fault)),
-    };
+    let frame = next_record(bytes, at, false)?;
     match read_geographic_reference(alloc, &frame) {
         Ok(dspm) => Ok((dspm, at + frame.length())),
         Err(refusal) => Err(refusal),
@@ -141,12 +132,14 @@ fn read_data_records(alloc: Global, bytes: &[u8], at: usize) -> Result<Cell, Rea
 
 /// The cell that a file of at most 16,777,216 bytes stands for, or the file's first fault: a data descriptive record,
 /// whose fields aren't looked at, the two head records, and vector and feature records in any order (S-57 Part 3, 7).
+///
+/// An `Err` is that fault, or out of memory.
 pub fn read_cell(alloc: Global, bytes: &[u8]) -> Result<Cell, ReadRefusal>
     requires { length bytes.now ≤ 16777216 }
     ensures { GivesCell result (decoded_cell bytes.now) }
 {
     match next_record(bytes, 0, true) {
         Ok(descriptive) => read_data_records(alloc, bytes, descriptive.length()),
-        Err(fault) => Err(RecordRefusal::of_frame(fault).at(1, 0)),
+        Err(fault) => Err(RecordRefusal::from(fault).at(1, 0)),
     }
 }

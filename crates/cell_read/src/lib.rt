@@ -12,5 +12,5 @@ mod tags;
 mod values;
 
 pub use file::read_cell;
-pub use refusal::ReadRefusal;
-pub use tags::{may_repeat, record_type, tag_in, tag_text};
+pub use refusal::{ReadRefusal, fault_of_frame};
+pub use tags::{record_type, stands_before, stands_twice, tag_in, tag_text};

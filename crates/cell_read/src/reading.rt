@@ -13,7 +13,7 @@ use crate::names::Names;
 use crate::refusal::RecordRefusal;
 use file_spec::RecordFault;
 use record_fit::is_short;
-use s57_types::{Cell, Head, Kind, Rec, RecName, Recs};
+use s57_types::{Cell, Head, Kind, Rec, Recs};
 use std::alloc::{AllocError, Global};
 
 /// How many records a cell may have.
@@ -30,7 +30,7 @@ pub struct Reading {
 /// A cell with a head and no record.
 pub fn empty_reading(alloc: Global, head: Head) -> Reading
     ensures cell { result.cell ≡ empty_cell head }
-    ensures known { IsKnown ⟦<RecName as Ord>⟧.cmp result }
+    ensures known { IsKnown result }
 {
     Reading {
         cell: Cell {
@@ -62,8 +62,8 @@ fn push_record(cell: &mut Cell, kind: Kind, rec: Rec) -> Result<(), AllocError>
 /// Adds a record behind the others: its name is new, it isn't too long when it is written again, and there is room.
 pub fn add_record(reading: &mut Reading, rec: Rec) -> Result<(), RecordRefusal>
     requires listed { is_of_kind HeadKind (name_of rec) ≡ false }
-    requires known { IsKnown ⟦<RecName as Ord>⟧.cmp reading.old }
-    ensures known { OnOk result (IsKnown ⟦<RecName as Ord>⟧.cmp reading.new) }
+    requires known { IsKnown reading.old }
+    ensures known { OnOk result (IsKnown reading.new) }
     ensures cell { OnOk result (reading.new.cell ≡ with_record rec reading.old.cell) }
     ensures good { OnOk result (following_fault reading.old.cell rec ≡ None) }
     ensures fault { IfErr result (λ e. IsFault e (following_fault reading.old.cell rec)) }

@@ -11,6 +11,17 @@ use s57_fields::FieldRefusal;
 use s57_types::CellFault;
 use std::alloc::AllocError;
 
+/// What the fault of a frame makes of its record.
+pub fn fault_of_frame(fault: FrameFault) -> RecordFault
+    ensures { result ≡ of_frame fault }
+{
+    match fault {
+        FrameFault::Short => RecordFault::Short,
+        FrameFault::BadLeader => RecordFault::BadLeader,
+        FrameFault::BadDirectory => RecordFault::BadDirectory,
+    }
+}
+
 /// Why a record was not read.
 #[derive(Clone, Copy, Debug, PartialEq, Eq)]
 pub enum RecordRefusal {
@@ -30,17 +41,6 @@ pub enum ReadRefusal {
 }
 
 impl RecordRefusal {
-    /// The refusal of a record whose frame has a fault.
-    pub fn of_frame(fault: FrameFault) -> RecordRefusal
-        ensures { result ≡ Fault (of_frame fault) }
-    {
-        match fault {
-            FrameFault::Short => RecordRefusal::Fault(RecordFault::Short),
-            FrameFault::BadLeader => RecordRefusal::Fault(RecordFault::BadLeader),
-            FrameFault::BadDirectory => RecordRefusal::Fault(RecordFault::BadDirectory),
-        }
-    }
-
     /// The refusal of a file in which the record of this number, which begins at this place, was refused.
     pub fn at(self, number: u32, offset: u32) -> ReadRefusal
         ensures { result ≡ refusal_at number offset self }
@@ -61,6 +61,14 @@ impl From<AllocError> for RecordRefusal {
 
     fn from(_error: AllocError) -> RecordRefusal {
         RecordRefusal::NoMemory
+    }
+}
+
+impl From<FrameFault> for RecordRefusal {
+    ghost from_gives = { λ fault e. e ≡ Fault (of_frame fault) };
+
+    fn from(fault: FrameFault) -> RecordRefusal {
+        RecordRefusal::Fault(fault_of_frame(fault))
     }
 }
 

@@ -43,7 +43,7 @@ fn is_tagged(tag: FieldTag, name: &[u8; 4]) -> bool
 }
 
 /// Whether a record may have several fields of a tag.
-pub fn may_repeat(tag: FieldTag) -> bool
+fn may_repeat(tag: FieldTag) -> bool
     ensures { result ≡ may_repeat tag }
 {
     match tag {
@@ -115,15 +115,14 @@ pub fn tag_in(kind: RecordType, name: &[u8; 4]) -> Option<FieldTag>
     }
 }
 
-/// Whether one of the first so many fields has a tag.
-#[tactic(auto, using(crate::proofs::FieldSteps::tagged_more))]
-fn stands_before(frame: &Frame<'_>, tag: FieldTag, k: usize) -> bool
+/// Whether one of the first so many fields has a tag of this text.
+pub fn stands_before(frame: &Frame<'_>, text: &[u8; 4], k: usize) -> bool
     requires { k ≤ length frame.now.fields }
-    ensures { result ≡ list_any (is_tagged tag) (take k frame.now.fields) }
+    ensures { result ≡ list_any (λ (f : Field). pointwise nat_eq f.tag text.now) (take k frame.now.fields) }
 {
     let mut stands = false;
     for j in 0..k {
-        stands |= is_tagged(tag, &frame.tag(j));
+        stands |= frame.tag(j) == *text;
     }
     stands
 }
@@ -138,7 +137,7 @@ pub fn stands_twice(frame: &Frame<'_>, tag: FieldTag, k: usize) -> bool
     if may_repeat(tag) {
         return false;
     }
-    stands_before(frame, tag, k)
+    stands_before(frame, &tag_text(tag), k)
 }
 
 /// The name of the first field but the record identifier.

@@ -24,7 +24,7 @@ fn take_bytes(bytes: &[u8], n: usize) -> Option<(&[u8], &[u8])>
     Some(bytes.split_at(n))
 }
 
-/// A number of one byte, and the bytes after it.
+/// The number of one byte with which bytes begin, and the bytes after it. There is none where there are no bytes.
 pub fn take_u8(bytes: &[u8]) -> Option<(u8, &[u8])>
     ensures cut { option_map (λ x. (unsigned_of 1 x.0, x.1.now)) result ≡ front (unsigned 1) bytes.now }
     ensures shorter { IfSome result (λ x. length x.1.now < length bytes.now) }
@@ -33,7 +33,8 @@ pub fn take_u8(bytes: &[u8]) -> Option<(u8, &[u8])>
     Some((number[0], rest))
 }
 
-/// A number of two bytes, and the bytes after it.
+/// The number of two bytes with which bytes begin, the least significant first, and the bytes after it. There is none where the
+/// bytes are fewer.
 pub fn take_u16(bytes: &[u8]) -> Option<(u16, &[u8])>
     ensures cut { option_map (λ x. (unsigned_of 2 x.0, x.1.now)) result ≡ front (unsigned 2) bytes.now }
     ensures shorter { IfSome result (λ x. length x.1.now < length bytes.now) }
@@ -88,7 +89,7 @@ pub fn take_array<const N: usize>(bytes: &[u8]) -> Option<([u8; N], &[u8])>
     Some((text, rest))
 }
 
-/// The bytes of a field before its terminator.
+/// The bytes of a field before its terminator, one byte. There are none where the field's last byte isn't the terminator.
 pub fn field_body(bytes: &[u8]) -> Option<&[u8]>
     ensures { option_map (λ x. x.now) result ≡ before_terminator bytes.now }
 {

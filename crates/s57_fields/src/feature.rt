@@ -49,6 +49,8 @@ fn frid_of(bytes: &[u8]) -> Option<Frid>
 }
 
 /// The identifier of a feature record, the field FRID. It takes no memory.
+///
+/// An `Err` says that the bytes aren't the field.
 pub fn read_frid(_alloc: Global, bytes: &[u8]) -> Result<Frid, FieldRefusal>
     ensures { Gives result (frid_content bytes.now) }
 {
@@ -109,6 +111,8 @@ fn foid_of(bytes: &[u8]) -> Option<Lnam>
 }
 
 /// The identifier of a feature object, the field FOID. It takes no memory.
+///
+/// An `Err` says that the bytes aren't the field.
 pub fn read_foid(_alloc: Global, bytes: &[u8]) -> Result<Lnam, FieldRefusal>
     ensures { Gives result (foid_content bytes.now) }
 {
@@ -168,6 +172,8 @@ impl FieldRow for Attr {
 }
 
 /// The attributes of a feature record, the field ATTF.
+///
+/// An `Err` says that the bytes aren't the field, or that a text has a control byte, or means out of memory.
 #[tactic(auto, unfolding(field_spec::specs::Contents::attribute_content))]
 pub fn read_attf(alloc: Global, bytes: &[u8]) -> Result<Attrs, FieldRefusal>
     ensures { Gives result (attribute_content 0 bytes.now) }
@@ -186,6 +192,8 @@ pub fn write_attf(_alloc: Global, value: &Attrs, out: &mut Vec<u8>) -> Result<()
 }
 
 /// The national attributes of a feature record, the field NATF, at the lexical level NALL.
+///
+/// An `Err` says that the bytes aren't the field, or that a text has a control byte, or means out of memory.
 #[tactic(auto, unfolding(field_spec::specs::Contents::attribute_content))]
 pub fn read_natf(alloc: Global, nall: u8, bytes: &[u8]) -> Result<Attrs, FieldRefusal>
     ensures { Gives result (attribute_content nall bytes.now) }
@@ -256,6 +264,8 @@ impl FieldRow for Partner {
 }
 
 /// The pointers of a feature record to feature objects, the field FFPT.
+///
+/// An `Err` says that the bytes aren't the field, or that a text has a control byte, or means out of memory.
 #[tactic(auto, unfolding(field_spec::specs::Contents::partner_content))]
 pub fn read_ffpt(alloc: Global, bytes: &[u8]) -> Result<Partners, FieldRefusal>
     ensures { Gives result (partner_content bytes.now) }
@@ -321,6 +331,8 @@ const BLANK_SPOT: Spot = Spot {
 };
 
 /// The pointers of a feature record to vector records, the field FSPT.
+///
+/// An `Err` says that the bytes aren't the field, or means out of memory.
 #[tactic(auto, unfolding(field_spec::specs::Contents::place_content))]
 pub fn read_fspt(alloc: Global, bytes: &[u8]) -> Result<Places, FieldRefusal>
     ensures { Gives result (place_content bytes.now) }

@@ -55,6 +55,8 @@ fn dssi_of(bytes: &[u8]) -> Option<Dssi>
 }
 
 /// The data set structure information, the field DSSI. It takes no memory.
+///
+/// An `Err` says that the bytes aren't the field.
 pub fn read_dssi(_alloc: Global, bytes: &[u8]) -> Result<Dssi, FieldRefusal>
     ensures { Gives result (dssi_content bytes.now) }
 {
@@ -136,6 +138,8 @@ fn cut_dspm(bytes: &[u8]) -> Option<DspmSubfields<'_>>
 }
 
 /// The data set parameters, the field DSPM.
+///
+/// An `Err` says that the bytes aren't the field, or that a text has a control byte, or means out of memory.
 #[tactic(auto, unfolding(field_spec::specs::Contents::dspm_content))]
 pub fn read_dspm(alloc: Global, bytes: &[u8]) -> Result<Dspm, FieldRefusal>
     ensures { Gives result (dspm_content bytes.now) }
@@ -348,6 +352,8 @@ fn dsid_of(alloc: Global, d: &DsidSubfields<'_>) -> Result<Dsid, AllocError>
 }
 
 /// The data set identification, the field DSID.
+///
+/// An `Err` says that the bytes aren't the field, or that a text has a control byte, or means out of memory.
 #[tactic(auto, unfolding(field_spec::specs::Contents::dsid_content))]
 pub fn read_dsid(alloc: Global, bytes: &[u8]) -> Result<Dsid, FieldRefusal>
     ensures { Gives result (dsid_content bytes.now) }

@@ -13,6 +13,7 @@ mod units;
 mod vector;
 mod write;
 
+pub use cut::{field_body, take_u8, take_u16};
 pub use feature::{
     read_attf, read_ffpt, read_foid, read_frid, read_fspt, read_natf, write_attf, write_ffpt,
     write_foid, write_frid, write_fspt, write_natf,

@@ -25,6 +25,8 @@ fn number_of(bytes: &[u8]) -> Option<u16>
 }
 
 /// The record number, the field 0001. It takes no memory.
+///
+/// An `Err` says that the bytes aren't the field.
 pub fn read_0001(_alloc: Global, bytes: &[u8]) -> Result<u16, FieldRefusal>
     ensures { Gives result (number_content bytes.now) }
 {

@@ -77,6 +77,8 @@ fn vrid_subfields(bytes: &[u8]) -> Option<(u8, u32, u16, u8)>
 }
 
 /// The identifier of a vector record, the field VRID. It takes no memory.
+///
+/// An `Err` says that the bytes aren't the field.
 #[tactic(auto, unfolding(field_spec::specs::Contents::vrid_content))]
 pub fn read_vrid(_alloc: Global, bytes: &[u8]) -> Result<Vrid, FieldRefusal>
     ensures { Gives result (vrid_content bytes.now) }
@@ -104,6 +106,8 @@ pub fn write_vrid(_alloc: Global, value: &Vrid, out: &mut Vec<u8>) -> Result<(),
 }
 
 /// The attributes of a vector record, the field ATTV. Its rows are those of ATTF.
+///
+/// An `Err` says that the bytes aren't the field, or that a text has a control byte, or means out of memory.
 pub fn read_attv(alloc: Global, bytes: &[u8]) -> Result<Attrs, FieldRefusal>
     ensures { Gives result (attribute_content 0 bytes.now) }
 {
@@ -172,6 +176,8 @@ const BLANK_END: End = End {
 };
 
 /// The pointers of a vector record, the field VRPT.
+///
+/// An `Err` says that the bytes aren't the field, or means out of memory.
 #[tactic(auto, unfolding(field_spec::specs::Contents::end_content))]
 pub fn read_vrpt(alloc: Global, bytes: &[u8]) -> Result<Ends, FieldRefusal>
     ensures { Gives result (end_content bytes.now) }
@@ -210,6 +216,8 @@ impl NumberRow for (i32, i32) {
 }
 
 /// The 2-D coordinates of a vector record, the field SG2D: latitude first, in integer coordinate units.
+///
+/// An `Err` says that the bytes aren't the field, or means out of memory.
 #[tactic(auto, unfolding(field_spec::specs::Contents::plane_content))]
 pub fn read_sg2d(alloc: Global, bytes: &[u8]) -> Result<Plane, FieldRefusal>
     ensures { Gives result (plane_content bytes.now) }
@@ -249,6 +257,8 @@ impl NumberRow for (i32, i32, i32) {
 }
 
 /// The soundings of a vector record, the field SG3D: latitude, longitude and depth, in integer units.
+///
+/// An `Err` says that the bytes aren't the field, or means out of memory.
 #[tactic(auto, unfolding(field_spec::specs::Contents::deep_content))]
 pub fn read_sg3d(alloc: Global, bytes: &[u8]) -> Result<Deep, FieldRefusal>
     ensures { Gives result (deep_content bytes.now) }

@@ -1,9 +1,9 @@
 -- The fields of a record from a place on.
-use Rattle.std.proofs.Common.{◌≡◌, ℕ, ◌+◌, ◌≤◌, ◌||◌, Bool, true, false, not, List, [], ◌∷◌, ◌++◌, length, take, drop, Option, Some, None, Result, Ok}
+use Rattle.std.proofs.Common.{◌≡◌, ℕ, ◌+◌, ◌≤◌, Bool, true, false, not, List, [], ◌∷◌, ◌++◌, length, take, drop, Some, None, Result, Ok}
 use Rattle.std.proofs.Common.{Err, refl, sym, ap, ◌∙◌}
 use Rattle.std.specs.Prelude.{slice_get, filter, find, nat_eq, IfOk, OnOk}
 use Rattle.std.specs.Cmp.Lexicographic.{pointwise}
-use Rattle.std.specs.List.{flat_map, list_any}
+use Rattle.std.specs.List.{flat_map}
 use Rattle.std.specs.Option.{option_map, option_or}
 use Rattle.std.specs.Result.{result_unwrap_or}
 use Rattle.std.proofs.lemmas.List.{append-nil, drop_all}
@@ -15,7 +15,7 @@ use Rattle.file_spec.specs.FieldTags.{is_tagged, tag_text}
 use Rattle.file_spec.specs.RecordReading.{field_fault, rows_of}
 use Rattle.file_spec.specs.declared.tag.FieldTag.{FieldTag}
 use Rattle.file_spec.specs.declared.tag.RecordType.{RecordType}
-use Rattle.cell_read.proofs.FieldSteps.{any_more, drop_at, find_here, find_later, take_at}
+use Rattle.cell_read.proofs.FieldSteps.{at_tag, drop_at, find_here, find_later, take_at}
 use Rattle.update_spec.specs.ControlFields.{control_in}
 use Rattle.update_spec.specs.UpdateFields.{control_fault, update_field_fault, update_fields_fault}
 use Rattle.update_spec.specs.declared.control.ControlTag.{ControlTag}
@@ -55,24 +55,10 @@ module _ {X : Type 0} (tag : FieldTag) (content : List ℕ → Result (List X) F
   rows_elsewhere other = rows_joined ∙ ap (λ rows. rows_of tag content (take k fields) ++ rows) (rw other refl) ∙ append-nil (rows_of tag
       content (take k fields))
 
--- the field at a place, of which the tag is known
-pub at_name : {P : Type 0} (fields : List Field) (k : ℕ) (name : List ℕ) → option_map (λ (f : Field). f.tag) (slice_get fields k) ≡ Some name
-    → ((f : Field) → slice_get fields k ≡ Some f → f.tag ≡ name → P) → P
-at_name {P} fields k name is then = by (slice_get fields k) refl is
-  where
-    by : (found : Option Field) → slice_get fields k ≡ found → option_map (λ (f : Field). f.tag) found ≡ Some name → P
-    by None e named = absurd cc
-    by (Some f) e named = then f e cc
-
+-- the name of the field at a place
 pub name_is : (fields : List Field) (k : ℕ) (name : List ℕ) (f : Field) → option_map (λ (x : Field). x.tag) (slice_get fields k) ≡ Some name
     → slice_get fields k ≡ Some f → f.tag ≡ name
 name_is fields k name f is here = let tagged : Some f.tag ≡ Some name = ap (option_map (λ (x : Field). x.tag)) (sym here) ∙ is in cc
-
--- whether a test of the tag holds of one of the fields, with one field more
-pub named_more : (p : List ℕ → Bool) (fields : List Field) (k : ℕ) (name : List ℕ) → option_map (λ (f : Field). f.tag) (slice_get fields k) ≡ Some name
-    → list_any (λ (f : Field). p f.tag) (take (k + 1) fields) ≡ (list_any (λ (f : Field). p f.tag) (take k fields) || p name)
-named_more p fields k name is = at_name fields k name is
-    (λ f here named. any_more (λ (x : Field). p x.tag) fields k f here ∙ ap (λ t. list_any (λ (x : Field). p x.tag) (take k fields) || p t) named)
 
 -- the first field of a tag of this text, from a place on
 pub found_here : (text : List ℕ) (fields : List Field) (k : ℕ) (name : List ℕ) (f : Field) → option_map (λ (x : Field). x.tag) (slice_get fields k) ≡ Some name
@@ -83,7 +69,7 @@ found_here text fields k name f is here same =
 pub found_later : (text : List ℕ) (fields : List Field) (k : ℕ) (name : List ℕ) → option_map (λ (x : Field). x.tag) (slice_get fields k) ≡ Some name
     → pointwise nat_eq name text ≡ false
     → find (λ (x : Field). pointwise nat_eq x.tag text) (drop k fields) ≡ find (λ (x : Field). pointwise nat_eq x.tag text) (drop (k + 1) fields)
-found_later text fields k name is other = at_name fields k name is
+found_later text fields k name is other = at_tag fields k name is
     (λ f here named. find_later (λ (x : Field). pointwise nat_eq x.tag text) fields k f here (ap (λ t. pointwise nat_eq t text) named ∙ other))
 
 -- what a comparison of a field's name with a tag's text tells

@@ -1,6 +1,7 @@
 -- The edits of an update with the next record of its file, and the records that must be there.
 use Rattle.std.proofs.Common.{◌≡◌, ◌≤◌, ◌<◌, ◌+◌, ℕ, Bool, false, List, ◌++◌, length, Option, Result, Ok, Err, refl, ap, ◌∙◌}
-use Rattle.std.specs.Prelude.{option_to_list}
+use Rattle.std.specs.Prelude.{IfErr, option_to_list}
+use Rattle.std.specs.Result.{IsErrAnd}
 use Rattle.frame_spec.specs.FrameDecision.{frame_at}
 use Rattle.frame_spec.specs.RecordFrame.{Field, FrameView}
 use Rattle.frame_spec.specs.declared.fault.FrameFault.{FrameFault}
@@ -16,7 +17,7 @@ use Rattle.update_spec.specs.declared.fault.UpdateFault.{UpdateFault}
 use Rattle.update_spec.specs.declared.fault.UpdateFault.TheVariants.{Record}
 use Rattle.cell_read.proofs.FileSteps.{found_before, read_none, read_on}
 use Rattle.update_apply.specs.FileParts.{edits_of_data}
-use Rattle.update_apply.specs.Gives.{Refuses, RefusesAt}
+use Rattle.update_apply.specs.Gives.{GivesNext, Refuses, RefusesAt}
 use Rattle.update_apply.specs.declared.refusal.StepRefusal.{StepRefusal}
 use Rattle.update_apply.specs.declared.refusal.StepRefusal.TheVariants.{Fault, NoMemory}
 
@@ -27,10 +28,11 @@ module _ (c : Cell) (level number : ℕ) (edits : List Edit) (b : List ℕ) (at 
   edits-end past = ap (edits_with c level number edits) (records_after-end b at false past)
 
   -- no record stands there
-  pub edits-frame_fault : (fault : FrameFault) (r : StepRefusal) → r ≡ Fault (Record (of_frame fault)) → at < length b
-      → frame_at b at false ≡ Err fault → RefusesAt number at r (edits_with c level number edits (records_after b at false))
+  pub edits-frame_fault : {X : Type 0} (fault : FrameFault) (r : Result X StepRefusal) → IsErrAnd r (λ e. e ≡ Fault (Record (of_frame fault)))
+      → at < length b → frame_at b at false ≡ Err fault → IfErr r (λ e. RefusesAt number at e (edits_with c level number edits (records_after b at false)))
   unfolding edits_with
-  edits-frame_fault fault r refused before is = rw refused (read_on (edits_with c level number edits) b at false (Err fault) before is)
+  edits-frame_fault fault (Ok x) told before is = tt
+  edits-frame_fault fault (Err e) told before is = rw told (read_on (edits_with c level number edits) b at false (Err fault) before is)
 
   -- the record there has a fault
   pub edits-refused : (frame : FrameView) (e : StepRefusal) → at < length b → frame_at b at false ≡ Ok frame
@@ -54,6 +56,11 @@ module _ {X : Type 0} (number : ℕ) (meaning : List Field → Result X UpdateFa
       → RefusesAt number at r (told_by_next number (length b) meaning (records_after b at first))
   next-frame_fault fault r refused within is = rw refused
       (read_none (told_by_next number (length b) meaning) (λ n f. Err (update_fault_at number n (Record (of_frame f)))) b at first fault within is refl refl)
+
+  pub next-no_frame : (fault : FrameFault) (r : Result (X × ℕ) StepRefusal) → IsErrAnd r (λ e. e ≡ Fault (Record (of_frame fault))) → at ≤ length b
+      → frame_at b at first ≡ Err fault → GivesNext b first number at meaning r
+  next-no_frame fault (Ok x) told within is = absurd told
+  next-no_frame fault (Err e) told within is = next-frame_fault fault e told within is
 
   pub next-said : (frame : FrameView) (x : X) → frame_at b at first ≡ Ok frame → meaning frame.fields ≡ Ok x
       → told_by_next number (length b) meaning (records_after b at first) ≡ Ok (x, records_after b (at + frame.length) false)

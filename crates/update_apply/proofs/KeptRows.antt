@@ -20,7 +20,8 @@ use Rattle.update_spec.specs.declared.control.Control.{Control}
 use Rattle.update_spec.specs.declared.control.Instruction.{Instruction}
 use Rattle.update_spec.specs.declared.control.Instruction.TheVariants.{Insert, Delete, Modify}
 use Rattle.update_spec.specs.declared.fault.UpdateFault.TheVariants.{BadControl}
-use Rattle.update_apply.specs.Kept.{row_limit, IsKept, all, enough, AreKept}
+use Rattle.cell_read.specs.Kept.{IsKept, all, enough}
+use Rattle.update_apply.specs.Kept.{row_limit, AreKept}
 
 -- the rows of the first fields are the first rows
 module _ {X : Type 0} (tag : FieldTag) (content : List ℕ → Result (List X) FieldFault) (fields : List Field) (k : ℕ) where
@@ -31,7 +32,7 @@ module _ {X : Type 0} (tag : FieldTag) (content : List ℕ → Result (List X) F
       ∙ flat_map-append _ (filter (is_tagged tag) (take k fields)) (filter (is_tagged tag) (drop k fields)) in
       omega (arith, ap length joined, length-append (rows_of tag content (take k fields)) (rows_of tag content (drop k fields)))
 
-  pub enough_rows : (kept : List X) → kept ≡ rows_of tag content (take k fields) → row_limit ≤ length kept → IsKept kept (rows_of tag content fields)
+  pub enough_rows : (kept : List X) → kept ≡ rows_of tag content (take k fields) → row_limit ≤ length kept → IsKept row_limit kept (rows_of tag content fields)
   enough_rows kept is many = enough many (omega (arith, many, ap length is, first_rows))
 
 -- so many rows have no place
@@ -60,13 +61,13 @@ too_many None given rows counted many =
     ap (λ b. demand b BadControl >> Ok rows) (ne_eqb (length given) 0 (λ none. absurd (omega (arith, many, none))))
 too_many (Some control) given rows counted many = no_instruction (instruction_of control.instruction) control given rows counted many
 
-pub kept_update : {X : Type 0} (control : Option Control) (kept given rows : List X) → IsCounted control → IsKept kept given
+pub kept_update : {X : Type 0} (control : Option Control) (kept given rows : List X) → IsCounted control → IsKept row_limit kept given
     → updated_rows control kept rows ≡ updated_rows control given rows
 kept_update control kept given rows counted (all is) = ap (λ xs. updated_rows control xs rows) is
 kept_update control kept given rows counted (enough k g) = too_many control kept rows counted k ∙ sym (too_many control given rows counted g)
 
 -- the same of coordinates
-same_none : {X : Type 0} (kept given : List X) → IsKept kept given → (length kept == 0) ≡ (length given == 0)
+same_none : {X : Type 0} (kept given : List X) → IsKept row_limit kept given → (length kept == 0) ≡ (length given == 0)
 same_none kept given (all is) = ap (λ xs. length xs == 0) is
 same_none kept given (enough k g) =
     ne_eqb (length kept) 0 (λ none. absurd (omega (arith, k, none))) ∙ sym (ne_eqb (length given) 0 (λ none. absurd (omega (arith, g, none))))

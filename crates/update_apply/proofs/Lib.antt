@@ -1,3 +1,4 @@
+pub mod CodedAttributes
 pub mod FieldWalk
 pub mod KeptRows
 pub mod LongRecords

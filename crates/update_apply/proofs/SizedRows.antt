@@ -1,6 +1,7 @@
 -- The fault of a field whose rows take so many bytes each, whatever these are.
-use Rattle.std.proofs.Common.{◌≡◌, ℕ, zero, suc, ◌+◌, ◌-◌, ◌%◌, ◌<◌, ◌≤◌, ◌==◌, Bool, true, false, cond, List, [], ◌∷◌, length, take, drop}
+use Rattle.std.proofs.Common.{◌≡◌, ℕ, zero, suc, ◌+◌, ◌-◌, ◌*◌, ◌%◌, ◌<◌, ◌≤◌, ◌==◌, Bool, true, false, cond, List, [], ◌∷◌, length, take, drop}
 use Rattle.std.proofs.Common.{Option, Some, None, inl, inr, refl, sym, ap, ◌∙◌, arith}
+use Rattle.std.specs.List.{list_all}
 use Rattle.std.specs.Result.{result_err}
 use Rattle.std.specs.Prelude.{ℤ}
 use Rattle.std.specs.Int.{w32, cast_signed}
@@ -9,8 +10,9 @@ use Rattle.std.proofs.lemmas.Bool.{cases_lt, lt-ltb, le-ltb, ne_eqb}
 use Rattle.std.proofs.lemmas.List.{length-drop}
 use Rattle.byteorder.specs.Endian.{little_number}
 use Rattle.field_spec.specs.Contents.{plane_content, deep_content}
-use Rattle.field_spec.specs.Cutting.{before_terminator}
+use Rattle.field_spec.specs.Cutting.{before_terminator, cut_row}
 use Rattle.field_spec.specs.declared.fault.FieldFault.TheVariants.{BadField}
+use Rattle.s57_types.specs.Subfield.{Form, Subfield, is_plain, signed, signed_of}
 use Rattle.s57_fields.specs.RowCutting.{take_row, with_front, rows_after, rows_from, content_of_rows, field_content}
 use Rattle.s57_fields.specs.RowLayouts.{RowLayout, plane_layout, deep_layout}
 use Rattle.s57_fields.proofs.JudgedRows.{field_content-body}
@@ -80,60 +82,60 @@ module _ {X : Type 0} (layout : RowLayout X) (size : ℕ) (sized : IsSized layou
           cut ∙ sym (ap result_err (field_content-body layout 0 b body is) ∙ rows_fault (length body) body (omega arith))
 
 -- signed numbers of four bytes
-number : List ℕ → ℤ
+abbrev number : List ℕ → ℤ
 number b = cast_signed w32 (little_number 4 (take 4 b))
 
-plane_sized : IsSized plane_layout 8
-unfolding number
-plane_sized = record {
-  some = omega arith;
-  short = λ b few. elim (cases_lt (length b) 4) [
-    | inl none ↦ rw (lt-ltb (length b) 4 none) refl
-    | inr one ↦
-        let fewer : length (drop 4 b) < 4 = omega (arith, length-drop 4 b) in
-        rw (le-ltb (length b) 4 one, lt-ltb (length (drop 4 b)) 4 fewer) refl
-  ];
-  taken = λ b enough.
-      let one : 4 ≤ length b = omega arith in
-      let two : 4 ≤ length (drop 4 b) = omega (arith, length-drop 4 b) in
-      record {
-        row = (number b, number (drop 4 b));
-        rest = drop 4 (drop 4 b);
-        is = rw (le-ltb (length b) 4 one, le-ltb (length (drop 4 b)) 4 two) refl;
-        shorter = omega (arith, enough, length-drop 4 b, length-drop 4 (drop 4 b));
-      };
-}
+abbrev numbers : ℕ → List Form
+numbers zero = []
+numbers (suc n) = signed ∷ numbers n
 
-deep_sized : IsSized deep_layout 12
-unfolding number
-deep_sized = record {
-  some = omega arith;
-  short = λ b few. elim (cases_lt (length b) 4) [
-    | inl none ↦ rw (lt-ltb (length b) 4 none) refl
-    | inr one ↦ elim (cases_lt (length (drop 4 b)) 4) [
-      | inl fewer ↦ rw (le-ltb (length b) 4 one, lt-ltb (length (drop 4 b)) 4 fewer) refl
-      | inr two ↦
-          let fewest : length (drop 4 (drop 4 b)) < 4 = omega (arith, length-drop 4 b, length-drop 4 (drop 4 b)) in
-          rw (le-ltb (length b) 4 one, le-ltb (length (drop 4 b)) 4 two, lt-ltb (length (drop 4 (drop 4 b))) 4 fewest) refl
-    ]
-  ];
+too_few : (n : ℕ) (b : List ℕ) → length b < n * 4 → cut_row (numbers n) b ≡ None
+too_few zero b few = absurd (omega (arith, few))
+too_few (suc n) b few = elim (cases_lt (length b) 4) [
+  | inl none ↦ rw (lt-ltb (length b) 4 none) refl
+  | inr one ↦
+      let fewer : length (drop 4 b) < n * 4 = omega (arith, few, one, length-drop 4 b) in
+      rw (le-ltb (length b) 4 one, too_few n (drop 4 b) fewer) refl
+]
+
+-- the numbers with which bytes begin
+record AreCut (n : ℕ) (b : List ℕ) : Type 0 where
+  row : List Subfield
+  rest : List ℕ
+  is : cut_row (numbers n) b ≡ Some (row, rest)
+  plain : list_all is_plain row ≡ true
+  shorter : length rest + n * 4 ≡ length b
+
+cut : (n : ℕ) (b : List ℕ) → n * 4 ≤ length b → AreCut n b
+cut zero b enough = record { row = []; rest = b; is = refl; plain = refl; shorter = omega arith }
+cut (suc n) b enough =
+    let one : 4 ≤ length b = omega (arith, enough) in
+    let more : n * 4 ≤ length (drop 4 b) = omega (arith, enough, length-drop 4 b) in
+    let others = cut n (drop 4 b) more in
+    record {
+      row = signed_of (number b) ∷ others.row;
+      rest = others.rest;
+      is = rw (le-ltb (length b) 4 one, others.is) refl;
+      plain = others.plain;
+      shorter = omega (arith, enough, others.shorter, length-drop 4 b);
+    }
+
+-- any bytes, so many, are a row of so many numbers
+numbers_sized : {X : Type 0} (layout : RowLayout X) (n : ℕ) → 0 < n → layout.forms ≡ numbers n → ((row : List Subfield) → layout.good row ≡ true)
+    → IsSized layout (n * 4)
+numbers_sized layout n some forms any = record {
+  some = omega (arith, some);
+  short = λ b few. rw (forms, too_few n b few) refl;
   taken = λ b enough.
-      let one : 4 ≤ length b = omega arith in
-      let two : 4 ≤ length (drop 4 b) = omega (arith, length-drop 4 b) in
-      let three : 4 ≤ length (drop 4 (drop 4 b)) = omega (arith, length-drop 4 b, length-drop 4 (drop 4 b)) in
-      record {
-        row = (number b, number (drop 4 b), number (drop 4 (drop 4 b)));
-        rest = drop 4 (drop 4 (drop 4 b));
-        is = rw (le-ltb (length b) 4 one, le-ltb (length (drop 4 b)) 4 two, le-ltb (length (drop 4 (drop 4 b))) 4 three) refl;
-        shorter = omega (arith, enough, length-drop 4 b, length-drop 4 (drop 4 b), length-drop 4 (drop 4 (drop 4 b)));
-      };
+      let c = cut n b enough in
+      record { row = layout.value c.row; rest = c.rest; is = rw (forms, c.is, any c.row, c.plain) refl; shorter = c.shorter };
 }
 
 -- any numbers are coordinates
 pub plane_fault : (b : List ℕ) → size_fault 8 b ≡ result_err (plane_content b)
 unfolding plane_content
-plane_fault b = field_fault plane_layout 8 plane_sized b
+plane_fault b = field_fault plane_layout 8 (numbers_sized plane_layout 2 (omega arith) refl (λ row. refl)) b
 
 pub deep_fault : (b : List ℕ) → size_fault 12 b ≡ result_err (deep_content b)
 unfolding deep_content
-deep_fault b = field_fault deep_layout 12 deep_sized b
+deep_fault b = field_fault deep_layout 12 (numbers_sized deep_layout 3 (omega arith) refl (λ row. refl)) b

@@ -1,8 +1,9 @@
 -- How many rows of a tag are kept of a record of an update: all of them, or so many that no record that is written has them, and that no control
 -- field counts them.
-use Rattle.std.specs.Prelude.{◌≡◌, ◌≤◌, ℕ, List, length, Result, Ok}
+use Rattle.std.specs.Prelude.{ℕ, Result, Ok}
 use Rattle.s57_types.specs.declared.cell.Cell.{Cell}
 use Rattle.s57_types.specs.declared.record.Rec.{Rec}
+use Rattle.cell_read.specs.Kept.{IsKept}
 use Rattle.cell_spec.specs.declared.edit.Edit.{Edit}
 use Rattle.cell_spec.specs.declared.edit.Edit.TheVariants.{Add}
 use Rattle.file_spec.specs.RecordFaults.{◌>>◌, demand}
@@ -15,13 +16,9 @@ use Rattle.update_spec.specs.declared.fault.UpdateFault.TheVariants.{Record}
 abbrev pub row_limit : ℕ
 row_limit = 65536
 
-pub data IsKept {X : Type 0} (kept rows : List X) : Type 0 where
-  all : kept ≡ rows → IsKept kept rows
-  enough : row_limit ≤ length kept → row_limit ≤ length rows → IsKept kept rows
-
 pub record AreKept (kept given : Coordinates) : Type 0 where
-  pub plane : IsKept kept.0 given.0
-  pub deep : IsKept kept.1 given.1
+  pub plane : IsKept row_limit kept.0 given.0
+  pub deep : IsKept row_limit kept.1 given.1
 
 -- the edit that adds a record, which may not be too long
 abbrev pub added_unless_long : Cell → Rec → Result Edit UpdateFault

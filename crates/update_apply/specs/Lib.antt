@@ -1,3 +1,4 @@
+pub mod CodedAttributes
 pub mod FileParts
 pub mod Gives
 pub mod Kept

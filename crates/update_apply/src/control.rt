@@ -1,56 +1,13 @@
 //! Control fields.
 
 ghost use Rattle.std.specs.Prelude.{◌≡◌, ◌<◌, MatchOption, IfSome, Ok, Err};
-ghost use Rattle.std.specs.Option.{option_map};
-ghost use Rattle.s57_types.specs.Subfield.{unsigned, unsigned_of};
-ghost use Rattle.field_spec.specs.Cutting.{before_terminator, front, split};
 ghost use Rattle.field_spec.specs.declared.fault.FieldFault.TheVariants.{BadField};
 ghost use Rattle.update_spec.specs.ControlFields.{control_among, control_content};
 
 use crate::tags::{control_text, first_field};
-use byteorder::{ByteOrder, LittleEndian};
 use iso_frame::Frame;
+use s57_fields::{field_body, take_u8, take_u16};
 use update_spec::{Control, ControlTag};
-
-/// The field terminator.
-const FIELD_TERMINATOR: u8 = 0x1e;
-
-/// So many bytes, and the bytes after them.
-fn take_bytes(bytes: &[u8], n: usize) -> Option<(&[u8], &[u8])>
-    ensures { option_map (λ x. (x.0.now, x.1.now)) result ≡ split n bytes.now }
-{
-    if bytes.len() < n {
-        return None;
-    }
-    Some(bytes.split_at(n))
-}
-
-/// A number of one byte, and the bytes after it.
-fn take_u8(bytes: &[u8]) -> Option<(u8, &[u8])>
-    ensures { option_map (λ x. (unsigned_of 1 x.0, x.1.now)) result ≡ front (unsigned 1) bytes.now }
-{
-    let (number, rest) = take_bytes(bytes, 1)?;
-    Some((number[0], rest))
-}
-
-/// A number of two bytes, and the bytes after it.
-fn take_u16(bytes: &[u8]) -> Option<(u16, &[u8])>
-    ensures { option_map (λ x. (unsigned_of 2 x.0, x.1.now)) result ≡ front (unsigned 2) bytes.now }
-{
-    let (number, rest) = take_bytes(bytes, 2)?;
-    Some((LittleEndian::read_u16(number), rest))
-}
-
-/// The bytes of a field before its terminator.
-pub fn field_body(bytes: &[u8]) -> Option<&[u8]>
-    ensures { option_map (λ x. x.now) result ≡ before_terminator bytes.now }
-{
-    let (last, body) = bytes.split_last()?;
-    if *last != FIELD_TERMINATOR {
-        return None;
-    }
-    Some(body)
-}
 
 /// What a control field says, or None where it is bad.
 #[tactic(auto, unfolding(update_spec::specs::ControlFields::control_content))]

@@ -1,27 +1,25 @@
 //! The first fault of the fields of a record.
 
-ghost use Rattle.std.specs.Prelude.{◌≡◌, ◌≤◌, ◌<◌, ◌+◌, ◌&&◌, ℕ, List, [], not, length, drop, take, IfOk, Result};
-ghost use Rattle.std.specs.List.{list_any};
+ghost use Rattle.std.specs.Prelude.{◌≡◌, ◌≤◌, ◌<◌, ◌+◌, ℕ, List, [], length, drop, take, IfOk, Result};
 ghost use Rattle.std.specs.Option.{option_or};
 ghost use Rattle.std.specs.Result.{result_err};
 ghost use Rattle.field_spec.specs.Contents.{deep_content, plane_content};
 ghost use Rattle.field_spec.specs.declared.fault.FieldFault.{FieldFault as SpecFault};
-ghost use Rattle.file_spec.specs.FieldTags.{is_tagged, may_repeat};
 ghost use Rattle.file_spec.specs.RecordFaults.{of_field};
 ghost use Rattle.file_spec.specs.RecordReading.{content_fault, field_fault};
 ghost use Rattle.s57_fields.specs.Gives.{Gives};
 ghost use Rattle.update_spec.specs.UpdateFields.{control_fault, update_fields_fault};
 ghost use Rattle.update_apply.specs.RowSizes.{size_fault};
 
-use crate::control::{field_body, read_control};
-use crate::tags::{control_in, control_text, stands_before};
-use cell_read::{may_repeat, tag_in, tag_text};
+use crate::control::read_control;
+use crate::tags::{control_in, control_text};
+use cell_read::{stands_before, stands_twice, tag_in};
 use field_spec::FieldFault;
 use file_spec::{FieldTag, RecordFault, RecordType};
 use iso_frame::Frame;
 use s57_fields::{
-    FieldRefusal, read_attf, read_attv, read_dsid, read_dspm, read_dssi, read_ffpt, read_foid,
-    read_frid, read_fspt, read_natf, read_vrid, read_vrpt,
+    FieldRefusal, field_body, read_attf, read_attv, read_dsid, read_dspm, read_dssi, read_ffpt,
+    read_foid, read_frid, read_fspt, read_natf, read_vrid, read_vrpt,
 };
 use std::alloc::{AllocError, Global};
 use update_spec::ControlTag;
@@ -110,17 +108,6 @@ fn of_field(fault: FieldFault) -> RecordFault
         FieldFault::BadField => RecordFault::BadField,
         FieldFault::BadText => RecordFault::BadText,
     }
-}
-
-/// Whether a tag that may stand once stands among the first so many fields.
-fn stands_twice(frame: &Frame<'_>, tag: FieldTag, k: usize) -> bool
-    requires { k ≤ length frame.now.fields }
-    ensures { result ≡ (list_any (is_tagged tag) (take k frame.now.fields) && not (may_repeat tag)) }
-{
-    if may_repeat(tag) {
-        return false;
-    }
-    stands_before(frame, &tag_text(tag), k)
 }
 
 /// The fault of a field that may stand in a cell's record, behind so many fields.

@@ -3,13 +3,10 @@
 ghost use Rattle.std.specs.Prelude.{◌≡◌, ◌+◌, ◌<◌, ◌≤◌, ◌++◌, [], length, false, IfOk, IfErr, MatchResult, Ok, option_to_list};
 ghost use Rattle.cell_spec.specs.Writable.{IsWritable};
 ghost use Rattle.file_spec.specs.FileRecords.{records_after};
-ghost use Rattle.file_spec.specs.RecordFaults.{of_frame};
 ghost use Rattle.update_spec.specs.UpdateHead.{update_identification};
 ghost use Rattle.update_spec.specs.UpdatedCell.{edits_of_update, edits_with};
-ghost use Rattle.update_spec.specs.declared.fault.UpdateFault.TheVariants.{Record};
 ghost use Rattle.update_apply.specs.FileParts.{edits_behind, edits_of_data};
 ghost use Rattle.update_apply.specs.Gives.{GivesFile, GivesNext, IsUpdate, IsUpdateRefusal, RefusesAt};
-ghost use Rattle.update_apply.specs.declared.refusal.StepRefusal.TheVariants.{Fault};
 
 use crate::case::Case;
 use crate::earlier::Earlier;
@@ -19,11 +16,9 @@ use crate::refusal::{StepRefusal, UpdateRefusal};
 use cell_spec::{Edit, writable_cells_are_readable};
 use chain_topo::ListLook;
 use edit_sets::{EditSet, FormRefusal};
-use file_spec::RecordFault;
-use iso_frame::{FrameFault, next_record};
+use iso_frame::next_record;
 use s57_types::{Cell, Head, HeadEdit};
 use std::alloc::{AllocError, Global};
-use update_spec::UpdateFault;
 
 /// An update file, with the cell that it is read against.
 #[derive(Drop)]
@@ -33,18 +28,6 @@ struct Update<'a, 'b, 'c> {
     /// A look into the cell.
     look: &'a ListLook<'b>,
     bytes: &'c [u8],
-}
-
-/// The refusal of a record whose frame has a fault.
-fn of_frame(fault: FrameFault) -> StepRefusal
-    ensures { result ≡ Fault (Record (of_frame fault)) }
-{
-    let fault = match fault {
-        FrameFault::Short => RecordFault::Short,
-        FrameFault::BadLeader => RecordFault::BadLeader,
-        FrameFault::BadDirectory => RecordFault::BadDirectory,
-    };
-    StepRefusal::Fault(UpdateFault::Record(fault))
 }
 
 /// Earlier edits with that of a record, if it stands for one.
@@ -73,10 +56,7 @@ fn read_next(
     ensures fault { IfErr result (λ e. RefusesAt number at e
         (edits_with update.now.look.now level number earlier (records_after update.now.bytes.now at false))) }
 {
-    let frame = match next_record(update.bytes, at, false) {
-        Ok(frame) => frame,
-        Err(fault) => return Err(of_frame(fault)),
-    };
+    let frame = next_record(update.bytes, at, false)?;
     let case = Case {
         alloc: update.alloc,
         look: update.look,
@@ -130,10 +110,7 @@ fn identification_at(
     ensures next { GivesNext bytes.now false 2 at (update_identification head.now) result }
     ensures within { IfOk result (λ x. x.1 ≤ length bytes.now) }
 {
-    let frame = match next_record(bytes, at, false) {
-        Ok(frame) => frame,
-        Err(fault) => return Err(of_frame(fault)),
-    };
+    let frame = next_record(bytes, at, false)?;
     match update_identification(alloc, head, &frame) {
         Ok(general) => Ok((general, at + frame.length())),
         Err(refusal) => Err(refusal),
@@ -179,7 +156,7 @@ fn read_edits(update: &Update<'_, '_, '_>) -> Result<Earlier, UpdateRefusal>
 {
     match next_record(update.bytes, 0, true) {
         Ok(descriptive) => read_data(update, descriptive.length()),
-        Err(fault) => Err(of_frame(fault).at(1, 0)),
+        Err(fault) => Err(StepRefusal::from(fault).at(1, 0)),
     }
 }
 
@@ -206,6 +183,8 @@ fn set_of(
 /// the file's first fault: a data descriptive record, whose fields aren't looked at, the data set identification of an update, at most one
 /// data set geographic reference, which has no effect, and vector and feature records in any order (S-57 Part 3, 7 and 8.4). The cell that
 /// they make is the one that the records make one after the other.
+///
+/// An `Err` is that fault, or out of memory.
 pub fn update_edits(alloc: Global, cell: &Cell, bytes: &[u8]) -> Result<EditSet, UpdateRefusal>
     requires writable { IsWritable cell.now }
     requires small { length bytes.now ≤ 16777216 }

@@ -2,12 +2,13 @@
 
 ghost use Rattle.std.specs.Prelude.{◌≡◌, ◌++◌, ◌+◌, ◌<◌, List, ℕ, [], Result, IfOk, OnOk, length, take};
 ghost use Rattle.std.specs.Result.{result_unwrap_or};
+ghost use Rattle.cell_read.specs.Kept.{IsKept};
 ghost use Rattle.field_spec.specs.declared.fault.FieldFault.{FieldFault};
 ghost use Rattle.file_spec.specs.RecordReading.{required, rows_of};
 ghost use Rattle.s57_fields.specs.Gives.{Gives};
 ghost use Rattle.update_spec.specs.UpdateFaults.{of_record};
 ghost use Rattle.update_apply.specs.Gives.{GivesUpdate};
-ghost use Rattle.update_apply.specs.Kept.{IsKept};
+ghost use Rattle.update_apply.specs.Kept.{row_limit};
 
 use crate::refusal::StepRefusal;
 use crate::tags::first_field;
@@ -242,7 +243,7 @@ pub fn kept_rows_of<T: Given>(
     frame: &Frame<'_>,
     tag: FieldTag,
 ) -> Result<Items<T>, AllocError>
-    ensures { IfOk result (λ rows. IsKept rows (rows_of tag (T.content 0) frame.now.fields)) }
+    ensures { IfOk result (λ rows. IsKept row_limit rows (rows_of tag (T.content 0) frame.now.fields)) }
 {
     let mut rows = Vec::new(alloc);
     let count = frame.count();

@@ -3,6 +3,7 @@
 
 mod attributes;
 mod case;
+mod coded;
 mod control;
 mod coordinates;
 mod earlier;

@@ -4,6 +4,8 @@ ghost use Rattle.std.specs.Prelude.{◌≡◌};
 ghost use Rattle.update_apply.specs.Gives.{refusal_at};
 ghost use Rattle.update_apply.specs.declared.refusal.StepRefusal.TheVariants.{Fault, NoMemory};
 
+use cell_read::fault_of_frame;
+use iso_frame::FrameFault;
 use s57_types::CellFault;
 use std::alloc::AllocError;
 use update_spec::UpdateFault;
@@ -47,6 +49,17 @@ impl From<AllocError> for StepRefusal {
 
     fn from(_error: AllocError) -> StepRefusal {
         StepRefusal::NoMemory
+    }
+}
+
+impl From<FrameFault> for StepRefusal {
+    ghost use Rattle.file_spec.specs.RecordFaults.{of_frame};
+    ghost use Rattle.update_spec.specs.declared.fault.UpdateFault.TheVariants.{Record};
+
+    ghost from_gives = { λ fault refusal. refusal ≡ Fault (Record (of_frame fault)) };
+
+    fn from(fault: FrameFault) -> StepRefusal {
+        StepRefusal::Fault(UpdateFault::Record(fault_of_frame(fault)))
     }
 }
 

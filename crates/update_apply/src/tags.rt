@@ -1,12 +1,13 @@
 //! The tags of the control fields of an update record, and its fields by their tags.
 
-ghost use Rattle.std.specs.Prelude.{◌≡◌, ◌≤◌, List, ℕ, length, find, take, nat_eq, ◌∷◌, []};
+ghost use Rattle.std.specs.Prelude.{◌≡◌, List, ℕ, find, nat_eq, ◌∷◌, []};
 ghost use Rattle.std.specs.Cmp.Lexicographic.{pointwise};
 ghost use Rattle.std.specs.List.{list_any};
 ghost use Rattle.std.specs.Option.{option_map};
 ghost use Rattle.frame_spec.specs.RecordFrame.{Field};
 ghost use Rattle.update_spec.specs.ControlFields.{control_in, control_text, has_controls};
 
+use cell_read::stands_before;
 use file_spec::RecordType;
 use iso_frame::Frame;
 use update_spec::ControlTag;
@@ -45,18 +46,6 @@ fn one_of(first: ControlTag, second: ControlTag, name: &[u8; 4]) -> Option<Contr
     } else {
         None
     }
-}
-
-/// Whether one of the first so many fields has a tag of this text.
-pub fn stands_before(frame: &Frame<'_>, text: &[u8; 4], k: usize) -> bool
-    requires { k ≤ length frame.now.fields }
-    ensures { result ≡ list_any (λ (f : Field). pointwise nat_eq f.tag text.now) (take k frame.now.fields) }
-{
-    let mut stands = false;
-    for j in 0..k {
-        stands |= frame.tag(j) == *text;
-    }
-    stands
 }
 
 /// Whether a record has a field of a tag of this text.

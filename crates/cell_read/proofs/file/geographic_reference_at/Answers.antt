@@ -1,20 +1,20 @@
 use Rattle.std.proofs.Common.{◌+◌, false, Ok, sym, ap, ◌∙◌}
 use Rattle.file_spec.specs.DecodedCell.{geographic_reference}
 use Rattle.file_spec.specs.FileRecords.{records_after}
-use Rattle.cell_read.proofs.FileSteps.{next-frame_fault, next-refused, next-said}
+use Rattle.cell_read.proofs.FileSteps.{next-no_frame, next-refused, next-said}
 use Rattle.cell_read.proofs.file.geographic_reference_at.Goals as goal
 
-pub returns-in-Ok-read_geographic_reference-clause-next : goal.returns-in-Ok-read_geographic_reference-clause-next
-returns-in-Ok-read_geographic_reference-clause-next c number = let read = c.in-Ok-read_geographic_reference in
-    next-said number geographic_reference c.args.bytes.now c.args.at false c.in-Ok.frame read.dspm (sym c.in-Ok.ensures.exact) read.ensures
+pub returns-in-Ok-clause-next : goal.returns-in-Ok-clause-next
+returns-in-Ok-clause-next c number = let read = c.in-Ok in
+    next-said number geographic_reference c.args.bytes.now c.args.at false c.in_ok-frame.frame read.dspm (sym c.in_ok-frame.ensures.exact) read.ensures
     ∙ ap (λ n. Ok (read.dspm, records_after c.args.bytes.now (c.args.at + n) false)) (sym c.length.ensures)
+
+pub returns-in_err-frame-clause-next : goal.returns-in_err-frame-clause-next
+returns-in_err-frame-clause-next c number =
+    next-no_frame number geographic_reference c.args.bytes.now c.args.at false _ c.from_residual.result c.from_residual.ensures.1 c.requires
+    (sym c.in_err-frame.ensures.exact)
 
 pub returns-in-Err-clause-next : goal.returns-in-Err-clause-next
 returns-in-Err-clause-next c number =
-    next-frame_fault number geographic_reference c.args.bytes.now c.args.at false c.in-Err.fault c.of_frame.result c.of_frame.ensures c.requires
-    (sym c.in-Err.ensures.exact)
-
-pub returns-in-Err-read_geographic_reference-clause-next : goal.returns-in-Err-read_geographic_reference-clause-next
-returns-in-Err-read_geographic_reference-clause-next c number =
-    next-refused number geographic_reference c.args.bytes.now c.args.at false c.in-Ok.frame c.in-Err-read_geographic_reference.refusal
-    (sym c.in-Ok.ensures.exact) c.in-Err-read_geographic_reference.ensures
+    next-refused number geographic_reference c.args.bytes.now c.args.at false c.in_ok-frame.frame c.in-Err.refusal
+    (sym c.in_ok-frame.ensures.exact) c.in-Err.ensures

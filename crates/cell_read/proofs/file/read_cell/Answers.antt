@@ -17,10 +17,10 @@ returns-in-Ok c = let b = c.args.bytes.now in let frame = c.in-Ok.descriptive in
     subst (λ x. GivesCell c.read_data_records.result x) (sym parts) c.read_data_records.ensures
 
 pub returns-in-Err : goal.returns-in-Err
-returns-in-Err c = let b = c.args.bytes.now in let end = length b in let e = c.of_frame.result in let file = records_after b 0 true in
+returns-in-Err c = let b = c.args.bytes.now in let end = length b in let e = c.from.result in let file = records_after b 0 true in
     let start : 0 ≤ end = omega arith in
     let first : IsFaultAt 1 0 e (said_by_next 1 end Ok file) =
-    next-frame_fault 1 Ok b 0 true c.in-Err.fault e c.of_frame.ensures start (sym c.in-Err.ensures.exact) in
+    next-frame_fault 1 Ok b 0 true c.in-Err.fault e c.from.ensures start (sym c.in-Err.ensures.exact) in
     let whole : IsFaultAt 1 0 e (decoded_cell b) = subst (λ x. IsFaultAt 1 0 e x) (sym (decoded_parts end file))
     (fault_stays 1 0 e (said_by_next 1 end Ok file) (λ d. data_records end d.1) first) in
     gives_fault_at 1 0 e (decoded_cell b) c.at.result c.at.ensures whole

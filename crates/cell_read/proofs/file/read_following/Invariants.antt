@@ -3,12 +3,11 @@ use Rattle.file_spec.specs.CellRecords.{empty_cell}
 use Rattle.file_spec.specs.FileRecords.{records_after}
 use Rattle.file_spec.specs.DecodedCell.{with_following}
 use Rattle.cell_read.specs.NamesSeen.{IsKnown}
-use Rattle.s57_types.specs.contracts.name.RecNameOrd.TheImpl.{ghosts}
 use Rattle.cell_read.proofs.file.read_following.Given as goal
 
 abbrev pub invariant-loop-at : goal.invariant-loop-at
 invariant-loop-at l = record {
-  known : IsKnown ghosts.cmp l.reading;
+  known : IsKnown l.reading;
   within : l.at ≤ length l.bytes;
   small : length l.bytes ≤ 16777216;
   counted : l.number ≤ l.at + 4;

@@ -6,7 +6,8 @@ use Rattle.topo_ops.proofs.Rows.{handed_on}
 use Rattle.topo_ops.proofs.joining.checked_join.Goals as goal
 
 pub returns-in_err-first : goal.returns-in_err-first
-returns-in_err-first g c = handed_on _ _ _ c.from_residual.result (no_first (g.B.Look.cell c.args.look.now) c.args.edges _ c.in_err-first.ensures) c.from_residual.ensures.1
+returns-in_err-first g c = handed_on _ _ _ c.from_residual.result
+    (no_first (g.B.Look.cell c.args.look.now) c.args.edges _ c.in_err-first.ensures) c.from_residual.ensures.1
 
 pub returns-in_err-second : goal.returns-in_err-second
 returns-in_err-second g c = handed_on _ _ _ c.from_residual-in_err-second.result

@@ -7,7 +7,8 @@ use Rattle.topo_ops.proofs.SplitRows.{at_cut, finished, no_edge}
 use Rattle.topo_ops.proofs.splitting.checked_split.Goals as goal
 
 pub returns-in_err-chain : goal.returns-in_err-chain
-returns-in_err-chain g c = handed_on _ _ _ c.from_residual.result (no_edge (g.B.Look.cell c.args.look.now) c.args.cut _ c.in_err-chain.ensures) c.from_residual.ensures.1
+returns-in_err-chain g c = handed_on _ _ _ c.from_residual.result
+    (no_edge (g.B.Look.cell c.args.look.now) c.args.cut _ c.in_err-chain.ensures) c.from_residual.ensures.1
 
 pub returns-in_err-check_cut : goal.returns-in_err-check_cut
 returns-in_err-check_cut g c = handed_on _ _ _ c.from_residual-in_err-check_cut.result

@@ -18,11 +18,11 @@ returns-in-Ok c = let b = c.args.update.now.bytes.now in let frame = c.in-Ok.des
     subst (λ x. GivesFile c.read_data.result x) (sym parts) c.read_data.ensures
 
 pub returns-in-Err : goal.returns-in-Err
-returns-in-Err c = let b = c.args.update.now.bytes.now in let end = length b in let e = c.of_frame.result in let file = records_after b 0 true in
+returns-in-Err c = let b = c.args.update.now.bytes.now in let end = length b in let e = c.from.result in let file = records_after b 0 true in
     let cell = c.args.update.now.cell.now in
     let start : 0 ≤ end = omega arith in
     let first : RefusesAt 1 0 e (told_by_next 1 end Ok file) =
-    next-frame_fault 1 Ok b 0 true c.in-Err.fault e c.of_frame.ensures start (sym c.in-Err.ensures.exact) in
+    next-frame_fault 1 Ok b 0 true c.in-Err.fault e c.from.ensures start (sym c.in-Err.ensures.exact) in
     let whole : RefusesAt 1 0 e (edits_of_update cell b) = subst (λ x. RefusesAt 1 0 e x) (sym (update_parts cell end file))
     (fault_stays 1 0 e (told_by_next 1 end Ok file) (λ d. edits_of_data cell end d.1) first) in
     refuses_at 1 0 e (edits_of_update cell b) c.at.result c.at.ensures whole

@@ -1,7 +1,7 @@
 use Rattle.std.proofs.Common.{◌||◌, [], is_some, take, sym, ap, ◌∙◌}
 use Rattle.frame_spec.specs.RecordFrame.{Field}
 use Rattle.update_spec.specs.ControlFields.{control_in, has_controls}
-use Rattle.update_apply.proofs.FieldWalk.{named_more}
+use Rattle.cell_read.proofs.FieldSteps.{named_more}
 use Rattle.update_apply.proofs.tags.has_controls.Goals as goal
 
 pub loop-k-preserved : goal.loop-k-preserved
