@@ -24,15 +24,14 @@ use affected_subjects::{Reach, reach_of};
 use answer_laws::formed_edits_find_their_records;
 use cell_spec::{Key, Rows, writable_cells_are_readable};
 use chain_topo::Steps;
-use depend_map::{DependMap, ReadChange};
+use depend_map::ReadChange;
 use edit_sets::EditSet;
 use finding_laws::{affected_list_is_set, verdict_tables_are_all};
 use history_spec::StateRefusal;
 use record_store::RecordStore;
-use s57_types::Duplicate;
 use std::alloc::{AllocError, Global};
 use std::sync::ledger::Ledger;
-use tile_index::{TileIndex, TilePlan};
+use tile_index::TilePlan;
 
 impl IndexedCell {
     /// The cell after edits that it takes, with its indexes, from rows of all affected subjects, if that has room for its findings.
@@ -134,49 +133,10 @@ impl IndexedCell {
         ensures { IfOk result (λ next. next ≡ apply_edits edits.now.edits self.now) }
     {
         Ok(IndexedCell {
-            store: store_after(alloc, &self.store, edits)?,
-            tiles: tiles_after(alloc, &self.tiles, tiles)?,
-            map: reads_after(alloc, &self.map, changes)?,
+            store: self.store.plan(alloc, edits)?.into_store(),
+            tiles: tiles.into_index(),
+            map: self.map.plan(alloc, changes)?.into_map(),
             verdicts,
         })
     }
-}
-
-// The store after edits.
-fn store_after(
-    alloc: Global,
-    store: &RecordStore,
-    edits: &EditSet,
-) -> Result<RecordStore, AllocError>
-    requires level { edits.now.nall ≡ store.now.head.nall }
-    requires taken { is_applicable edits.now.edits store.now ≡ true }
-    ensures { IfOk result (λ after. after ≡ apply_edits edits.now.edits store.now) }
-{
-    let plan = store.plan(alloc, edits)?;
-    let mut after = store.copy(alloc)?;
-    after.install(plan);
-    Ok(after)
-}
-
-// The index of tiles that was planned.
-fn tiles_after(alloc: Global, tiles: &TileIndex, plan: TilePlan) -> Result<TileIndex, AllocError>
-    ensures { IfOk result (λ after. after ≡ plan) }
-{
-    let mut after = tiles.copy(alloc)?;
-    after.install(plan);
-    Ok(after)
-}
-
-// The dependency index after changes.
-fn reads_after(
-    alloc: Global,
-    map: &DependMap,
-    changes: &[ReadChange],
-) -> Result<DependMap, AllocError>
-    ensures { IfOk result (λ after. after ≡ after_changes map.now changes.now) }
-{
-    let plan = map.plan(alloc, changes)?;
-    let mut after = map.copy(alloc)?;
-    after.install(plan);
-    Ok(after)
 }

@@ -1,6 +1,6 @@
 //! The next version of a bench, planned from edits.
 
-ghost use Rattle.std.specs.Prelude.{◌≡◌, ◌+◌, ◌≤◌, IfOk, MatchResult, length, map, true};
+ghost use Rattle.std.specs.Prelude.{◌≡◌, ◌+◌, ◌≤◌, IfOk, IsOk, MatchResult, length, map, true};
 ghost use Rattle.cell_spec.specs.Edits.{apply_edits, find_their_records, is_applicable, touched_keys};
 ghost use Rattle.rule_spec.specs.Affected.{affected_list, change_by, exact_row, plan_budget};
 ghost use Rattle.cell_bench.specs.Benches.{AreReady, IsPlanRefusal, IsPlanned, IsReachOf};
@@ -102,7 +102,8 @@ impl Bench {
     ) -> Result<Reach, AllocError>
         requires level { edits.now.nall ≡ self.now.head.nall }
         requires found { find_their_records edits.now.edits self.now ≡ true }
-        ensures { IfOk result (IsReachOf edits.now.edits self.now) }
+        ensures reach { IfOk result (IsReachOf edits.now.edits self.now) }
+        ensures steps { steps.new ≤ steps.old + length edits.now.edits + length (touched_keys edits.now.edits self.now) }
     {
         let reach = reach_of(
             alloc,
@@ -138,9 +139,10 @@ impl Bench {
         Ok(BenchPlan { next })
     }
 
-    /// Takes the memory that installing a plan takes: none, since a plan has it. An `Err` is out of memory.
+    /// Takes the memory that installing a plan takes: none, since a plan has it.
     pub fn reserve(&mut self, _alloc: Global, _plan: &BenchPlan) -> Result<(), AllocError>
-        ensures { self.new ≡ self.old }
+        ensures ok { IsOk result }
+        ensures same { self.new ≡ self.old }
     {
         Ok(())
     }

@@ -1,10 +1,11 @@
 //! The subjects of a cell but its pairs, and what they read.
 
-ghost use Rattle.std.specs.Prelude.{◌≡◌, ◌++◌, ◌||◌, IfOk, IsTrue, OnOk};
+ghost use Rattle.std.specs.Prelude.{◌≡◌, ◌≤◌, ◌+◌, ◌*◌, ◌++◌, ◌||◌, IfOk, IsTrue, OnOk, length};
 ghost use Rattle.cell_spec.specs.Ascending.{ascending};
 ghost use Rattle.cell_spec.specs.Names.{subject_order};
 ghost use Rattle.rule_spec.specs.Affected.{is_single};
 ghost use Rattle.rule_spec.specs.Findings.{is_subject};
+ghost use Rattle.rule_spec.specs.Reads.{read_set};
 ghost use Rattle.cell_bench.specs.Singles.{reads_row as spec_reads_row, singles_among, singles_in, singles_of as spec_singles};
 
 use cell_spec::{Keys, Subject, distinct, orders_are_by_parts};
@@ -54,7 +55,7 @@ pub fn singles_of(alloc: Global, cell: &Cell) -> Result<Vec<Subject>, AllocError
     Ok(distinct(subjects))
 }
 
-/// A record, a side, an identifier, or a pair of the cell, with its read set.
+/// A record, a side, an identifier, or a pair of the cell, with its read set. It looks up at most four times as often as that has keys.
 ///
 /// An `Err` means out of memory.
 pub fn reads_row<B: Look, L: Ledger>(
@@ -64,7 +65,8 @@ pub fn reads_row<B: Look, L: Ledger>(
     steps: &mut Steps<L>,
 ) -> Result<(Subject, Keys), AllocError>
     requires { IsTrue (is_single subject || is_subject (B.cell look.now) subject) }
-    ensures { IfOk result (λ row. row ≡ spec_reads_row (B.cell look.now) subject) }
+    ensures row { IfOk result (λ row. row ≡ spec_reads_row (B.cell look.now) subject) }
+    ensures steps { steps.new ≤ steps.old + 4 * length (read_set (B.cell look.now) subject) }
 {
     let row = row_of(alloc, look, subject, steps)?;
     // A copy has no more memory than its keys need: they stay as long as a bench.

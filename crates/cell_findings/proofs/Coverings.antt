@@ -1,7 +1,8 @@
 -- Names put at their points give the coverings of a cell.
 use Rattle.std.proofs.Common.{◌≡◌, ℕ, ◌⊎◌, inl, inr, ◌&&◌, ◌||◌, ◌++◌, Bool, true, false, List, [], ◌∷◌, Option, Some, None, cond, is_some, map, refl, sym}
-use Rattle.std.proofs.Common.{ap, ◌∙◌, arith}
+use Rattle.std.proofs.Common.{ap, ◌∙◌, arith, Less}
 use Rattle.std.specs.Prelude.{◌==◌, flat_map, option_and_then, option_to_list}
+use Rattle.std.specs.List.{AllByRecursion}
 use Rattle.std.specs.List.Sorted.{IsStrictlySortedBy}
 use Rattle.std.specs.Option.{option_map_or}
 use Rattle.std.specs.Ordering.{is_eq}
@@ -12,13 +13,14 @@ use Rattle.s57_types.specs.declared.record.Rec.{Rec}
 use Rattle.s57_types.specs.declared.cell.Cell.{Cell}
 use Rattle.cell_spec.specs.Lookup.{listed_record}
 use Rattle.cell_spec.specs.Names.{kind_rank, name_order, same_name}
-use Rattle.cell_spec.proofs.Ascending.{holds}
+use Rattle.cell_spec.proofs.Ascending.{holds, sorted-ascending}
 use Rattle.cell_spec.proofs.Orders.{exact_names, names_tie, one_when_same, same_from_either, total_names}
 use Rattle.rule_spec.specs.Findings.{record_names}
 use Rattle.row_spec.specs.Rows.{IsAscending}
 use Rattle.finding_laws.specs.Tables.{Covering, IsCoveringsOf, covering_in}
 use Rattle.finding_laws.proofs.Listed.{named_in, no_segments}
 use Rattle.finding_laws.proofs.Lists.{held_among, into_ascending}
+use Rattle.tile_index.specs.declared.change.TileChange.{TileChange}
 use Rattle.tile_index.specs.Changes.{ChangesSetTheirNames, after_changes, covering_after, covering_given, covering_if_any, segments_with}
 use Rattle.cell_findings.specs.Judged.{names_in}
 use Rattle.cell_findings.specs.Points.{changes_at, points_of, put_at}
@@ -93,6 +95,33 @@ module _ (c : Cell) (n : RecName) where
 
   pub names_put : covering_after None (flat_map (changes_at c) (names_in c)) n ≡ wanted
   names_put = all_put (names_in c) None (inl refl) (unlisted (listed_record c n) refl)
+
+-- ---- the names of the changes ascend
+abbrev name_set : TileChange → RecName
+name_set change = change.name
+
+each_changed : (c : Cell) (P : RecName → Type 0) (names : List RecName) → AllByRecursion P names
+    → AllByRecursion P (map name_set (flat_map (changes_at c) names))
+each_changed c P [] all = tt
+each_changed c P (n ∷ names) all =
+    elim (points_of c n) as (λ points. AllByRecursion P (map name_set (map (put_at n) (option_to_list points) ++ flat_map (changes_at c) names))) [
+      | None ↦ each_changed c P names all.1
+      | Some points ↦ (all.0, each_changed c P names all.1)
+    ]
+
+ascend_changed : (c : Cell) (names : List RecName) → IsStrictlySortedBy name_order names
+    → IsStrictlySortedBy name_order (map name_set (flat_map (changes_at c) names))
+unfolding IsStrictlySortedBy
+ascend_changed c [] sorted = tt
+ascend_changed c (n ∷ names) sorted =
+    elim (points_of c n) as (λ points. IsStrictlySortedBy name_order
+    (map name_set (map (put_at n) (option_to_list points) ++ flat_map (changes_at c) names))) [
+      | None ↦ ascend_changed c names sorted.1
+      | Some points ↦ (each_changed c (λ m. name_order n m ≡ Less) names sorted.0, ascend_changed c names sorted.1)
+    ]
+
+pub changes_ascend : (c : Cell) → IsStrictlySortedBy name_order (map (λ (change : TileChange). change.name) (flat_map (changes_at c) (names_in c)))
+changes_ascend c = ascend_changed c (names_in c) (sorted-ascending name_order total_names (record_names c))
 
 abbrev no_rows : List (RecName × Covering)
 no_rows = []

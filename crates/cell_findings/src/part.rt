@@ -1,6 +1,6 @@
 //! Connected nodes and edges with the boxes around them.
 
-ghost use Rattle.std.specs.Prelude.{◌≡◌, ◌++◌, All, IfOk, IfSome, IsPermutation, IsTrue, OnOk};
+ghost use Rattle.std.specs.Prelude.{◌≡◌, ◌≤◌, ◌+◌, ◌++◌, All, IfOk, IfSome, IsPermutation, IsTrue, OnOk};
 ghost use Rattle.s57_types.specs.declared.cell.Cell.{Cell as SpecCell};
 ghost use Rattle.s57_types.specs.declared.name.RecName.{RecName as SpecRecName};
 ghost use Rattle.check_pairs.specs.Parts.{IsPart};
@@ -33,7 +33,8 @@ pub(crate) fn position_at<B: Look, L: Ledger>(
     name: RecName,
     steps: &mut Steps<L>,
 ) -> Option<Point>
-    ensures { result ≡ node_position (B.cell look.now) name }
+    ensures position { result ≡ node_position (B.cell look.now) name }
+    ensures steps { steps.new ≤ steps.old + 1 }
 {
     match look.get(name, steps) {
         Some(Rec::V(part)) => {

@@ -1,6 +1,6 @@
 //! The tiles of a cell that is looked into.
 
-ghost use Rattle.std.specs.Prelude.{◌≡◌, ◌++◌, [], ◌∷◌, IfOk, OnOk, option_map};
+ghost use Rattle.std.specs.Prelude.{◌≡◌, ◌≤◌, ◌+◌, ◌*◌, ◌++◌, [], ◌∷◌, IfOk, OnOk, length, option_map};
 ghost use Rattle.std.specs.List.{flat_map};
 ghost use Rattle.rule_spec.specs.EdgePoints.{node_position};
 ghost use Rattle.finding_laws.specs.Tables.{IsCoveringsOf};
@@ -21,7 +21,8 @@ fn node_points<B: Look, L: Ledger>(
     name: RecName,
     steps: &mut Steps<L>,
 ) -> Result<Option<Plane>, AllocError>
-    ensures { IfOk result (λ points. points ≡ option_map (λ p. p ∷ []) (node_position (B.cell look.now) name)) }
+    ensures points { IfOk result (λ points. points ≡ option_map (λ p. p ∷ []) (node_position (B.cell look.now) name)) }
+    ensures steps { steps.new ≤ steps.old + 1 }
 {
     match position_at(look, name, steps) {
         Some(place) => Ok(Some(Items::of_vec(vec![in alloc; place]?))),
@@ -36,7 +37,8 @@ fn points_at<B: Look, L: Ledger>(
     name: RecName,
     steps: &mut Steps<L>,
 ) -> Result<Option<Plane>, AllocError>
-    ensures { IfOk result (λ points. points ≡ points_of (B.cell look.now) name) }
+    ensures points { IfOk result (λ points. points ≡ points_of (B.cell look.now) name) }
+    ensures steps { steps.new ≤ steps.old + 3 }
 {
     match name.kind {
         Kind::Vc => node_points(alloc, look, name, steps),
@@ -52,7 +54,8 @@ fn push_change<B: Look, L: Ledger>(
     name: RecName,
     steps: &mut Steps<L>,
 ) -> Result<(), AllocError>
-    ensures { OnOk result (changes.new.items ≡ changes.old.items ++ changes_at (B.cell look.now) name) }
+    ensures changes { OnOk result (changes.new.items ≡ changes.old.items ++ changes_at (B.cell look.now) name) }
+    ensures steps { steps.new ≤ steps.old + 3 }
 {
     if let Some(points) = points_at(alloc, look, name, steps)? {
         changes.push(TileChange {
@@ -70,7 +73,8 @@ fn changes_of<B: Look, L: Ledger>(
     names: &[RecName],
     steps: &mut Steps<L>,
 ) -> Result<Vec<TileChange>, AllocError>
-    ensures { IfOk result (λ changes. changes.items ≡ flat_map (changes_at (B.cell look.now)) names.now) }
+    ensures changes { IfOk result (λ changes. changes.items ≡ flat_map (changes_at (B.cell look.now)) names.now) }
+    ensures steps { steps.new ≤ steps.old + 3 * length names.now }
 {
     let mut changes = Vec::new(alloc);
     for name in names {
@@ -79,7 +83,8 @@ fn changes_of<B: Look, L: Ledger>(
     Ok(changes)
 }
 
-/// The index of the tiles under a cell's connected nodes and edges, from the ascending names of its records.
+/// The index of the tiles under a cell's connected nodes and edges, from the ascending names of its records. It looks up at most three times
+/// for each name.
 ///
 /// An `Err` is out of memory.
 pub fn tiles_of<B: Look, L: Ledger>(
@@ -89,12 +94,11 @@ pub fn tiles_of<B: Look, L: Ledger>(
     steps: &mut Steps<L>,
 ) -> Result<TileIndex, AllocError>
     requires { names.now ≡ names_in (B.cell look.now) }
-    ensures { IfOk result (λ tiles. IsCoveringsOf (B.cell look.now) tiles) }
+    ensures tiles { IfOk result (λ tiles. IsCoveringsOf (B.cell look.now) tiles) }
+    ensures steps { steps.new ≤ steps.old + 3 * length names.now }
 {
     changes_set_their_names();
     let changes = changes_of(alloc, look, names, steps)?;
-    let mut tiles = TileIndex::make();
-    let plan = tiles.plan(alloc, &changes)?;
-    tiles.install(plan);
+    let tiles = TileIndex::from_changes(alloc, changes)?;
     Ok(tiles)
 }

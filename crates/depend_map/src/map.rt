@@ -66,6 +66,15 @@ impl Model for ReadPlan {
     ghost view = { λ p. p.map };
 }
 
+impl ReadPlan {
+    /// The map after the changes. It takes no memory.
+    pub fn into_map(self) -> DependMap
+        ensures { result ≡ self }
+    {
+        self.map
+    }
+}
+
 // No subject is below this one.
 const LEAST: Subject = Subject::Rec(RecName {
     kind: Kind::Vi,

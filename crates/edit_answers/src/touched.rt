@@ -1,6 +1,6 @@
 //! The keys that an edit touches.
 
-ghost use Rattle.std.specs.Prelude.{◌≡◌, ◌++◌, OnOk, map};
+ghost use Rattle.std.specs.Prelude.{◌≡◌, ◌++◌, OnErr, OnOk, length, map, take};
 ghost use Rattle.std.specs.Option.{option_copied};
 ghost use Rattle.s57_types.specs.declared.record.End.{End as SpecEnd};
 ghost use Rattle.s57_types.specs.declared.record.Spot.{Spot as SpecSpot};
@@ -12,9 +12,10 @@ use cell_spec::{Edit, Key};
 use s57_types::{End, Rec, Spot};
 use std::alloc::AllocError;
 
-// Appends the key of the pointers to each of the ends' targets.
+// Appends the key of the pointers to each of the ends' targets, or some of them where memory goes out.
 fn push_ends(keys: &mut Vec<Key>, ends: &[End]) -> Result<(), AllocError>
-    ensures { OnOk result (keys.new.items ≡ keys.old.items ++ map Refs (map (λ (e : SpecEnd). e.to) ends.now)) }
+    ensures ok { OnOk result (keys.new.items ≡ keys.old.items ++ map Refs (map (λ (e : SpecEnd). e.to) ends.now)) }
+    ensures front { take (length keys.old.items) keys.new.items ≡ keys.old.items }
 {
     for end in ends {
         keys.push(Key::Refs(end.to))?;
@@ -22,9 +23,10 @@ fn push_ends(keys: &mut Vec<Key>, ends: &[End]) -> Result<(), AllocError>
     Ok(())
 }
 
-// Appends the key of the pointers to each of the spots' targets.
+// Appends the key of the pointers to each of the spots' targets, or some of them where memory goes out.
 fn push_spots(keys: &mut Vec<Key>, spots: &[Spot]) -> Result<(), AllocError>
-    ensures { OnOk result (keys.new.items ≡ keys.old.items ++ map Refs (map (λ (s : SpecSpot). s.to) spots.now)) }
+    ensures ok { OnOk result (keys.new.items ≡ keys.old.items ++ map Refs (map (λ (s : SpecSpot). s.to) spots.now)) }
+    ensures front { take (length keys.old.items) keys.new.items ≡ keys.old.items }
 {
     for spot in spots {
         keys.push(Key::Refs(spot.to))?;
@@ -32,11 +34,10 @@ fn push_spots(keys: &mut Vec<Key>, spots: &[Spot]) -> Result<(), AllocError>
     Ok(())
 }
 
-/// Appends the keys, beside its name, that a record is an answer to.
-///
-/// An `Err` means out of memory.
-pub fn push_answered(keys: &mut Vec<Key>, rec: &Rec) -> Result<(), AllocError>
-    ensures { OnOk result (keys.new.items ≡ keys.old.items ++ keys_answered_by rec.now) }
+// Appends the keys, beside its name, that a record is an answer to, or some of them where memory goes out.
+fn push_some_answered(keys: &mut Vec<Key>, rec: &Rec) -> Result<(), AllocError>
+    ensures ok { OnOk result (keys.new.items ≡ keys.old.items ++ keys_answered_by rec.now) }
+    ensures front { take (length keys.old.items) keys.new.items ≡ keys.old.items }
 {
     match rec {
         Rec::V(vector) => push_ends(keys, vector.ends.as_slice()),
@@ -49,11 +50,38 @@ pub fn push_answered(keys: &mut Vec<Key>, rec: &Rec) -> Result<(), AllocError>
     }
 }
 
-/// Appends the keys that an edit touches where this record, or none, has its name before it.
+// Cuts keys back to their number before a call that failed.
+fn cut_back(
+    keys: &mut Vec<Key>,
+    count: usize,
+    pushed: Result<(), AllocError>,
+) -> Result<(), AllocError>
+    ensures same { result ≡ pushed }
+    ensures ok { OnOk result (keys.new.items ≡ keys.old.items) }
+    ensures err { OnErr result (keys.new.items ≡ take count keys.old.items) }
+{
+    if pushed.is_err() {
+        keys.truncate(count);
+    }
+    pushed
+}
+
+/// Appends the keys, beside its name, that a record is an answer to, all or none.
 ///
 /// An `Err` means out of memory.
-pub fn push_touched(keys: &mut Vec<Key>, old: Option<&Rec>, edit: &Edit) -> Result<(), AllocError>
-    ensures { OnOk result (keys.new.items ≡ keys.old.items ++ keys_touched_by (option_copied old.entry) edit.now) }
+pub fn push_answered(keys: &mut Vec<Key>, rec: &Rec) -> Result<(), AllocError>
+    ensures ok { OnOk result (keys.new.items ≡ keys.old.items ++ keys_answered_by rec.now) }
+    ensures err { OnErr result (keys.new.items ≡ keys.old.items) }
+{
+    let count = keys.len();
+    let pushed = push_some_answered(keys, rec);
+    cut_back(keys, count, pushed)
+}
+
+// Appends the keys that an edit touches where this record, or none, has its name before it, or some of them where memory goes out.
+fn push_some_touched(keys: &mut Vec<Key>, old: Option<&Rec>, edit: &Edit) -> Result<(), AllocError>
+    ensures ok { OnOk result (keys.new.items ≡ keys.old.items ++ keys_touched_by (option_copied old.entry) edit.now) }
+    ensures front { take (length keys.old.items) keys.new.items ≡ keys.old.items }
 {
     keys.push(Key::Name(edit.name()))?;
     if let Some(rec) = old {
@@ -63,4 +91,16 @@ pub fn push_touched(keys: &mut Vec<Key>, old: Option<&Rec>, edit: &Edit) -> Resu
         push_answered(keys, rec)?;
     }
     Ok(())
+}
+
+/// Appends the keys that an edit touches where this record, or none, has its name before it, all or none.
+///
+/// An `Err` means out of memory.
+pub fn push_touched(keys: &mut Vec<Key>, old: Option<&Rec>, edit: &Edit) -> Result<(), AllocError>
+    ensures ok { OnOk result (keys.new.items ≡ keys.old.items ++ keys_touched_by (option_copied old.entry) edit.now) }
+    ensures err { OnErr result (keys.new.items ≡ keys.old.items) }
+{
+    let count = keys.len();
+    let pushed = push_some_touched(keys, old, edit);
+    cut_back(keys, count, pushed)
 }

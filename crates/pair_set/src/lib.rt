@@ -6,5 +6,5 @@ mod set;
 mod threads;
 
 pub use seconds::Seconds;
-pub use set::PairSet;
+pub use set::{PairRow, PairSet};
 pub use threads::sets_cross_threads;

@@ -1,3 +1,4 @@
+pub mod AllPut
 pub mod Behind
 pub mod Edits
 pub mod Loaded

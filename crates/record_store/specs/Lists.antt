@@ -1,5 +1,5 @@
 -- The records of a cell in file order, each at a number that rises in its list. This project's own rules.
-use Rattle.std.specs.Prelude.{◌≡◌, ℕ, List, [], Option, None, Some, map, option_map}
+use Rattle.std.specs.Prelude.{◌≡◌, ℕ, List, [], ◌∷◌, Option, None, Some, map, option_map}
 use Rattle.std.specs.Ordering.{nat_cmp}
 use Rattle.std.specs.declared.cmp.Ordering.TheVariants.{Less}
 use Rattle.s57_types.specs.declared.name.Kind.{Kind}
@@ -8,10 +8,13 @@ use Rattle.s57_types.specs.declared.name.RecName.{RecName}
 use Rattle.s57_types.specs.declared.record.Rec.{Rec}
 use Rattle.s57_types.specs.declared.head.Head.{Head}
 use Rattle.s57_types.specs.declared.cell.Cell.{Cell}
+use Rattle.cell_spec.specs.declared.edit.Edit.{Edit}
+use Rattle.cell_spec.specs.Edits.{left_by}
 use Rattle.cell_spec.specs.Lookup.{listed_record}
 use Rattle.cell_spec.specs.Names.{name_order}
 use Rattle.cell_spec.specs.Writable.{AreOfKind}
 use Rattle.row_spec.specs.Rows.{EachKeyIs, value_of}
+use Rattle.answer_laws.specs.EditedAnswers.{FindTheirRecords}
 use Rattle.record_store.specs.declared.file_lists.FileLists.{FileLists}
 use Rattle.record_store.specs.declared.records.Held.{Held}
 
@@ -48,6 +51,16 @@ cell_of h lists = record { head = h; vi = records_in lists.vi; vc = records_in l
 abbrev pub IsPlaceFor : Option Held → List (ℕ × Rec) → ℕ → Type 0
 IsPlaceFor None rows place = EachKeyIs nat_cmp Less place rows
 IsPlaceFor (Some held) rows place = place ≡ held.place
+
+-- an edit that finds what it needs in a cell leaves a record
+pub record IsLeftBy (e : Edit) (c : Cell) (r : Rec) : Type 0 where
+  pub finds : FindTheirRecords (e ∷ []) c
+  pub leaves : left_by e ≡ Some r
+
+-- there is such an edit
+pub record IsLeftBySome (c : Cell) (r : Rec) : Type 0 where
+  pub edit : Edit
+  pub is : IsLeftBy edit c r
 
 -- a cell with no record, and its lists
 abbrev pub empty_of : Head → Cell

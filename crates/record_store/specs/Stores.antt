@@ -1,5 +1,5 @@
 -- What the store of a cell keeps. This project's own rules.
-use Rattle.std.specs.Prelude.{◌≡◌, ◌||◌, List, [], Option, None, Some, if◌then◌else◌}
+use Rattle.std.specs.Prelude.{◌≡◌, ◌||◌, List, [], ◌∷◌, Option, None, Some, if◌then◌else◌}
 use Rattle.std.specs.List.{list_any}
 use Rattle.std.specs.Option.{option_map_or}
 use Rattle.std.specs.Ordering.{is_eq}
@@ -13,7 +13,7 @@ use Rattle.s57_types.specs.declared.record.Vector.{Vector}
 use Rattle.s57_types.specs.declared.cell.Cell.{Cell}
 use Rattle.cell_spec.specs.declared.edit.Edit.{Edit}
 use Rattle.cell_spec.specs.declared.key.Key.{Key}
-use Rattle.cell_spec.specs.declared.key.Key.TheVariants.{Refs, Foid}
+use Rattle.cell_spec.specs.declared.key.Key.TheVariants.{Name, Refs, Foid}
 use Rattle.cell_spec.specs.declared.key.Ref.{Ref}
 use Rattle.cell_spec.specs.Lookup.{lookup_identity, lookup_pointers, lookup_record}
 use Rattle.cell_spec.specs.Names.{identity_order, is_of_kind, name_order, same_key}
@@ -36,6 +36,17 @@ pub record ArePut (keys : List Key) (refs : RecName → List Ref) (names : Lnam 
       (if list_any (same_key (Refs n)) keys then refs n else list_in (value_of name_order pointers n))
   pub bearers_are : (l : Lnam) → list_in (value_of identity_order held l) ≡
       (if list_any (same_key (Foid l)) keys then names l else list_in (value_of identity_order bearers l))
+
+-- the row of a key whose answer is a list of pointers, and that of one whose answer is a list of names
+abbrev pub refs_row : (RecName → List Ref) → Key → List (RecName × List Ref)
+refs_row refs (Name n) = []
+refs_row refs (Refs n) = (n, refs n) ∷ []
+refs_row refs (Foid l) = []
+
+abbrev pub names_row : (Lnam → List RecName) → Key → List (Lnam × List RecName)
+names_row names (Name n) = []
+names_row names (Refs n) = []
+names_row names (Foid l) = (l, names l) ∷ []
 
 -- what edits make of the pointers and the bearers that are kept
 abbrev pub refs_after : List Edit → List (RecName × List Ref) → RecName → List Ref

@@ -1,11 +1,12 @@
 //! The pointers to names and the bearers of identifiers.
 
 ghost use Rattle.std.specs.Prelude.{◌≡◌, ◌∷◌, ◌++◌, [], IfOk, List, OnOk};
+ghost use Rattle.std.specs.List.Sorted.{IsStrictlySortedBy};
 ghost use Rattle.cell_spec.specs.declared.key.Key.{Key as SpecKey};
-ghost use Rattle.cell_spec.specs.Names.{identity_order, name_order};
+ghost use Rattle.cell_spec.specs.Names.{identity_order, key_order, name_order};
 ghost use Rattle.chain_topo.specs.Listed.{values_at};
 ghost use Rattle.row_spec.specs.Rows.{value_of};
-ghost use Rattle.record_store.specs.Stores.{ArePut, ListIsPut, list_in, names_after, refs_after};
+ghost use Rattle.record_store.specs.Stores.{ArePut, ListIsPut, list_in, names_after, names_row, refs_after, refs_row};
 
 use cell_spec::{Key, Names, Ref, Refs, orders_are_by_parts};
 use chain_topo::Groups;
@@ -30,17 +31,6 @@ impl Drop for Answers {
 }
 
 impl Answers {
-    /// No lists.
-    pub(crate) fn make() -> Answers
-        ensures pointers { result.pointers ≡ [] }
-        ensures bearers { result.bearers ≡ [] }
-    {
-        Answers {
-            pointers: SharedTable::make(),
-            bearers: SharedTable::make(),
-        }
-    }
-
     /// The same lists, which both share.
     pub(crate) fn share(&self) -> Result<Answers, AllocError>
         ensures { IfOk result (λ answers. answers ≡ self.now) }
@@ -155,47 +145,72 @@ impl Answers {
         Ok(answers)
     }
 
-    // Puts the list of a key, if its answer is one.
-    fn fill(
-        &mut self,
-        alloc: Global,
-        pointers: &Groups<RecName, Ref>,
-        bearers: &Groups<Lnam, RecName>,
-        key: Key,
-    ) -> Result<(), AllocError>
-        ensures { OnOk result ((keys : List SpecKey)
-            → ArePut keys (values_at name_order pointers.now) (values_at identity_order bearers.now) [] self.old.pointers [] self.old.bearers
-            → ArePut (keys ++ key ∷ []) (values_at name_order pointers.now) (values_at identity_order bearers.now)
-            [] self.new.pointers [] self.new.bearers) }
-    {
-        orders_are_by_parts();
-        match key {
-            Key::Name(_) => Ok(()),
-            Key::Refs(name) => {
-                let refs = Refs::copy_of(alloc, pointers.values_of(&name))?;
-                self.put_refs(alloc, name, refs)
-            }
-            Key::Foid(foid) => {
-                let names = Names::copy_of(alloc, bearers.values_of(&foid))?;
-                self.put_bearers(alloc, foid, names)
-            }
-        }
-    }
-
-    /// The lists of these keys.
+    /// The lists of these keys, which ascend. All are put at once, which costs far less than one after the other.
     pub(crate) fn filled(
         alloc: Global,
         pointers: &Groups<RecName, Ref>,
         bearers: &Groups<Lnam, RecName>,
         keys: &[Key],
     ) -> Result<Answers, AllocError>
+        requires { IsStrictlySortedBy key_order keys.now }
         ensures { IfOk result (λ answers. ArePut keys.now (values_at name_order pointers.now) (values_at identity_order bearers.now)
             [] answers.pointers [] answers.bearers) }
     {
-        let mut answers = Answers::make();
+        orders_are_by_parts();
+        let mut lists = Lists::make(alloc);
         for key in keys {
-            answers.fill(alloc, pointers, bearers, *key)?;
+            lists.push(alloc, pointers, bearers, *key)?;
         }
-        Ok(answers)
+        let Lists { refs, names } = lists;
+        let pointers = SharedTable::from_ascending(alloc, refs)?;
+        let bearers = SharedTable::from_ascending(alloc, names)?;
+        Ok(Answers { pointers, bearers })
+    }
+}
+
+// The lists of keys that ascend, as rows.
+#[derive(Drop)]
+struct Lists {
+    refs: Vec<(RecName, Shared<Refs>)>,
+    names: Vec<(Lnam, Shared<Names>)>,
+}
+
+impl Lists {
+    // No lists.
+    fn make(alloc: Global) -> Lists
+        ensures refs { result.refs.items ≡ [] }
+        ensures names { result.names.items ≡ [] }
+    {
+        Lists {
+            refs: Vec::new(alloc),
+            names: Vec::new(alloc),
+        }
+    }
+
+    // Appends the list of a key, if its answer is one.
+    fn push(
+        &mut self,
+        alloc: Global,
+        pointers: &Groups<RecName, Ref>,
+        bearers: &Groups<Lnam, RecName>,
+        key: Key,
+    ) -> Result<(), AllocError>
+        ensures refs { OnOk result (self.new.refs.items ≡ self.old.refs.items ++ refs_row (values_at name_order pointers.now) key) }
+        ensures names { OnOk result (self.new.names.items ≡ self.old.names.items ++ names_row (values_at identity_order bearers.now) key) }
+    {
+        orders_are_by_parts();
+        match key {
+            Key::Name(_) => Ok(()),
+            Key::Refs(name) => {
+                let refs = Refs::copy_of(alloc, pointers.values_of(&name))?;
+                self.refs.push((name, Shared::make(alloc, refs)?))?;
+                Ok(())
+            }
+            Key::Foid(foid) => {
+                let names = Names::copy_of(alloc, bearers.values_of(&foid))?;
+                self.names.push((foid, Shared::make(alloc, names)?))?;
+                Ok(())
+            }
+        }
     }
 }

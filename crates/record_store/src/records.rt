@@ -1,15 +1,16 @@
 //! The records of a cell by name and in file order.
 
-ghost use Rattle.std.specs.Prelude.{◌≡◌, ◌≤◌, ◌∷◌, ◌++◌, [], IfOk, Some, length, option_map};
+ghost use Rattle.std.specs.Prelude.{◌≡◌, ◌≤◌, ◌∷◌, ◌++◌, [], IfOk, length, option_map};
 ghost use Rattle.std.specs.Option.{option_copied};
+ghost use Rattle.cell_spec.specs.declared.edit.Edit.{Edit as SpecEdit};
 ghost use Rattle.cell_spec.specs.declared.edit.Edit.TheVariants.{Add, Del, Head as HeadValues};
-ghost use Rattle.cell_spec.specs.Edits.{apply_edits, left_by, list_of_kind};
+ghost use Rattle.cell_spec.specs.Edits.{apply_edits, list_of_kind};
 ghost use Rattle.cell_spec.specs.Lookup.{all_records, lookup_record};
 ghost use Rattle.cell_spec.specs.Names.{name_order};
 ghost use Rattle.row_spec.specs.Rows.{value_of};
 ghost use Rattle.cell_spec.specs.Writable.{IsWritable, record_limit};
 ghost use Rattle.record_store.specs.declared.records.Held.{Held as SpecHeld};
-ghost use Rattle.record_store.specs.Lists.{IsPlaceFor, empty_of, records_in, rows_of};
+ghost use Rattle.record_store.specs.Lists.{IsLeftBy, IsLeftBySome, IsPlaceFor, empty_of, records_in, rows_of};
 ghost use Rattle.answer_laws.specs.EditedAnswers.{FindTheirRecords};
 
 use crate::file_lists::{FileList, FileLists};
@@ -119,32 +120,25 @@ impl Records {
         match edit {
             Edit::Add(rec) | Edit::Set(rec) => {
                 let left = Shared::make(alloc, rec.copy(alloc)?)?;
-                self.with_record(alloc, edit, left)
+                self.with_record(alloc, left)
             }
             Edit::Del(name) => self.without(alloc, edit, *name),
             Edit::Head(values) => self.with_head(alloc, values),
         }
     }
 
-    // The records with an addition.
+    // The records with an addition, which isn't copied.
     fn added(self, alloc: Global, rec: Rec) -> Result<Records, AllocError>
         requires { FindTheirRecords (Add rec ∷ []) self }
         ensures { IfOk result (λ records. records ≡ apply_edits (Add rec ∷ []) self) }
     {
-        let edit = Edit::Add(rec);
-        self.edited(alloc, &edit)
+        self.with_record(alloc, Shared::make(alloc, rec)?)
     }
 
-    // The records after an edit that leaves this record.
-    fn with_record(
-        self,
-        alloc: Global,
-        edit: &Edit,
-        rec: Shared<Rec>,
-    ) -> Result<Records, AllocError>
-        requires found { FindTheirRecords (edit.now ∷ []) self }
-        requires left { left_by edit.now ≡ Some rec }
-        ensures { IfOk result (λ records. records ≡ apply_edits (edit.now ∷ []) self) }
+    // The records after any edit that leaves this record, of which there is one.
+    fn with_record(self, alloc: Global, rec: Shared<Rec>) -> Result<Records, AllocError>
+        requires { IsLeftBySome self rec }
+        ensures { IfOk result (λ records. (edit : SpecEdit) → IsLeftBy edit self rec → records ≡ apply_edits (edit ∷ []) self) }
     {
         orders_are_by_parts();
         edits_leave_their_records();

@@ -64,6 +64,15 @@ impl Model for StorePlan {
     ghost view = { λ p. p.next };
 }
 
+impl StorePlan {
+    /// The store after the edits. It takes no memory.
+    pub fn into_store(self) -> RecordStore
+        ensures { result ≡ self }
+    {
+        self.next
+    }
+}
+
 impl RecordStore {
     /// What every store keeps: its cell can be written.
     pub fn known(&self)

@@ -1,3 +1,4 @@
+pub mod AtOnce
 pub mod Chosen
 pub mod Counts
 pub mod Folded

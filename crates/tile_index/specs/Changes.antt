@@ -1,5 +1,5 @@
 -- What changes leave of the coverings that are kept. This project's own rules.
-use Rattle.std.specs.Prelude.{◌≡◌, List, [], Option, None, Some, fold, length, map, nat_lt, option_and_then, option_map, option_to_list, if◌then◌else◌}
+use Rattle.std.specs.Prelude.{◌≡◌, List, [], Option, None, Some, filter, flat_map, fold, length, map, nat_lt, option_and_then, option_map, option_to_list, if◌then◌else◌}
 use Rattle.std.specs.Option.{option_map_or}
 use Rattle.s57_types.specs.declared.name.Kind.TheVariants.{Vc}
 use Rattle.s57_types.specs.declared.name.RecName.{RecName}
@@ -10,6 +10,7 @@ use Rattle.rule_spec.specs.EdgePoints.{Segment, segments_of}
 use Rattle.rule_spec.specs.Records.{is_edge_name, the_only}
 use Rattle.row_spec.specs.Rows.{IsAscending, value_of, with_row, without_key}
 use Rattle.finding_laws.specs.Tables.{Covering, covering_of}
+use Rattle.tile_index.specs.Tilings.{is_oversized}
 use Rattle.tile_index.specs.declared.change.TileChange.{TileChange}
 
 -- the segments of a name with points: of a connected node with one point from it to it, of an edge those between neighbouring points; others have none
@@ -33,6 +34,14 @@ after_change rows change =
 -- the rows after changes, one after the other
 abbrev pub after_changes : List (RecName × Covering) → List TileChange → List (RecName × Covering)
 after_changes rows changes = fold after_change rows changes
+
+-- the coverings that changes give, with their names
+abbrev pub coverings_given : List TileChange → List (RecName × Covering)
+coverings_given changes = flat_map (λ change. map (λ covering. (change.name, covering)) (option_to_list (covering_given change))) changes
+
+-- the names of oversized coverings
+abbrev pub oversized_in : List (RecName × Covering) → List (RecName × Unit {0})
+oversized_in rows = map (λ (row : RecName × Covering). (row.0, tt)) (filter (λ (row : RecName × Covering). is_oversized row.1) rows)
 
 -- the names and their ranges
 abbrev pub ranges_in : List (RecName × Covering) → List (RecName × List TileRange)

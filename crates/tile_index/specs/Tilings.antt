@@ -3,12 +3,12 @@ use Rattle.std.specs.Prelude.{◌≡◌, ◌&&◌, Bool, true, false, not, ℤ, 
 use Rattle.std.specs.List.{list_all, list_any}
 use Rattle.std.specs.Option.{is_some, option_map_or}
 use Rattle.std.specs.declared.cmp.Ordering.{Ordering}
-use Rattle.std.specs.Ordering.{int_cmp, ordering_then}
+use Rattle.std.specs.Ordering.{int_cmp, is_eq, ordering_then}
 use Rattle.s57_types.specs.declared.name.RecName.{RecName}
 use Rattle.cell_spec.specs.Names.{name_order}
 use Rattle.geometry_spec.specs.declared.tile.TileRange.{TileRange}
 use Rattle.row_spec.specs.Rows.{value_of}
-use Rattle.pair_set.specs.Pairs.{has_pair}
+use Rattle.pair_set.specs.Pairs.{has_pair, same_pair}
 use Rattle.finding_laws.specs.Tables.{Covering, do_ranges_meet, is_oversized_range}
 
 -- a tile by its row and its column
@@ -46,6 +46,14 @@ covers covering t = not (is_oversized covering) && list_any (λ r. has_tile r t)
 -- whether each range of a name's covering has a tile
 abbrev pub has_ranges : List (RecName × Covering) → RecName → Bool
 has_ranges rows n = option_map_or (λ (covering : Covering). list_all has_some_tile covering.ranges) (value_of name_order rows n) true
+
+-- whether a tile and a name stand together among pairs
+abbrev pub is_paired : {V : Type 0} → List ((Tile × RecName) × V) → Tile → RecName → Bool
+is_paired {V} pairs t n = list_any (λ (pair : (Tile × RecName) × V). same_pair tile_order name_order pair.0.0 pair.0.1 t n) pairs
+
+-- whether a row of a name has a covering of a tile
+abbrev pub is_row_under : List (RecName × Covering) → Tile → RecName → Bool
+is_row_under rows t n = list_any (λ (row : RecName × Covering). is_eq (name_order row.0 n) && covers row.1 t) rows
 
 -- whether a name is under a tile
 abbrev pub is_under : List (RecName × Covering) → Tile → RecName → Bool

@@ -25,9 +25,9 @@ use std::marker::Model;
 /// The tiles under connected nodes and edges, seen as rows of a name and its covering, in ascending order of the names. Copies share what
 /// they hold, and a change of one of two leaves the other as it is.
 pub struct TileIndex {
-    kept: SharedTable<RecName, Shared<Cover>>,
-    in_tiles: PairSet<Tile, RecName>,
-    oversized: SharedTable<RecName, ()>,
+    pub(crate) kept: SharedTable<RecName, Shared<Cover>>,
+    pub(crate) in_tiles: PairSet<Tile, RecName>,
+    pub(crate) oversized: SharedTable<RecName, ()>,
 }
 
 impl Drop for TileIndex {
@@ -68,6 +68,15 @@ impl Model for TilePlan {
     ghost Value = { List (RecName × Covering) };
 
     ghost view = { λ p. p.index };
+}
+
+impl TilePlan {
+    /// The index after the changes. It takes no memory.
+    pub fn into_index(self) -> TileIndex
+        ensures { result ≡ self }
+    {
+        self.index
+    }
 }
 
 /// A plan, and whether it is known to leave each name the mates that it had.
@@ -336,8 +345,11 @@ impl Duplicate for TileIndex {
     }
 }
 
-// The covering that a change gives its name.
-fn covering_given(alloc: Global, change: &TileChange) -> Result<Option<Cover>, AllocError>
+/// The covering that a change gives its name.
+pub(crate) fn covering_given(
+    alloc: Global,
+    change: &TileChange,
+) -> Result<Option<Cover>, AllocError>
     ensures { IfOk result (λ cover. cover ≡ spec_given change.now) }
 {
     match &change.points {

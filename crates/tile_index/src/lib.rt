@@ -11,6 +11,7 @@ mod law;
 mod mates;
 mod range;
 mod threads;
+mod whole;
 
 pub use change::TileChange;
 pub use index::{NotedPlan, TileIndex, TilePlan};

@@ -12,8 +12,8 @@ pub reach_of-requires-clause-reads : goal.reach_of-requires-clause-reads
 reach_of-requires-clause-reads g c =
     subst (λ (d : Cell). IsReadsOf d c.reads.result.now) (c.deref-2.ensures ∙ c.self.view_is ∙ sym c.store.ensures) c.reads.ensures
 
-pub returns : goal.returns
-returns g c =
+pub returns-clause-reach : goal.returns-clause-reach
+returns-clause-reach g c =
     let told = c.in_ok-reach.ensures in
     subst (λ (d : Cell). IsReachOf c.args.edits.now.edits d c.in_ok-reach.reach) c.store.ensures
     (record { touched = told.touched; judged = told.judged; gone = told.gone; tiles = told.tiles })

@@ -15,8 +15,8 @@ replaced true old true was is = refl
 replaced true false false was is = is refl
 replaced true true false was is = refl
 
-pub returns : goal.returns
-returns g c =
+pub returns-clause-ok : goal.returns-clause-ok
+returns-clause-ok g c =
     let among = is_among g.A.Ord.cmp in
     let gone = is_lost g.A.Ord.cmp in
     on_ok_weaker c.put_gained.result (λ put a b.
@@ -29,4 +29,4 @@ returns g c =
     ∙ replaced same (among c.args.old.now a) (among c.args.new.now a) was
     (λ e. ap (has_pair g.A.Ord.cmp g.B.Ord.cmp c.args.self.now a) (sym (c.requires.exact_seconds c.args.second b (tied (g.B.Ord.cmp c.args.second b) e)))
     ∙ c.requires.old a))
-    c.put_gained.ensures
+    c.put_gained.ensures.ok

@@ -20,7 +20,7 @@ invariant_of-result c =
     (λ i a b. c.orders_are_by_parts.ensures.names a b i) (c.len-count.ensures.ascending, c.in_ok-take.ensures.ok) in
     let replaced = subst (λ (order : RecName → RecName → Ordering). (t : Tile) (n : RecName) → has_pair tile_order order c.replace.new.self t n
     ≡ cond (is_eq (order name n)) false (has_pair tile_order order pairs t n))
-    (λ i a b. c.orders_are_by_parts.ensures.names a b i) c.in_ok-replace.ensures in
+    (λ i a b. c.orders_are_by_parts.ensures.names a b i) c.in_ok-replace.ensures.ok in
     subst (λ those. IsTiling those c.replace.new.self c.mark.new.oversized) (sym both.1)
     (took_covering rows pairs c.replace.new.self c.self.inside.oversized c.mark.new.oversized name c.self.invariant both.0 replaced
     (λ n. c.in_ok-mark.ensures n))
