@@ -18,17 +18,15 @@ pub(crate) type Borne = SharedTable<Lnam, bool>;
 
 // Whether a feature bears an identifier after edits. The store is asked for the bearers.
 fn is_borne_after<L: Ledger>(
-    alloc: Global,
     store: &RecordStore,
     edits: &EditAnswers<'_>,
     foid: Lnam,
     steps: &mut Steps<L>,
-) -> Result<bool, AllocError>
-    ensures borne { IfOk result (λ stays. stays ≡ spec_is_borne edits.now.edits store.now foid) }
+) -> bool
+    ensures borne { result ≡ spec_is_borne edits.now.edits store.now foid }
     ensures steps { steps.new ≤ steps.old + 1 }
 {
-    let names = edits.bearers_after(alloc, foid, store.bearers(foid, steps))?;
-    Ok(!names.is_empty())
+    edits.is_borne_after(foid, store.bearers(foid, steps))
 }
 
 // Notes of a key's identifier whether a feature bears it after edits. Keys of names have none.
@@ -48,7 +46,7 @@ fn note<L: Ledger>(
     match key {
         Key::Name(_) | Key::Refs(_) => Ok(()),
         Key::Foid(foid) => {
-            let stays = is_borne_after(alloc, store, edits, foid, steps)?;
+            let stays = is_borne_after(store, edits, foid, steps);
             borne.put(alloc, foid, stays)
         }
     }

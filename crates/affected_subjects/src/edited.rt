@@ -100,22 +100,22 @@ fn only_place(node: &Vector) -> Option<Point>
     }
 }
 
-// Whether there is a record under an edited name, where there was one or none.
-fn is_listed_after(edit: Option<&Edit>, was: bool) -> bool
-    ensures { result ≡ spec_is_listed was (option_copied edit.entry) }
-{
-    match edit {
-        Some(Edit::Add(_) | Edit::Set(_)) => true,
-        Some(Edit::Del(_)) => false,
-        Some(Edit::Head(_)) | None => was,
-    }
-}
-
 // Whether the cell before the edits has a record, a side or an identifier.
 fn has_row(map: &DependMap, subject: Subject) -> bool
     ensures { result ≡ is_some (value_of subject_order map.now subject) }
 {
     map.reads(&subject).is_some()
+}
+
+// Whether there is a record of a name after the edit of it, if there is one. The cell before the edits is asked only where that doesn't tell.
+fn is_listed_after(edit: Option<&Edit>, map: &DependMap, name: RecName) -> bool
+    ensures { result ≡ spec_is_listed (is_some (value_of subject_order map.now (RecSubject name))) (option_copied edit.entry) }
+{
+    match edit {
+        Some(Edit::Add(_) | Edit::Set(_)) => true,
+        Some(Edit::Del(_)) => false,
+        Some(Edit::Head(_)) | None => has_row(map, Subject::Rec(name)),
+    }
 }
 
 impl<'a> Edited<'a> {
@@ -266,7 +266,7 @@ impl<'a> Edited<'a> {
         ensures { result ≡ is_subject self.now (RecSubject name) }
     {
         edits_leave_their_records();
-        is_listed_after(self.edits.find(name), has_row(self.map, Subject::Rec(name)))
+        is_listed_after(self.edits.find(name), self.map, name)
     }
 
     // Whether there is a connected node or an edge of a name.

@@ -87,18 +87,16 @@ impl Considered {
         let Err(place) = place_in(&self.few, subject) else {
             return Ok(());
         };
-        if self.more.contains(&subject) {
-            return Ok(());
-        }
         // So that both take the subject, or neither.
         self.list.reserve(1)?;
-        if self.few.len() < FEW {
+        if self.few.len() < FEW && self.more.is_empty() {
             self.few.insert(place, subject)?;
             self.list.push_reserved(subject);
             return Ok(());
         }
-        self.more.insert(subject)?;
-        self.list.push_reserved(subject);
+        if self.more.insert(subject)? {
+            self.list.push_reserved(subject);
+        }
         Ok(())
     }
 

@@ -93,16 +93,17 @@ struct Parts {
     gone: Subjects,
 }
 
-// The subjects that the edited cell has, and the others.
+// The subjects that the edited cell has, in a list with room for so many, and the others.
 fn asked(
     alloc: Global,
     edited: &Edited<'_>,
     subjects: &[Subject],
+    room: usize,
 ) -> Result<(Vec<Subject>, Vec<Subject>), AllocError>
     ensures judged { IfOk result (λ parts. parts.0.items ≡ filter (is_subject edited.now) subjects.now) }
     ensures gone { IfOk result (λ parts. parts.1.items ≡ filter (λ s. not (is_subject edited.now s)) subjects.now) }
 {
-    let mut judged = Vec::with_capacity(alloc, subjects.len())?;
+    let mut judged = Vec::with_capacity(alloc, room)?;
     let mut gone = Vec::new(alloc);
     for subject in subjects {
         if edited.has(*subject) {
@@ -122,7 +123,7 @@ fn split(alloc: Global, edited: &Edited<'_>, rounds: &Rounds) -> Result<Parts, A
     ensures gone { IfOk result (λ parts. parts.gone ≡ filter (λ s. not (is_subject edited.now s)) rounds.now.considered) }
 {
     let (unknown, known) = rounds.considered.as_slice().split_at(rounds.known_from);
-    let (mut judged, gone) = asked(alloc, edited, unknown)?;
+    let (mut judged, gone) = asked(alloc, edited, unknown, rounds.considered.len())?;
     judged.extend_from_slice(known)?;
     Ok(Parts {
         judged: Items::of_vec(judged),

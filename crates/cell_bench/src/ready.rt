@@ -1,75 +1,82 @@
 //! Rows that were prepared.
 
-ghost use Rattle.std.specs.Prelude.{◌≡◌, IfOk, IfSome, List, is_some, not};
+ghost use Rattle.std.specs.Prelude.{◌≡◌, IfOk, IfSome, List, OnOk, Some, is_some, not, if◌then◌else◌};
+ghost use Rattle.std.specs.BTreeMap.{get};
 ghost use Rattle.std.specs.List.{list_any};
+ghost use Rattle.std.specs.List.Sorted.{IsStrictlySortedBy};
 ghost use Rattle.cell_spec.specs.declared.key.Key.{Key as SpecKey};
-ghost use Rattle.cell_spec.specs.Names.{subject_order};
+ghost use Rattle.cell_spec.specs.declared.key.Subject.{Subject as SpecSubject};
+ghost use Rattle.cell_spec.specs.Ascending.{ascending};
+ghost use Rattle.cell_spec.specs.Names.{key_order, same_subject, subject_order};
 ghost use Rattle.rule_spec.specs.Affected.{has_valid_row};
-ghost use Rattle.row_spec.specs.Rows.{value_of};
-ghost use Rattle.cell_bench.specs.Ready.{ArePlaces, IsSetOf, IsValidRowOf, is_in};
+ghost use Rattle.cell_bench.specs.Ready.{ArePlaces, HaveSameKeys, IsValidRowOf, is_in};
 
-use cell_spec::{Key, Row, Rows, Subject, orders_are_by_parts};
-use shared_table::SharedTable;
+use cell_spec::{Key, Keys, Row, Rows, Subject, ascending_keys, orders_are_by_parts};
+use s57_types::Items;
 use std::alloc::{AllocError, Global};
+use std::collections::BTreeMap;
 use std::marker::Model;
 
-// The keys of a list, once each.
-type KeySet = SharedTable<Key, ()>;
+// Where the rows of subjects stand among others.
+type Places = BTreeMap<Subject, usize>;
 
-// The set of some keys.
-fn set_of(alloc: Global, keys: &[Key]) -> Result<KeySet, AllocError>
-    ensures { IfOk result (λ set. IsSetOf keys.now set) }
+// The keys in ascending order, once each.
+fn in_order(alloc: Global, keys: &[Key]) -> Result<Keys, AllocError>
+    ensures { IfOk result (λ ordered. ordered ≡ ascending key_order keys.now) }
 {
-    orders_are_by_parts();
-    let mut set = SharedTable::make();
-    for key in keys {
-        set.put(alloc, *key, ())?;
-    }
-    Ok(set)
+    Ok(ascending_keys(Items::copy_of(alloc, keys)?.into_vec()))
 }
 
-// Whether a set has a key.
-fn has_key(set: &KeySet, key: &Key) -> bool
-    ensures { result ≡ is_in set.now key.now }
+// Whether a key is among keys in order.
+fn has_key(keys: &[Key], key: &Key) -> bool
+    requires { IsStrictlySortedBy key_order keys.now }
+    ensures { result ≡ is_in keys.now key.now }
 {
     orders_are_by_parts();
-    set.get(key).is_some()
+    keys.binary_search(key).is_ok()
 }
 
-// Whether a row holds none of the keys.
-fn is_valid(set: &KeySet, row: &Row) -> bool
-    ensures { result ≡ not (list_any (is_in set.now) row.now.reads) }
+// Whether a row holds none of the keys, which are in order.
+fn is_valid(keys: &[Key], row: &Row) -> bool
+    requires { IsStrictlySortedBy key_order keys.now }
+    ensures { result ≡ not (list_any (is_in keys.now) row.now.reads) }
 {
     for key in row.reads.as_slice() {
-        if has_key(set, key) {
+        if has_key(keys, key) {
             return false;
         }
     }
     true
 }
 
-// The places of the valid rows by their subjects; of several of one subject the last.
-fn places_of(
-    alloc: Global,
-    rows: &Rows,
-    stale: &KeySet,
-) -> Result<SharedTable<Subject, usize>, AllocError>
-    ensures { (keys : List SpecKey) → IsSetOf keys stale.now → IfOk result (λ places. ArePlaces keys rows.now rows.now places) }
+// Puts the place of a subject's row, in place of the one that it has.
+fn put_place(places: &mut Places, subject: Subject, place: usize) -> Result<(), AllocError>
+    ensures { OnOk result ((s : SpecSubject) → get subject_order places.new s
+        ≡ (if same_subject subject s then Some place else get subject_order places.old s)) }
 {
     orders_are_by_parts();
-    let mut places = SharedTable::make();
+    places.insert(subject, place)?;
+    Ok(())
+}
+
+// The places of the valid rows by their subjects; of several of one subject the last. The keys are in order.
+fn places_of(alloc: Global, rows: &Rows, stale: &[Key]) -> Result<Places, AllocError>
+    requires { IsStrictlySortedBy key_order stale.now }
+    ensures { IfOk result (λ places. (keys : List SpecKey) → HaveSameKeys keys stale.now → ArePlaces keys rows.now rows.now places) }
+{
+    let mut places = BTreeMap::new(alloc);
     for k in 0..rows.len() {
         let row = rows.at(k);
         if is_valid(stale, row) {
-            places.put(alloc, row.subject, k)?;
+            put_place(&mut places, row.subject, k)?;
         }
     }
     Ok(places)
 }
 
 // The place of a subject's row, if it has one.
-fn place_of(places: &SharedTable<Subject, usize>, subject: Subject) -> Option<usize>
-    ensures { result ≡ value_of subject_order places.now subject }
+fn place_of(places: &Places, subject: Subject) -> Option<usize>
+    ensures { result ≡ get subject_order places.now subject }
 {
     orders_are_by_parts();
     places.get(&subject).copied()
@@ -79,7 +86,7 @@ fn place_of(places: &SharedTable<Subject, usize>, subject: Subject) -> Option<us
 pub(crate) struct ReadyRows<'a> {
     rows: &'a Rows,
     stale: &'a [Key],
-    places: SharedTable<Subject, usize>,
+    places: Places,
 }
 
 impl<'a> Drop for ReadyRows<'a> {
@@ -112,11 +119,12 @@ impl<'a> ReadyRows<'a> {
         ensures rows { IfOk result (λ ready. ready.rows ≡ rows.now) }
         ensures stale { IfOk result (λ ready. ready.stale ≡ stale.now) }
     {
-        let set = set_of(alloc, stale)?;
+        let ordered = in_order(alloc, stale)?;
+        let places = places_of(alloc, rows, ordered.as_slice())?;
         Ok(ReadyRows {
             rows,
             stale,
-            places: places_of(alloc, rows, &set)?,
+            places,
         })
     }
 

@@ -97,6 +97,7 @@ pub(crate) fn rejudge<L: Ledger>(
     requires found { FindTheirRecords edits.now.edits store.now }
     requires verdicts { IsVerdictTable store.now verdicts.now }
     requires few { total_of verdicts.now ≤ finding_limit }
+    requires touched { reach.now.touched ≡ touched_keys edits.now.edits store.now }
     requires gone { reach.now.gone ≡ gone_list (change_by edits.now.edits store.now) }
     requires judged { reach.now.judged ≡ affected_list (change_by edits.now.edits store.now) }
     requires exact { AreExact (apply_edits edits.now.edits store.now) ready.now }
@@ -112,7 +113,8 @@ pub(crate) fn rejudge<L: Ledger>(
     unaffected_subjects_keep_findings();
     unaffected_singles_keep_reads();
     affected_subjects_are_considered();
-    let over = Overlay::make(alloc, store, edits, steps)?;
+    let touched = reach.touched.as_slice();
+    let over = Overlay::over_keys(alloc, store, edits, touched, steps)?;
     let mut rejudged = Rejudged::start(alloc, verdicts)?;
     rejudged.forget_all(alloc, reach.gone.as_slice())?;
     let judged = reach.judged.as_slice();

@@ -1,8 +1,8 @@
 //! The findings of subjects, with how many there are.
 
-ghost use Rattle.std.specs.Prelude.{◌≡◌, ◌+◌, ◌≤◌, ◌<◌, ◌^◌, IfOk, OnErr, OnOk, length};
+ghost use Rattle.std.specs.Prelude.{◌≡◌, ◌+◌, ◌≤◌, ◌<◌, ◌^◌, IfOk, OnErr, OnOk, length, true};
 ghost use Rattle.cell_spec.specs.Names.{subject_order};
-ghost use Rattle.row_spec.specs.Rows.{IsAscending, value_of};
+ghost use Rattle.row_spec.specs.Rows.{IsAscending, value_of, without_key};
 ghost use Rattle.cell_bench.specs.Verdicts.{count_at, total_of, with_findings};
 
 use crate::table::{FindingRow, FindingTable};
@@ -88,6 +88,14 @@ impl Verdicts {
         }
     }
 
+    // Whether a subject has no row, so that nothing goes where it has no findings any more.
+    fn lacks(&self, subject: &Subject) -> bool
+        ensures { result ≡ true → without_key subject_order self.now subject.now ≡ self.now }
+    {
+        orders_are_by_parts();
+        self.table.get(subject).is_none()
+    }
+
     /// Puts these findings of a subject in place of those that it has. An `Err` is out of memory, and changes nothing.
     pub(crate) fn put(
         &mut self,
@@ -100,6 +108,9 @@ impl Verdicts {
         ensures within { total_of self.new ≤ total_of self.old + length found }
         ensures err { OnErr result (self.new ≡ self.old) }
     {
+        if found.is_empty() && self.lacks(&subject) {
+            return Ok(());
+        }
         let had = self.count_of(&subject) as u32;
         let has = found.len() as u32;
         put_found(alloc, &mut self.table, subject, found)?;

@@ -14,7 +14,7 @@ use answer_laws::{
     edited_answers, edited_cells_are_readable, formed_edits_find_their_records,
     untouched_keys_keep_answers,
 };
-use cell_spec::{Edit, Ref, orders_are_by_parts};
+use cell_spec::{Edit, Key, Ref, orders_are_by_parts};
 use chain_topo::{Look, Steps};
 use edit_answers::{EditAnswers, edits_leave_their_records};
 use edit_sets::EditSet;
@@ -82,14 +82,34 @@ impl<'a, B: Look> Overlay<'a, B> {
         ensures over { IfOk result (λ over. over ≡ apply_edits edits.now.edits (B.cell base.now)) }
         ensures steps { steps.new ≤ steps.old + length edits.now.edits + length (touched_keys edits.now.edits (B.cell base.now)) }
     {
+        let keys = touched(alloc, base, edits, steps)?;
+        Overlay::over_keys(alloc, base, edits, keys.as_slice(), steps)
+    }
+
+    /// The same look, from the keys that the edits touch. It merges the lists of these, with one look-up for each key at most.
+    ///
+    /// An `Err` means out of memory.
+    pub fn over_keys<L: Ledger>(
+        alloc: Global,
+        base: &'a B,
+        edits: &'a EditSet,
+        keys: &[Key],
+        steps: &mut Steps<L>,
+    ) -> Result<Overlay<'a, B>, AllocError>
+        requires level { edits.now.nall ≡ (B.cell base.now).head.nall }
+        requires found { find_their_records edits.now.edits (B.cell base.now) ≡ true }
+        requires room { length (all_records (B.cell base.now)) ≤ record_limit }
+        requires keys { keys.now ≡ touched_keys edits.now.edits (B.cell base.now) }
+        ensures over { IfOk result (λ over. over ≡ apply_edits edits.now.edits (B.cell base.now)) }
+        ensures steps { steps.new ≤ steps.old + length keys.now }
+    {
         edits.known();
         base.known();
         formed_edits_find_their_records();
         edited_cells_are_readable();
-        let keys = touched(alloc, base, edits, steps)?;
         let head = head_of(alloc, base, edits, steps)?;
         let answers = EditAnswers::make(alloc, edits)?;
-        let merged = Merged::make(alloc, base, &answers, keys.as_slice(), steps)?;
+        let merged = Merged::make(alloc, base, &answers, keys, steps)?;
         Ok(Overlay {
             base,
             edits,

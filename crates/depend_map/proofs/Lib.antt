@@ -1,5 +1,6 @@
 pub mod Changed
 pub mod Folded
+pub mod InOrder
 pub mod Pairs
 pub mod Range
 pub mod Steps

@@ -111,9 +111,10 @@ one_there true false true h f = refl
 one_there true true false h f = f refl refl
 one_there true true true h f = refl
 
--- lost ones are taken, then gained ones put: the new ones are there for the subject, and for others what was there
-pub replaced : (t o n h : Bool) → (t ≡ true → h ≡ o) → ((t && n) || (not (t && (o && not n)) && h)) ≡ cond t n h
+-- gained ones are put, then lost ones taken: the new ones are there for the subject, and for others what was there
+pub replaced : (t o n h : Bool) → (t ≡ true → h ≡ o) → (not (t && (o && not n)) && ((t && n) || h)) ≡ cond t n h
 replaced false o n h f = refl
-replaced true o true h f = refl
+replaced true false true h f = refl
+replaced true true true h f = refl
 replaced true false false h f = f refl
 replaced true true false h f = refl

@@ -97,10 +97,7 @@ impl DependMap {
         ensures { option_copied result ≡ value_of subject_order self.now subject.now }
     {
         orders_are_by_parts();
-        match self.reads.get(subject) {
-            Some(keys) => Some(keys),
-            None => None,
-        }
+        Some(self.reads.get(subject)?)
     }
 
     /// The subjects whose reads hold a key, in ascending order.

@@ -1,12 +1,13 @@
 //! The set of pairs of a key and a subject that reads it.
 
-ghost use Rattle.std.specs.Prelude.{◌≡◌, ◌&&◌, ◌||◌, IfOk, OnOk, not, if◌then◌else◌};
+ghost use Rattle.std.specs.Prelude.{◌≡◌, ◌&&◌, ◌||◌, IfOk, OnOk, not, true, if◌then◌else◌};
 ghost use Rattle.std.specs.List.{list_any};
 ghost use Rattle.std.specs.List.Sorted.{IsStrictlySortedBy};
+ghost use Rattle.std.specs.Ordering.{is_lt};
 ghost use Rattle.cell_spec.specs.declared.key.Key.{Key as SpecKey};
 ghost use Rattle.cell_spec.specs.declared.key.Subject.{Subject as SpecSubject};
 ghost use Rattle.cell_spec.specs.Names.{key_order, same_subject};
-ghost use Rattle.depend_map.specs.Readers.{has_pair, holds_key, same_pair};
+ghost use Rattle.depend_map.specs.Readers.{has_pair, holds_key, is_lost, same_pair};
 
 use cell_spec::{Key, Subject, ascending_keys, distinct, orders_are_by_parts};
 use s57_types::Items;
@@ -19,14 +20,6 @@ pub(crate) type ReaderSet = SharedTable<(Key, Subject), ()>;
 
 /// A pair as a row, which has no value.
 pub(crate) type ReaderRow = ((Key, Subject), ());
-
-// Whether the key stands there with the subject.
-fn has(readers: &ReaderSet, key: Key, subject: Subject) -> bool
-    ensures { result ≡ has_pair readers.now key subject }
-{
-    orders_are_by_parts();
-    readers.get(&(key, subject)).is_some()
-}
 
 // Puts the key with the subject.
 fn put(alloc: Global, readers: &mut ReaderSet, key: Key, subject: Subject) -> Result<(), AllocError>
@@ -62,25 +55,80 @@ fn holds(keys: &[Key], key: Key) -> bool
     keys.binary_search(&key).is_ok()
 }
 
-// Puts a subject's gained keys: those that aren't there with it.
+// Puts a subject's gained keys: those that aren't among its old ones, which stand there with it.
 fn put_gained(
     alloc: Global,
     readers: &mut ReaderSet,
     subject: Subject,
-    keys: &[Key],
+    old: &[Key],
+    new: &[Key],
 ) -> Result<(), AllocError>
+    requires ascending { IsStrictlySortedBy key_order old.now }
+    requires there { (k : SpecKey) → holds_key old.now k ≡ true → has_pair readers.old k subject ≡ true }
     ensures { OnOk result ((k : SpecKey) (s : SpecSubject) →
-        has_pair readers.new k s ≡ ((same_subject subject s && holds_key keys.now k) || has_pair readers.old k s)) }
+        has_pair readers.new k s ≡ ((same_subject subject s && holds_key new.now k) || has_pair readers.old k s)) }
 {
-    for key in keys {
-        if !has(readers, *key, subject) {
+    for key in new {
+        if !holds(old, *key) {
             put(alloc, readers, *key, subject)?;
         }
     }
     Ok(())
 }
 
-/// Puts new keys of a subject in place of its old ones, each that is lost or gained by itself.
+// Takes a subject's lost keys out: those of its old ones that aren't among the new ones.
+fn take_lost(
+    alloc: Global,
+    readers: &mut ReaderSet,
+    subject: Subject,
+    old: &[Key],
+    new: &[Key],
+) -> Result<(), AllocError>
+    requires { IsStrictlySortedBy key_order new.now }
+    ensures { OnOk result ((k : SpecKey) (s : SpecSubject) →
+        has_pair readers.new k s ≡ (not (same_subject subject s && is_lost old.now new.now k) && has_pair readers.old k s)) }
+{
+    for key in old {
+        if !holds(new, *key) {
+            take(alloc, readers, *key, subject)?;
+        }
+    }
+    Ok(())
+}
+
+// Puts new keys of a subject in place of its old ones, where both ascend.
+fn replace_ascending(
+    alloc: Global,
+    readers: &mut ReaderSet,
+    subject: Subject,
+    old: &[Key],
+    new: &[Key],
+) -> Result<(), AllocError>
+    requires old { IsStrictlySortedBy key_order old.now }
+    requires new { IsStrictlySortedBy key_order new.now }
+    requires kept { (k : SpecKey) → has_pair readers.old k subject ≡ holds_key old.now k }
+    ensures { OnOk result ((k : SpecKey) (s : SpecSubject) →
+        has_pair readers.new k s ≡ (if same_subject subject s then holds_key new.now k else has_pair readers.old k s)) }
+{
+    put_gained(alloc, readers, subject, old, new)?;
+    take_lost(alloc, readers, subject, old, new)
+}
+
+fn is_below(key: Key, other: Key) -> bool
+    ensures { result ≡ is_lt (key_order key other) }
+{
+    orders_are_by_parts();
+    key.cmp(&other).is_lt()
+}
+
+// Whether keys ascend, each once, as those of a read set do.
+fn ascend(keys: &[Key]) -> bool
+    ensures { result ≡ true → IsStrictlySortedBy key_order keys.now }
+{
+    keys.is_sorted_by(|key, next| is_below(*key, *next))
+}
+
+/// Puts new keys of a subject in place of its old ones, each that is lost or gained by itself. Keys that don't ascend are put in order first.
 pub(crate) fn replace_keys(
     alloc: Global,
     readers: &mut ReaderSet,
@@ -92,14 +140,12 @@ pub(crate) fn replace_keys(
     ensures { OnOk result ((k : SpecKey) (s : SpecSubject) →
         has_pair readers.new k s ≡ (if same_subject subject s then holds_key new.now k else has_pair readers.old k s)) }
 {
-    let sorted = ascending_keys(Items::copy_of(alloc, new)?.into_vec());
-    let ascending = sorted.as_slice();
-    for key in old {
-        if !holds(ascending, *key) {
-            take(alloc, readers, *key, subject)?;
-        }
+    if ascend(old) && ascend(new) {
+        return replace_ascending(alloc, readers, subject, old, new);
     }
-    put_gained(alloc, readers, subject, new)
+    let old = ascending_keys(Items::copy_of(alloc, old)?.into_vec());
+    let new = ascending_keys(Items::copy_of(alloc, new)?.into_vec());
+    replace_ascending(alloc, readers, subject, old.as_slice(), new.as_slice())
 }
 
 /// The set of these pairs.

@@ -1,3 +1,4 @@
+pub mod Borne
 pub mod KeyByKey
 pub mod NamesAfter
 pub mod Ties

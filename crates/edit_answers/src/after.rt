@@ -1,6 +1,7 @@
 //! Pointers and bearers after edits.
 
-ghost use Rattle.std.specs.Prelude.{◌≡◌, IfOk, filter};
+ghost use Rattle.std.specs.Prelude.{◌≡◌, IfOk, filter, length, nat_lt};
+ghost use Rattle.std.specs.List.{list_any};
 ghost use Rattle.cell_spec.specs.declared.key.Ref.{Ref as SpecRef};
 ghost use Rattle.answer_laws.specs.EditedAnswers.{bearers_after, is_unedited, pointers_after};
 
@@ -90,6 +91,24 @@ impl<'a> EditAnswers<'a> {
         let mut list = self.unedited_bearers(alloc, before)?;
         list.extend_from_slice(self.bearers.values_of(&foid))?;
         Ok(ascending_names(list))
+    }
+
+    /// Whether a feature bears an identifier after the edits, from those that bore it before them.
+    pub fn is_borne_after(&self, foid: Lnam, before: &[RecName]) -> bool
+        ensures { result ≡ nat_lt 0 (length (bearers_after self.now.edits foid before.now)) }
+    {
+        orders_are_by_parts();
+        if self.has_unedited(before) {
+            return true;
+        }
+        !self.bearers.values_of(&foid).is_empty()
+    }
+
+    // Whether no edit is about one of the names.
+    fn has_unedited(&self, names: &[RecName]) -> bool
+        ensures { result ≡ list_any (is_unedited self.now.edits) names.now }
+    {
+        names.iter().any(|name| self.is_unedited(*name))
     }
 
     // Whether no edit is about the name.

@@ -42,7 +42,8 @@ impl<'a, 'b> Proposal<'a, 'b> {
         ensures { IfOk result (λ rows. rows ≡ edited_rows self.now.edits.now.edits self.now.bench.now) }
     {
         self.bench.known();
-        let over = Overlay::make(alloc, self.bench.store(), self.edits, steps)?;
+        let keys = reach.touched.as_slice();
+        let over = Overlay::over_keys(alloc, self.bench.store(), self.edits, keys, steps)?;
         let subjects = reach.judged.as_slice();
         let names = part_names(alloc, subjects)?;
         let names = names.as_slice();

@@ -1,6 +1,6 @@
 //! Pieces one after another, each with its first key.
 
-ghost use Rattle.std.specs.Prelude.{◌≡◌, ◌+◌, ◌^◌, ◌<◌, ◌≤◌, [], List, length, IfOk, IfSome, OnOk, OnErr, MatchOption};
+ghost use Rattle.std.specs.Prelude.{◌≡◌, ◌+◌, ◌^◌, ◌<◌, ◌≤◌, [], List, length, IfOk, IfSome, OnOk, OnErr, MatchOption, false};
 ghost use Rattle.std.specs.Option.{option_copied};
 ghost use Rattle.row_spec.specs.Rows.{IsAscending, value_of, with_row, without_key, lower_bound};
 ghost use Rattle.row_spec.specs.Blocks.{IsBlockFor, IsBlockAt, rows_before};
@@ -97,11 +97,12 @@ impl<K: Ord + Copy + Drop, V: Drop, P: ChangingPiece<K, V>> Layer<K, V, P> {
         }
     }
 
-    // Cuts a piece in two where it is full.
-    fn cut(&mut self, alloc: Global, place: usize) -> Result<(), AllocError>
+    // Cuts a piece in two where it is full, and tells whether it was.
+    fn cut(&mut self, alloc: Global, place: usize) -> Result<bool, AllocError>
         requires { place < length self.old }
         ensures rows { rows_of self.new ≡ rows_of self.old }
         ensures some { 0 < length self.new }
+        ensures whole { IfOk result (λ cut. cut ≡ false → self.new ≡ self.old) }
     {
         let at = self.cut_place(place);
         if let Some((lower, upper)) = self.entries[place].halves(alloc, at)? {
@@ -109,8 +110,22 @@ impl<K: Ord + Copy + Drop, V: Drop, P: ChangingPiece<K, V>> Layer<K, V, P> {
                 return Err(AllocError);
             };
             self.entries[place] = lower;
+            return Ok(true);
         }
-        Ok(())
+        Ok(false)
+    }
+
+    // The place of the piece that a key goes to, which is cut first where it is full.
+    fn place_with_room(&mut self, alloc: Global, key: &K) -> Result<usize, AllocError>
+        requires { 0 < length self.old }
+        ensures rows { rows_of self.new ≡ rows_of self.old }
+        ensures place { IfOk result (IsBlockFor K.cmp (blocks_of self.new) key.now) }
+    {
+        let place = self.place_for(key);
+        if self.cut(alloc, place)? {
+            return Ok(self.place_for(key));
+        }
+        Ok(place)
     }
 
     // Puts the first row.
@@ -198,10 +213,7 @@ impl<K: Ord + Drop, V: Drop, P: Piece<K, V>> Piece<K, V> for Layer<K, V, P> {
     }
 
     fn first(&self) -> Option<&K> {
-        match self.entries.first() {
-            Some(entry) => Some(entry.key()),
-            None => None,
-        }
+        self.entries.first().map(|entry| entry.key())
     }
 
     fn get(&self, key: &K) -> Option<&V> {
@@ -271,9 +283,7 @@ impl<K: Ord + Copy + Drop, V: Drop, P: ChangingPiece<K, V>> ChangingPiece<K, V> 
         if self.entries.is_empty() {
             return self.put_first(alloc, key, value);
         }
-        let place = self.place_for(&key);
-        self.cut(alloc, place)?;
-        let place = self.place_for(&key);
+        let place = self.place_with_room(alloc, &key)?;
         self.put_at(alloc, place, key, value)
     }
 

@@ -62,10 +62,7 @@ impl<K: Ord + Drop, V: Drop> Piece<K, V> for Run<K, V> {
     }
 
     fn first(&self) -> Option<&K> {
-        match self.rows.first() {
-            Some(row) => Some(&row.0),
-            None => None,
-        }
+        self.rows.first().map(|row| &row.0)
     }
 
     fn get(&self, key: &K) -> Option<&V> {

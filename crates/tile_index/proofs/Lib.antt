@@ -1,6 +1,7 @@
 pub mod AtOnce
 pub mod Chosen
 pub mod Counts
+pub mod Extents
 pub mod Folded
 pub mod InPlace
 pub mod Meeting

@@ -10,15 +10,16 @@ ghost use Rattle.rule_spec.specs.Records.{the_only};
 ghost use Rattle.finding_laws.specs.Pairs.{box_around};
 ghost use Rattle.finding_laws.specs.Tables.{covering_of, range_order};
 ghost use Rattle.pair_set.specs.Pairs.{is_among};
+ghost use Rattle.tile_index.specs.Extents.{box_of_all, box_with as spec_box_with};
 ghost use Rattle.tile_index.specs.Changes.{covering_if_any, segments_with as spec_segments_with};
 ghost use Rattle.tile_index.specs.Tilings.{Tile as SpecTile, covers, has_some_tile, has_tile, range_with, is_oversized as spec_is_oversized, tile_order};
 
 use crate::range::{Tile, is_oversized, push_tiles};
 use cell_spec::distinct;
-use check_words::{Segment, numbered, segments_of};
+use check_words::{Segment, segments_of};
 use geo_exact::{box_of, tiles_of};
 use geometry_spec::{Box4, Point, TileRange, tiles_are_floors};
-use line_boxes::box_of_line;
+use line_boxes::united;
 use s57_types::{Kind, RecName};
 use std::alloc::{AllocError, Global};
 use std::marker::Model;
@@ -70,6 +71,7 @@ impl Cover {
     }
 
     // The ranges under segments, and the box around them.
+    #[tactic(auto, using(crate::proofs::Extents::box_is))]
     fn of_segments(alloc: Global, segments: &[Segment]) -> Result<Cover, AllocError>
         ensures { IfOk result (λ cover. cover ≡ covering_of segments.now) }
     {
@@ -77,7 +79,7 @@ impl Cover {
         tiles_are_floors();
         Ok(Cover {
             ranges: ranges_under(alloc, segments)?,
-            extent: box_of_line(&numbered(alloc, segments)?),
+            extent: extent_of(segments),
         })
     }
 
@@ -121,6 +123,27 @@ impl Cover {
             return Ok(Vec::new(alloc));
         }
         Ok(distinct(tiles_listed(alloc, ranges)?))
+    }
+}
+
+// The least box that holds a box and those of segments.
+fn box_with(start: Box4, segments: &[Segment]) -> Box4
+    ensures { result ≡ spec_box_with start segments.now }
+{
+    let mut around = start;
+    for segment in segments {
+        around = united(around, box_of(segment.0, segment.1));
+    }
+    around
+}
+
+// The least box around segments, if there are any.
+fn extent_of(segments: &[Segment]) -> Option<Box4>
+    ensures { result ≡ box_of_all segments.now }
+{
+    match segments {
+        [first, ..] => Some(box_with(box_of(first.0, first.1), segments)),
+        [] => None,
     }
 }
 

@@ -4,4 +4,4 @@ use Rattle.cell_bench.specs.Ready.{is_in}
 use Rattle.cell_bench.proofs.ready.is_valid.Given as goal
 
 abbrev pub invariant-loop-key : goal.invariant-loop-key
-invariant-loop-key l = list_any (is_in l.set) (drop l.key-index l.row.reads) ≡ list_any (is_in l.set) l.row.reads
+invariant-loop-key l = list_any (is_in l.keys) (drop l.key-index l.row.reads) ≡ list_any (is_in l.keys) l.row.reads

@@ -1,13 +1,10 @@
 use Rattle.std.proofs.Common.{◌≡◌, ◌<◌, ◌+◌, ◌++◌, ◌∷◌, [], length, take, subst, sym, ap, ◌∙◌, arith}
 use Rattle.std.proofs.lemmas.List.{take_all, take_more}
 use Rattle.std.proofs.lemmas.Option.{get_or_from_slice_get}
-use Rattle.std.specs.declared.cmp.Ordering.{Ordering}
-use Rattle.cell_spec.specs.declared.key.Subject.{Subject}
-use Rattle.row_spec.specs.Rows.{with_row}
 use Rattle.cell_bench.specs.Ready.{ArePlaces}
 use Rattle.cell_bench.proofs.ValidRows.{passed_over, placed, valid_is}
 use Rattle.cell_bench.proofs.ready.places_of.Goals as goal
-use Rattle.cell_bench.proofs.ready.places_of.Goals.{then-is_valid+in_ok-put, else-is_valid}
+use Rattle.cell_bench.proofs.ready.places_of.Goals.{then-is_valid+in_ok-put_place, else-is_valid}
 
 pub loop-k-preserved : goal.loop-k-preserved
 loop-k-preserved c = λ keys is.
@@ -20,11 +17,9 @@ loop-k-preserved c = λ keys is.
     let before = c.loop-k.invariant keys is in
     let known = sym (valid_is keys c.args.stale.now row is) ∙ sym c.is_valid.ensures in
     subst (λ first. ArePlaces keys rows first c.if-is_valid.places) (sym more) (elim c.if-is_valid.branch [
-      | then-is_valid+in_ok-put w ↦
-          let put = subst (λ (order : Subject → Subject → Ordering). w.put.new.self ≡ with_row order c.loop-k.places row.subject k)
-          (λ i a b. c.orders_are_by_parts.ensures.subjects a b i) w.in_ok-put.ensures.ok in
-          subst (ArePlaces keys rows (take k rows ++ row ∷ [])) (sym (w.places-is ∙ put))
-          (placed keys rows (take k rows) row k c.loop-k.places c.at-row.ensures (known ∙ w.if-is_valid.true) before)
+      | then-is_valid+in_ok-put_place w ↦
+          subst (ArePlaces keys rows (take k rows ++ row ∷ [])) (sym w.places-is)
+          (placed keys rows (take k rows) row k c.loop-k.places w.put_place.new.places c.at-row.ensures (known ∙ w.if-is_valid.true) w.in_ok-put_place.ensures before)
       | else-is_valid w ↦
           subst (ArePlaces keys rows (take k rows ++ row ∷ [])) (sym w.places-is)
           (passed_over keys rows (take k rows) row c.loop-k.places (known ∙ w.if-is_valid.false) before)

@@ -7,4 +7,4 @@ use Rattle.depend_map.proofs.set.put_gained.Given as goal
 
 abbrev pub invariant-loop-key : goal.invariant-loop-key
 invariant-loop-key l = (k : Key) (s : Subject)
-    → has_pair l.readers k s ≡ ((same_subject l.subject s && holds_key (take l.key-index l.keys) k) || has_pair l.fn.readers k s)
+    → has_pair l.readers k s ≡ ((same_subject l.subject s && holds_key (take l.key-index l.new) k) || has_pair l.fn.readers k s)

@@ -8,8 +8,8 @@ use Rattle.affected_subjects.proofs.EachOnce.{one_more_there}
 use Rattle.affected_subjects.proofs.Placed.{few_with, tree_with}
 use Rattle.affected_subjects.proofs.once.Considered.add.Goals as goal
 
-pub invariant_of-self-then-len-lt-FEW : goal.invariant_of-self-then-len-lt-FEW
-invariant_of-self-then-len-lt-FEW c =
+pub invariant_of-self-then-is_empty : goal.invariant_of-self-then-is_empty
+invariant_of-self-then-is_empty c =
     let x = c.args.subject in
     let few = c.self.inside.few.items in
     let now = c.in_ok-insert.ensures.items in (
@@ -21,8 +21,8 @@ invariant_of-self-then-len-lt-FEW c =
           ∙ ap (list_any (same_subject s)) (sym (c.push_reserved.ensures.items ∙ ap (λ list. list ++ x ∷ []) c.in_ok-reserve.ensures.items)),
     )
 
-pub invariant_of-self-2 : goal.invariant_of-self-2
-invariant_of-self-2 c =
+pub invariant_of-self-then-branch : goal.invariant_of-self-then-branch
+invariant_of-self-then-branch c =
     let x = c.args.subject in
     let few = c.self.inside.few.items in (
       c.self.invariant.0,
@@ -30,5 +30,5 @@ invariant_of-self-2 c =
           tree_with _ (same_subject x s) (list_any (same_subject s) few) _ _ _ (c.in_ok-insert-2.ensures.updates.0 s)
           (ap is_eq (c.orders_are_by_parts.ensures.subjects x s)) (c.self.invariant.1 s)
           ∙ one_more_there s x c.self.inside.list.items
-          ∙ ap (list_any (same_subject s)) (sym (c.push_reserved-2.ensures.items ∙ ap (λ list. list ++ x ∷ []) c.in_ok-reserve.ensures.items)),
+          ∙ ap (list_any (same_subject s)) (sym (c.push_reserved-then-branch.ensures.items ∙ ap (λ list. list ++ x ∷ []) c.in_ok-reserve.ensures.items)),
     )

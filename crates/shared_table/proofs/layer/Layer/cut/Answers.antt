@@ -23,8 +23,8 @@ invariant_of-self-in-Some g c =
           c.in-Some.lower c.in-Some.upper lt c.index.ensures start halves)),
     )
 
-pub returns-in-Ok-clause-rows : goal.returns-in-Ok-clause-rows
-returns-in-Ok-clause-rows g c =
+pub returns-in-Some-clause-rows : goal.returns-in-Some-clause-rows
+returns-in-Some-clause-rows g c =
     let lt : c.args.place < length c.self.inside.entries.items = rw (← c.self.view_is) at c.requires in
     let start = rw (c.in-Some.is) at c.in_ok-lower.ensures.start in
     let halves = rw (c.in-Some.is) at c.in_ok-lower.ensures.parts in
