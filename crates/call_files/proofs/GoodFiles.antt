@@ -38,7 +38,8 @@ scripts_are names files commands good = (
   },
 )
 
-pub order_is : (quotas name : List ℕ) (files : Files) (good : IsGoodOrder quotas name files) → length quotas < 2 ^ 32 → OrderIs quotas name files (Ok good.sessions)
+pub order_is : (quotas name : List ℕ) (files : Files) (good : IsGoodOrder quotas name files) → length quotas < 2 ^ 32
+    → OrderIs quotas name files (Ok good.sessions)
 order_is quotas name files good few =
     inl (
       order_line good.sessions,

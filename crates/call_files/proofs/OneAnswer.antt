@@ -7,7 +7,8 @@ use Rattle.enc_outside.specs.Files.{Files}
 use Rattle.script_text.specs.Faults.{IsFirstFault}
 use Rattle.script_text.proofs.Readings.{same_readings}
 use Rattle.text_spec.specs.declared.command.Command.{Command}
-use Rattle.call_files.specs.Inputs.{AndThen, AreScripts, CellIs, FileIs, IsFirstBad, OrderIs, ScriptIn, ScriptIs, ScriptsAre, cell_limit, order_limit, script_limit}
+use Rattle.call_files.specs.Inputs.{AndThen, AreScripts, CellIs, FileIs, IsFirstBad, OrderIs, ScriptIn, ScriptIs, ScriptsAre}
+use Rattle.call_files.specs.Inputs.{cell_limit, order_limit, script_limit}
 use Rattle.report_text.specs.declared.status.Status.{Status}
 use Rattle.report_text.specs.declared.status.Status.TheVariants.{Done, Usage, Absent, BadCell, BadScript, ReadFault, WriteFault, TooLarge, NoMemory}
 use Rattle.report_text.specs.declared.status.Status.TheVariants.{BadOrder, Stuck, TooManyFindings, BadUpdate, Refused, BadJournal, DiskFault, OpRefused}

@@ -3,6 +3,7 @@
 ghost use Rattle.std.specs.Prelude.{◌≡◌, ◌⊎◌, ◌≤◌, Err, IfErr, IfOk, Ok, length};
 ghost use Rattle.cell_findings.specs.AllFindings.{IsAllOf};
 ghost use Rattle.cell_spec.specs.Writable.{IsWritable};
+ghost use Rattle.export_laws.specs.DecodedTypes.{AreFileBytes};
 ghost use Rattle.file_spec.specs.DecodedCell.{decoded_cell};
 ghost use Rattle.history_spec.specs.Steps.{finding_limit};
 ghost use Rattle.call_files.specs.Inputs.{CellIs, FileIs, IsCellOfFile, IsFile, IsInputStatus, IsJudged, IsNotOfOrder, IsNotOfText, Tells, cell_in, cell_limit};
@@ -48,11 +49,18 @@ impl Checked {
     }
 }
 
-/// The cell of a file, before its findings are counted.
-fn decode(alloc: Global, bytes: &[u8]) -> Result<Cell, Status>
-    requires small { length bytes.now ≤ 16777216 }
-    ensures decoded { IfOk result (λ cell. decoded_cell bytes.now ≡ Ok cell) }
-    ensures refused { IfErr result (λ status. (cell_in bytes.now ≡ Err status) ⊎ (status ≡ Status.NoMemory)) }
+/// Bytes are what a file may have.
+fn are_file_bytes(bytes: &[u8])
+    ensures { AreFileBytes bytes.now }
+{
+    let _ = bytes;
+}
+
+/// The cell of a file, before its findings are counted. The file's bytes are given back then.
+fn decode(alloc: Global, bytes: Vec<u8>) -> Result<Cell, Status>
+    requires small { length bytes.items ≤ 16777216 }
+    ensures decoded { IfOk result (λ cell. decoded_cell bytes.items ≡ Ok cell) }
+    ensures refused { IfErr result (λ status. (cell_in bytes.items ≡ Err status) ⊎ (status ≡ Status.NoMemory)) }
     ensures writable { IfOk result IsWritable }
     ensures of_file { IfOk result IsCellOfFile }
     ensures status { IfErr result (IsInputStatus (λ n. ⊥)) }
@@ -60,7 +68,9 @@ fn decode(alloc: Global, bytes: &[u8]) -> Result<Cell, Status>
     ensures text { IfErr result IsNotOfText }
 {
     decoded_cell_is_writable();
-    match cell_read::read_cell(alloc, bytes) {
+    let file = bytes.as_slice();
+    are_file_bytes(file);
+    match cell_read::read_cell(alloc, file) {
         Ok(cell) => Ok(cell),
         Err(ReadRefusal::Fault(fault)) => Err(Status::BadCell(fault)),
         Err(ReadRefusal::NoMemory) => Err(Status::NoMemory),
@@ -77,12 +87,7 @@ fn judge_cell<R: Threads + Sync>(rt: &R, alloc: Global, bytes: Vec<u8>) -> Resul
     ensures kind { IfErr result IsNotOfOrder }
     ensures text { IfErr result IsNotOfText }
 {
-    let decoded = decode(alloc, &bytes);
-    drop(bytes);
-    let cell = match decoded {
-        Ok(cell) => cell,
-        Err(status) => return Err(status),
-    };
+    let cell = decode(alloc, bytes)?;
     match find_all_in_threads(rt, alloc, &cell, FINDING_LIMIT) {
         Ok(findings) => Ok(Checked { cell, findings }),
         Err(LoadRefusal::FindingsFull) => Err(Status::TooManyFindings),
@@ -98,12 +103,7 @@ fn judge_bench<R: Threads + Sync>(rt: &R, alloc: Global, bytes: Vec<u8>) -> Resu
     ensures status { IfErr result (IsInputStatus (λ n. ⊥)) }
     ensures text { IfErr result IsNotOfText }
 {
-    let decoded = decode(alloc, &bytes);
-    drop(bytes);
-    let cell = match decoded {
-        Ok(cell) => cell,
-        Err(status) => return Err(status),
-    };
+    let cell = decode(alloc, bytes)?;
     match load(rt, alloc, cell) {
         Ok(bench) => Ok(bench),
         Err(LoadRefusal::FindingsFull) => Err(Status::TooManyFindings),
@@ -111,7 +111,7 @@ fn judge_bench<R: Threads + Sync>(rt: &R, alloc: Global, bytes: Vec<u8>) -> Resu
     }
 }
 
-/// The cell of an input file, with its findings.
+/// The cell of an input file, with its findings. An `Err` is the status at which the call ends.
 pub fn read_cell<R: Threads + Sync, H: Shelf>(
     rt: &R,
     alloc: Global,
@@ -133,7 +133,7 @@ pub fn read_cell<R: Threads + Sync, H: Shelf>(
     judge_cell(rt, alloc, bytes)
 }
 
-/// The bench of an input file's cell.
+/// The bench of an input file's cell. An `Err` is the status at which the call ends.
 pub fn read_bench<R: Threads + Sync, H: Shelf>(
     rt: &R,
     alloc: Global,
@@ -153,7 +153,7 @@ pub fn read_bench<R: Threads + Sync, H: Shelf>(
     judge_bench(rt, alloc, bytes)
 }
 
-/// The bytes of an update file, of which there may be as many as of a cell file.
+/// The bytes of an update file, of which there may be as many as of a cell file. An `Err` is the status at which the call ends.
 pub fn read_update<H: Shelf>(alloc: Global, shelf: &mut H, name: &str) -> Result<Vec<u8>, Status>
     ensures tells { Tells (λ bytes. bytes.items) (FileIs cell_limit name.now) (IsFile name.now)
         (H.files shelf.old) (H.read_faults shelf.old) (H.read_faults shelf.new) result }

@@ -29,7 +29,7 @@ fn judge_order(alloc: Global, bytes: &[u8], quotas: &[u32]) -> Result<Order, Sta
     }
 }
 
-/// The order of an input file.
+/// The order of an input file. An `Err` is the status at which the call ends.
 pub fn order_in_file<H: Shelf>(
     alloc: Global,
     shelf: &mut H,

@@ -33,7 +33,7 @@ fn judge_script(alloc: Global, bytes: &[u8], session: u32) -> Result<Script, Sta
     }
 }
 
-/// The script of a session in an input file.
+/// The script of a session in an input file. An `Err` is the status at which the call ends.
 pub fn script_in_file<H: Shelf>(
     alloc: Global,
     shelf: &mut H,
@@ -63,7 +63,7 @@ fn push_script(scripts: &mut Vec<Script>, script: Script) -> Result<(), AllocErr
     Ok(())
 }
 
-/// The scripts of sessions in input files, in order.
+/// The scripts of sessions in input files, in order. An `Err` is the status at which the call ends.
 pub fn scripts_in_files<H: Shelf>(
     alloc: Global,
     shelf: &mut H,
@@ -93,7 +93,7 @@ pub fn scripts_in_files<H: Shelf>(
     Ok(scripts)
 }
 
-/// How many views and commits each script has.
+/// How many views and commits each script has. An `Err` means out of memory.
 pub fn quotas_of(alloc: Global, scripts: &[Script]) -> Result<Vec<u32>, AllocError>
     ensures { IfOk result (λ quotas. quotas.items ≡ quotas_of_lem scripts.now) }
 {

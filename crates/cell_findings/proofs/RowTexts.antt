@@ -33,24 +33,21 @@ row_counts (row ∷ rows) =
     let summed : total_of (row ∷ rows) ≡ length row.1 + total_of rows = sum_by-cons (λ (r : Subject × List Finding). length r.1) row rows in
     let first : length (findings_of_row row) ≡ length row.1 = row_count row.0 row.1 in let rest = row_counts rows in omega (arith, joined, summed, first, rest)
 
-text_of_rows : (c : Cell) (rows : List (Subject × List Finding)) (findings : List SubjectFinding) → findings ≡ findings_of_rows rows
-    → (count_line c ++ total_line (length findings)) ++ flat_map line_of findings ++ codes "end\n" ≡ text_with c rows
-unfolding text_with
-text_of_rows c rows findings is =
-    ap (λ (fs : List SubjectFinding). (count_line c ++ total_line (length fs)) ++ flat_map line_of fs ++ codes "end\n") is
-    ∙ ap (λ n. (count_line c ++ total_line n) ++ flat_map line_of (findings_of_rows rows) ++ codes "end\n") (row_counts rows)
-    ∙ ap (λ text. (count_line c ++ total_line (total_of rows)) ++ text ++ codes "end\n") (row_texts_all rows)
-
 -- parts appended one after the other
-appended : (before a b c d : List ℕ) → (((before ++ a) ++ b) ++ c) ++ d ≡ before ++ (((a ++ b) ++ c) ++ d)
-appended before a b c d =
-    ap (λ text. (text ++ c) ++ d) (append_assoc before a b)
-    ∙ ap (λ text. text ++ d) (append_assoc before (a ++ b) c)
-    ∙ append_assoc before ((a ++ b) ++ c) d
+appended : (before a b c : List ℕ) → ((before ++ a) ++ b) ++ c ≡ before ++ ((a ++ b) ++ c)
+appended before a b c = ap (λ text. text ++ c) (append_assoc before a b) ∙ append_assoc before (a ++ b) c
 
--- the text of findings that are those of rows, behind another
+-- the text of a cell with rows, behind another
+pub text_with-rows : (before : List ℕ) (c : Cell) (rows : List (Subject × List Finding))
+    → ((before ++ (count_line c ++ total_line (total_of rows))) ++ flat_map row_lines rows) ++ codes "end\n" ≡ before ++ text_with c rows
+unfolding text_with
+text_with-rows before c rows = appended before (count_line c ++ total_line (total_of rows)) (flat_map row_lines rows) (codes "end\n")
+
+-- the same of findings that are those of rows
 pub text_with-findings : (before : List ℕ) (c : Cell) (rows : List (Subject × List Finding)) (findings : List SubjectFinding) → findings ≡ findings_of_rows rows
-    → (((before ++ count_line c) ++ total_line (length findings)) ++ flat_map line_of findings) ++ codes "end\n" ≡ before ++ text_with c rows
+    → ((before ++ (count_line c ++ total_line (length findings))) ++ flat_map line_of findings) ++ codes "end\n" ≡ before ++ text_with c rows
 text_with-findings before c rows findings is =
-    appended before (count_line c) (total_line (length findings)) (flat_map line_of findings) (codes "end\n")
-    ∙ ap (λ text. before ++ text) (text_of_rows c rows findings is)
+    ap (λ (fs : List SubjectFinding). ((before ++ (count_line c ++ total_line (length fs))) ++ flat_map line_of fs) ++ codes "end\n") is
+    ∙ ap (λ n. ((before ++ (count_line c ++ total_line n)) ++ flat_map line_of (findings_of_rows rows)) ++ codes "end\n") (row_counts rows)
+    ∙ ap (λ text. ((before ++ (count_line c ++ total_line (total_of rows))) ++ text) ++ codes "end\n") (row_texts_all rows)
+    ∙ text_with-rows before c rows

@@ -24,12 +24,15 @@ use Rattle.room_laws.specs.Orders.{quotas_of}
 use Rattle.call_files.specs.Inputs.{cell_limit}
 use Rattle.enc_top.specs.Inputs.{OutputIs, RoomIs, drill_answer}
 use Rattle.call_files.specs.Outside.{AreWritten, Outside}
-use Rattle.enc_top.specs.Outcome.{IsCause, IsCauseOf, IsEdgeReadBack, IsEdgeWorkOf, IsExact, IsExpected, IsFormReadBack, IsMadeReadBack, IsMakeOf, IsOutReadBack, IsReadBackFrom, IsReplayOf, IsRoomOf, IsRoomReadBack, IsUpdateReadBack, IsUpdateWorkOf}
+use Rattle.enc_top.specs.Outcome.{IsCause, IsCauseOf, IsEdgeReadBack, IsEdgeWorkOf, IsExact, IsExpected, IsFormReadBack, IsMadeReadBack, IsMakeOf}
+use Rattle.enc_top.specs.Outcome.{IsOutReadBack, IsReadBackFrom, IsReplayOf, IsRoomOf, IsRoomReadBack, IsUpdateReadBack, IsUpdateWorkOf}
 use Rattle.whole_files.specs.Output.{Adds}
 use Rattle.enc_top.specs.Output.{AddsFrom}
 use Rattle.call_files.specs.Task.{Task}
 use Rattle.enc_top.specs.Task.{check_task, drill_task, left_task, make_task, probe_task, run_task}
-use Rattle.enc_top.specs.Words.{Form, apply_among, apply_form, check_among, check_form, coordinate_of, drill_among, drill_form, drill_of, edge_among, edge_form, edge_of, form_of, is_between, join_in, make_among, make_form, make_of, no_form, number_up_to, probe_among, probe_form, probe_of, replay_among, replay_form, room_among, room_form, split_in}
+use Rattle.enc_top.specs.Words.{Form, apply_among, apply_form, check_among, check_form, coordinate_of, drill_among, drill_form, drill_of, edge_among}
+use Rattle.enc_top.specs.Words.{edge_form, edge_of, form_of, is_between, join_in, make_among, make_form, make_of, no_form, number_up_to, probe_among}
+use Rattle.enc_top.specs.Words.{probe_form, probe_of, replay_among, replay_form, room_among, room_form, split_in}
 use Rattle.call_files.specs.Words.{is_word}
 use Rattle.report_text.specs.declared.status.Status.{Status}
 use Rattle.report_text.specs.declared.status.Status.TheVariants.{Done, Usage, Absent, BadCell, BadScript, ReadFault, WriteFault, TooLarge, NoMemory}

@@ -16,7 +16,8 @@ use Rattle.enc_top.specs.declared.operation.Operation.TheVariants.{Split, Join}
 use Rattle.enc_top.specs.Commits.{IsCommitStatus, committed}
 use Rattle.call_files.specs.Inputs.{CellIs, IsFile, IsInputStatus, IsJudged, IsNotOfText, Tells}
 use Rattle.enc_top.specs.Inputs.{IsInputOf, IsReached, OutputIs}
-use Rattle.enc_top.specs.Operations.{IsOperation, IsOperationEnd, IsOperationStatus, OperationKeeps, operated, operation_edits, operation_refusal, refused_operation}
+use Rattle.enc_top.specs.Operations.{IsOperation, IsOperationEnd, IsOperationStatus, OperationKeeps, operated, operation_edits, operation_refusal}
+use Rattle.enc_top.specs.Operations.{refused_operation}
 use Rattle.enc_top.specs.Outcome.{IsAskedBy}
 use Rattle.enc_top.specs.Task.{left_task}
 use Rattle.call_files.specs.Task.{task_of}

@@ -45,7 +45,7 @@ IsBuilt (probe_form cell at) = Unit {0}
 IsBuilt (apply_form cell out update) = Unit {0}
 IsBuilt no_form = ⊥
 
--- the words are in one of the forms; where it has no input files, no read was tried: so often reads had failed before and after
+-- the words are in one of the forms; where it has no input files, as many reads had failed before as after
 abbrev pub IsBuiltFor : Form → ℕ → ℕ → Type 0
 IsBuiltFor (make_form n out) before after = after ≡ before
 IsBuiltFor (drill_form n sessions) before after = after ≡ before
@@ -128,7 +128,8 @@ IsOutput (probe_form cell at) files task = IsProbeOf cell at files task
 IsOutput (apply_form cell out update) files task = IsUpdateWorkOf cell out update files task
 IsOutput no_form files task = ⊥
 
--- what a form asks for: by its words alone where it has no input files, and then no read was tried; by the files otherwise, where these are told
+-- what a form asks for: by its words alone where it has no input files, and then as many reads had failed before as after; by the files otherwise, where
+-- these are told
 abbrev pub Asks : Form → Option Files → (before after : ℕ) → Result Task Status → Type 0
 Asks (make_form n out) files before after answer = (answer ≡ Ok (make_task n out)) × (after ≡ before)
 Asks (drill_form n sessions) files before after answer = (answer ≡ drill_answer n sessions) × (after ≡ before)

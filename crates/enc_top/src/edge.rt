@@ -65,7 +65,7 @@ fn edit<R: Threads + Sync, H: Shelf>(
         Err(status) => return Err(status),
     };
     match operate::<R, Brand>(rt, alloc, bench, operation, Blank::new(1)) {
-        Ok(left) => Ok(left_work(alloc, &left, out)?),
+        Ok(left) => Ok(left_work(alloc, left, out)?),
         Err(status) => Err(status),
     }
 }

@@ -13,11 +13,9 @@ ghost use Rattle.call_files.specs.Task.{task_of};
 
 use call_files::{Export, Work};
 use cell_bench::Bench;
-use cell_write::write_cell;
 use chain_topo::Steps;
 use commit_book::{Book, BookRefusal, Prepared, Reply, StateRefusal};
 use edit_sets::EditSet;
-use file_spec::writable_cell_is_read_back;
 use history_spec::Asked;
 use recheck::prepare;
 use report_text::{Status, print_findings};
@@ -84,20 +82,16 @@ fn refusal_of(reply: &Reply) -> Option<StateRefusal>
     }
 }
 
-/// The text of a bench's cell, and its file.
-pub(crate) fn left_work(alloc: Global, bench: &Bench, out: &str) -> Result<Work, AllocError>
-    ensures task { IfOk result (λ work. task_of work ≡ left_task bench.now out.now) }
-    ensures read_back { IfOk result (λ work. decoded_cell (encoded_cell bench.now) ≡ Ok bench.now) }
+/// The text of a bench's cell, and its file. The bench is given back before the file takes its memory.
+pub(crate) fn left_work(alloc: Global, bench: Bench, out: &str) -> Result<Work, AllocError>
+    ensures task { IfOk result (λ work. task_of work ≡ left_task bench out.now) }
+    ensures read_back { IfOk result (λ work. decoded_cell (encoded_cell bench) ≡ Ok bench) }
 {
-    bench.known();
     let mut text = Vec::new(alloc);
-    print_findings(alloc, bench, &mut text)?;
-    let cell = bench.to_cell(alloc)?;
-    writable_cell_is_read_back(&cell);
-    let bytes = write_cell(alloc, &cell)?;
-    let name = String::from_str(alloc, out)?;
+    print_findings(alloc, &bench, &mut text)?;
+    let export = Export::of_bench(alloc, bench, out)?;
     Ok(Work {
         text,
-        export: Some(Export { name, bytes }),
+        export: Some(export),
     })
 }

@@ -113,5 +113,5 @@ fn room_work<R: Threads + Wait + Sync, M: Meet + Sync>(
         Err(end) => return Err(end),
     };
     let (book, transcripts) = held.into_parts();
-    Ok(work_of(alloc, out, book, &transcripts)?)
+    Ok(work_of(alloc, out, book, transcripts)?)
 }

@@ -31,6 +31,7 @@ use cell_findings::push_cell;
 use commit_book::Book;
 use enc_outside::{Meet, Shelf, Sink};
 use export_laws::exports_are_read_back;
+use order_text::Order;
 use report_text::Status;
 use run_laws::runs_take_their_course;
 use script_text::Script;
@@ -304,7 +305,7 @@ fn run_in_order_of<R: Threads + Sync, H: Shelf>(
         Ok(sessions) => sessions,
         Err(status) => return Err(status),
     };
-    run_of(rt, alloc, bench, out, scripts, sessions.as_slice())
+    run_of(rt, alloc, bench, out, scripts, sessions)
 }
 
 /// The report of running scripts on the cell of a bench in an order, and the file of the cell that is left.
@@ -314,15 +315,16 @@ fn run_of<R: Threads + Sync>(
     bench: Bench,
     out: &str,
     scripts: Vec<Script>,
-    order: &[u32],
+    order: Order,
 ) -> Result<Work, Status>
     requires few { length scripts.items ≤ session_limit }
     requires short { All IsShortScript scripts.items }
-    requires order { IsOrder (quotas_of_scripts scripts.items) order.now }
-    ensures run { IfOk result (λ work. task_of work ≡ run_task bench out.now scripts.items order.now) }
+    requires order { IsOrder (quotas_of_scripts scripts.items) order }
+    ensures run { IfOk result (λ work. task_of work ≡ run_task bench out.now scripts.items order) }
     ensures status { IfErr result (λ status. status ≡ Status.NoMemory) }
 {
     let book = Book::of_bench(alloc, bench);
-    let (book, transcripts) = replay(rt, alloc, book, scripts, order)?.into_parts();
-    Ok(work_of(alloc, out, book, &transcripts)?)
+    let (book, transcripts) = replay(rt, alloc, book, scripts, order.as_slice())?.into_parts();
+    drop(order);
+    Ok(work_of(alloc, out, book, transcripts)?)
 }

@@ -68,26 +68,26 @@ fn apply_file<R: Threads + Sync, H: Shelf>(
         Ok(bytes) => bytes,
         Err(status) => return Err(status),
     };
-    match leave::<R, Brand>(rt, alloc, bench, &bytes, Blank::new(1)) {
-        Ok(left) => Ok(left_work(alloc, &left, out)?),
+    match leave::<R, Brand>(rt, alloc, bench, bytes, Blank::new(1)) {
+        Ok(left) => Ok(left_work(alloc, left, out)?),
         Err(status) => Err(status),
     }
 }
 
-/// The bench of the cell that an update file leaves.
+/// The bench of the cell that an update file leaves. The file's bytes are given back before its edits are judged.
 fn leave<R: Threads + Sync, L: Ledger>(
     rt: &R,
     alloc: Global,
     bench: Bench,
-    bytes: &[u8],
+    bytes: Vec<u8>,
     blank: Blank,
 ) -> Result<Bench, Status>
-    requires small { length bytes.now ≤ 16777216 }
+    requires small { length bytes.items ≤ 16777216 }
     requires name { blank.name ≡ L.name }
     requires parts { blank.parts ≡ L.parts }
     requires some_part { 0 < L.parts }
-    ensures judged { IsJudged (λ left. left) (updated bench bytes.now) result }
-    ensures made { IfOk result (λ left. updated_cell bench bytes.now ≡ Ok left) }
+    ensures judged { IsJudged (λ left. left) (updated bench bytes.items) result }
+    ensures made { IfOk result (λ left. updated_cell bench bytes.items ≡ Ok left) }
     ensures ends { IfErr result IsUpdateEnd }
 {
     let mut steps = start_counter::<L>(blank);
@@ -99,11 +99,11 @@ fn leave<R: Threads + Sync, L: Ledger>(
 }
 
 /// The edits that an update file stands for on the cell of a bench.
-fn edits_of(alloc: Global, bench: &Bench, bytes: &[u8]) -> Result<EditSet, UpdateRefusal>
-    requires { length bytes.now ≤ 16777216 }
-    ensures { MatchResult result (IsUpdate bench.now bytes.now) (IsUpdateRefusal bench.now bytes.now) }
+fn edits_of(alloc: Global, bench: &Bench, bytes: Vec<u8>) -> Result<EditSet, UpdateRefusal>
+    requires { length bytes.items ≤ 16777216 }
+    ensures { MatchResult result (IsUpdate bench.now bytes.items) (IsUpdateRefusal bench.now bytes.items) }
 {
     bench.known();
     let cell = bench.to_cell(alloc)?;
-    update_edits(alloc, &cell, bytes)
+    update_edits(alloc, &cell, &bytes)
 }

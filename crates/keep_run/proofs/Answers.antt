@@ -3,6 +3,8 @@ use Rattle.std.proofs.Common.{◌≡◌, inl, inr, ℕ, ◌≤◌, List, Option,
 use Rattle.std.specs.Prelude.{IfErr, IfOk, IfSome}
 use Rattle.enc_outside.specs.Files.{Files}
 use Rattle.s57_types.specs.declared.cell.Cell.{Cell}
+use Rattle.file_spec.specs.DecodedCell.{decoded_cell}
+use Rattle.file_spec.specs.EncodedCell.{encoded_cell}
 use Rattle.text_spec.specs.declared.command.Command.{Command}
 use Rattle.script_text.specs.declared.script.Script.{Script}
 use Rattle.crash_disk.specs.Disk.{LeavesOnly}
@@ -14,7 +16,6 @@ use Rattle.report_text.specs.declared.status.Status.TheVariants.{JournalFull}
 use Rattle.call_files.specs.Inputs.{CellIs, IsFile, IsInputStatus, IsNotOfOrder, ScriptIs, Tells}
 use Rattle.call_files.specs.declared.cell_input.Checked.{Checked}
 use Rattle.call_files.specs.declared.work.Work.{Work}
-use Rattle.call_files.specs.Task.{task_of}
 use Rattle.call_files.proofs.Answered.{status_of_more, tells_first, tells_later}
 use Rattle.keep_run.specs.Causes.{AreGiven, InputIs, IsAskedOf, IsImageIn, IsInputOf, IsReached, IsUntouched, IsWorkOf}
 use Rattle.keep_run.specs.Keeps.{IsKeepEnd, IsKept, IsKeptImage}
@@ -99,17 +100,17 @@ module _ (form : KeepForm) (files : Option Files) (reads : ℕ) (content now : O
 
     -- the script was run
     pub kept_done : (reads_now : ℕ) (kept : Kept) (work : Work) → IsKept start script content now images kept
-        → task_of work ≡ record { text = kept.text.items; file = Some (form.out, kept.bytes.items) }
+        → IsWorkOf form.out (Ok kept) (Ok work)
         → IsAskedOf form files reads reads_now content now faults faults_now images (Ok work)
-    kept_done reads_now kept work is task = record {
+    kept_done reads_now kept work is of_kept = record {
       start = start;
       script = script;
       commits = is.commits;
       given = given;
       journal = is.journal;
       few = is.few;
-      ends = task ∙ (λ i. record { text = is.run.text_is i; file = Some (form.out, is.run.bytes_are i) });
-      read_back = is.run.read_back;
+      ends = of_kept.0 ∙ (λ i. record { text = is.run.text_is i; file = Some (form.out, encoded_cell (is.run.cell_is i)) });
+      read_back = subst (λ (d : Cell). decoded_cell (encoded_cell d) ≡ Ok d) is.run.cell_is of_kept.1;
       left = is.run.left;
     }
 

@@ -1,5 +1,5 @@
 -- A journal that is opened and kept: what ends it, what it gives, and what a crash leaves meanwhile.
-use Rattle.std.proofs.Common.{◌≡◌, inl, inr, false, ℕ, ◌≤◌, List, length, Option, None, Some, Ok, refl, ap, ◌∙◌, subst, arith}
+use Rattle.std.proofs.Common.{◌≡◌, inl, inr, false, ℕ, ◌≤◌, List, length, Option, None, Some, refl, ap, ◌∙◌, subst, arith}
 use Rattle.std.specs.Prelude.{IfSome, IsSome}
 use Rattle.std.proofs.lemmas.Bool.{false≢true}
 use Rattle.call_files.proofs.Answered.{rose_earlier}
@@ -7,8 +7,6 @@ use Rattle.s57_types.specs.declared.cell.Cell.{Cell}
 use Rattle.rule_spec.specs.Findings.{finding_total}
 use Rattle.text_spec.specs.declared.command.Command.{Command}
 use Rattle.history_spec.specs.Steps.{AcceptedCommit, finding_limit}
-use Rattle.file_spec.specs.DecodedCell.{decoded_cell}
-use Rattle.file_spec.specs.EncodedCell.{encoded_cell}
 use Rattle.commit_book.specs.Books.{BookState, history_of}
 use Rattle.crash_disk.specs.Disk.{LeavesOnly}
 use Rattle.crash_disk.proofs.Moments.{then, weakened}
@@ -76,16 +74,14 @@ left_on content images c commits journal opening commits_are still whole =
 -- what is told of the book that it left, where the book and the lines are given again
 pub kept_with : (c : Cell) (commits : List AcceptedCommit) (script : List Command) (book told : BookState) (lines told_lines : List ℕ) (count : ℕ) (kept : Kept)
     (now : Option (List ℕ)) (images : List ℕ → Type 0) → IsRun c commits script book lines → count ≡ length commits → told ≡ book → told_lines ≡ lines
-    → kept.text.items ≡ text_of count told_lines (history_of told).cell → kept.bytes.items ≡ encoded_cell (history_of told).cell
-    → decoded_cell (encoded_cell (history_of told).cell) ≡ Ok (history_of told).cell → IsLeftWith c (kept_history c commits script).commits now images
-    → IsKeptOn c commits script now images kept
-kept_with c commits script book told lines told_lines count kept now images run count_is told_is same_lines text bytes read_back left =
+    → kept.text.items ≡ text_of count told_lines (history_of told).cell → kept.bench ≡ (history_of told).cell
+    → IsLeftWith c (kept_history c commits script).commits now images → IsKeptOn c commits script now images kept
+kept_with c commits script book told lines told_lines count kept now images run count_is told_is same_lines text bench left =
     let cell_is = ap (λ (b : BookState). (history_of b).cell) told_is ∙ run.cell_is in
     let lines_are = same_lines ∙ run.lines_are in
     record {
       text_is = text ∙ (λ i. text_of (count_is i) (lines_are i) (cell_is i));
-      bytes_are = bytes ∙ ap encoded_cell cell_is;
-      read_back = subst (λ (d : Cell). decoded_cell (encoded_cell d) ≡ Ok d) cell_is read_back;
+      cell_is = bench ∙ cell_is;
       left = left;
     }
 

@@ -26,9 +26,10 @@ abbrev pub kept_task : List ℕ → Cell → List AcceptedCommit → List Comman
 kept_task out c commits script =
     record { text = kept_text c commits script; file = Some (out, encoded_cell (kept_history c commits script).cell) }
 
--- what is left of a session to put and to write under a name, or why there is nothing
+-- what is left of a session to put and to write under a name, with a file that is read back, or why there is nothing
 abbrev pub IsWorkOf : List ℕ → Result Kept Status → Result Work Status → Type 0
-IsWorkOf out (Ok kept) (Ok work) = task_of work ≡ record { text = kept.text.items; file = Some (out, kept.bytes.items) }
+IsWorkOf out (Ok kept) (Ok work) = (task_of work ≡ record { text = kept.text.items; file = Some (out, encoded_cell kept.bench) })
+    × (decoded_cell (encoded_cell kept.bench) ≡ Ok kept.bench)
 IsWorkOf out (Ok kept) (Err status) = status ≡ NoMemory
 IsWorkOf out (Err why) (Ok work) = ⊥
 IsWorkOf out (Err why) (Err status) = status ≡ why
@@ -119,7 +120,7 @@ IsAskedOf form files reads reads_now content now faults faults_now images (Err (
     IsJournalEnd form files content now (λ c file. IsTooLong c file count)
 IsAskedOf form files reads reads_now content now faults faults_now images (Err other) = ⊥
 
--- words of no form read no file
+-- words of no form: as many reads had failed before as after
 abbrev pub IsAskedIn : Option KeepForm → Option Files → (reads reads_now : ℕ) → (content now : Option (List ℕ)) → (faults faults_now : ℕ) → (List ℕ → Type 0)
     → Result Work Status → Type 0
 IsAskedIn None files reads reads_now content now faults faults_now images (Err Usage) = reads_now ≡ reads

@@ -1,8 +1,6 @@
 -- What a session over the journal on a disk gives, why it ends, and what it leaves of the disk. This project's own rules.
-use Rattle.std.specs.Prelude.{◌≡◌, ◌⊎◌, ℕ, ◌<◌, ◌≤◌, List, length, Option, IfSome, Ok}
+use Rattle.std.specs.Prelude.{◌≡◌, ◌⊎◌, ℕ, ◌<◌, ◌≤◌, List, length, Option, IfSome}
 use Rattle.s57_types.specs.declared.cell.Cell.{Cell}
-use Rattle.file_spec.specs.DecodedCell.{decoded_cell}
-use Rattle.file_spec.specs.EncodedCell.{encoded_cell}
 use Rattle.enc_outside.specs.Count.{Rose}
 use Rattle.text_spec.specs.declared.command.Command.{Command}
 use Rattle.history_spec.specs.Steps.{AcceptedCommit}
@@ -38,13 +36,12 @@ stop_status other = NoMemory
 abbrev pub IsLeftWith : Cell → List AcceptedCommit → Option (List ℕ) → (List ℕ → Type 0) → Type 0
 IsLeftWith c commits now images = IfSome now (λ file. IsJournalOf c file commits × Only file images)
 
--- the text of a script that was run over the commits of a journal, the file of the cell that it left, which is read back, and what it leaves of the
--- disk: these commits and all that the script has accepted
+-- the text of a script that was run over the commits of a journal, the cell that it left, and what it leaves of the disk: these commits and all that
+-- the script has accepted
 pub record IsKeptOn (c : Cell) (commits : List AcceptedCommit) (script : List Command) (now : Option (List ℕ)) (images : List ℕ → Type 0) (kept : Kept) :
     Type 0 where
   pub text_is : kept.text.items ≡ kept_text c commits script
-  pub bytes_are : kept.bytes.items ≡ encoded_cell (kept_history c commits script).cell
-  pub read_back : decoded_cell (encoded_cell (kept_history c commits script).cell) ≡ Ok (kept_history c commits script).cell
+  pub cell_is : kept.bench ≡ (kept_history c commits script).cell
   pub left : IsLeftWith c (kept_history c commits script).commits now images
 
 -- a session over the journal that a disk had, where it tells its bytes

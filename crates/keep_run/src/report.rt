@@ -1,41 +1,37 @@
-//! The text of a session over a journal, and the file of the cell that it leaves.
+//! The text of a session over a journal, and the bench of the cell that it leaves.
 
-ghost use Rattle.std.specs.Prelude.{◌≡◌, ◌++◌, ◌∷◌, [], IfOk, Ok, OnOk, codes, decimal};
+ghost use Rattle.std.specs.Prelude.{◌≡◌, ◌++◌, ◌∷◌, [], IfOk, OnOk, codes, decimal};
 ghost use Rattle.commit_book.specs.Books.{history_of};
-ghost use Rattle.file_spec.specs.DecodedCell.{decoded_cell};
-ghost use Rattle.file_spec.specs.EncodedCell.{encoded_cell};
 ghost use Rattle.text_spec.specs.Lines.{line};
 ghost use Rattle.keep_run.specs.Runs.{text_of};
 
 use cell_bench::Bench;
-use cell_write::write_cell;
 use commit_book::Book;
-use file_spec::writable_cell_is_read_back;
 use report_text::{Transcript, print_findings};
+use s57_types::Duplicate;
 use std::alloc::{AllocError, Global};
 use text_lines::{push_bytes, push_number, push_text};
 
-/// The text that is to be put, and the bytes of the file that is to be made then.
-#[derive(Debug)]
+/// The text that is to be put, and the bench of the cell whose file is to be made then.
 pub(crate) struct Kept {
     pub(crate) text: Vec<u8>,
-    pub(crate) bytes: Vec<u8>,
+    pub(crate) bench: Bench,
 }
 
 impl Drop for Kept {
     fn drop(self) {
-        let Kept { text: _, bytes: _ } = self;
+        let Kept { text: _, bench: _ } = self;
     }
 }
 
 impl Kept {
-    /// The text, and the bytes.
-    pub(crate) fn into_parts(self) -> (Vec<u8>, Vec<u8>)
+    /// The text, and the bench.
+    pub(crate) fn into_parts(self) -> (Vec<u8>, Bench)
         ensures text { result.0 ≡ self.text }
-        ensures bytes { result.1 ≡ self.bytes }
+        ensures bench { result.1 ≡ self.bench }
     {
-        let Kept { text, bytes } = self;
-        (text, bytes)
+        let Kept { text, bench } = self;
+        (text, bench)
     }
 }
 
@@ -67,7 +63,8 @@ fn text_with(
     Ok(text)
 }
 
-/// The text of a session whose journal had so many commits, and the file of the cell that a book has.
+/// The text of a session whose journal had so many commits, and the bench of the cell that it leaves: the book's own, shared, so that the
+/// book can be given back before the file is made.
 ///
 /// An `Err` means out of memory.
 pub(crate) fn report(
@@ -77,13 +74,9 @@ pub(crate) fn report(
     book: &Book,
 ) -> Result<Kept, AllocError>
     ensures text { IfOk result (λ kept. kept.text.items ≡ text_of count transcript.now (history_of book.now).cell) }
-    ensures bytes { IfOk result (λ kept. kept.bytes.items ≡ encoded_cell (history_of book.now).cell) }
-    ensures read_back { IfOk result (λ _. decoded_cell (encoded_cell (history_of book.now).cell) ≡ Ok (history_of book.now).cell) }
+    ensures bench { IfOk result (λ kept. kept.bench ≡ (history_of book.now).cell) }
 {
-    book.known();
     let text = text_with(alloc, count, transcript, book.bench())?;
-    let cell = book.bench().to_cell(alloc)?;
-    writable_cell_is_read_back(&cell);
-    let bytes = write_cell(alloc, &cell)?;
-    Ok(Kept { text, bytes })
+    let bench = book.bench().copy(alloc)?;
+    Ok(Kept { text, bench })
 }

@@ -130,7 +130,7 @@ fn kept_work<R: Threads + Sync, H: Shelf, D: Disk>(
     )
 }
 
-/// What is left of a session to put and to write under a name.
+/// What is left of a session to put and to write under a name. The journal and its log are given back by now.
 fn work_of(alloc: Global, kept: Result<Kept, Status>, out: &str) -> Result<Work, Status>
     ensures { IsWorkOf out.now kept result }
 {
@@ -138,10 +138,10 @@ fn work_of(alloc: Global, kept: Result<Kept, Status>, out: &str) -> Result<Work,
         Ok(kept) => kept,
         Err(status) => return Err(status),
     };
-    let name = String::from_str(alloc, out)?;
-    let (text, bytes) = kept.into_parts();
+    let (text, bench) = kept.into_parts();
+    let export = Export::of_bench(alloc, bench, out)?;
     Ok(Work {
         text,
-        export: Some(Export { name, bytes }),
+        export: Some(export),
     })
 }

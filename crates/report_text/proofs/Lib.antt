@@ -1,3 +1,4 @@
+mod Counted
 mod Entries
 mod FirstFindings
 mod Lines

@@ -1,6 +1,5 @@
 -- The lines of the findings that a command shows.
 use Rattle.std.proofs.Common.{◌≡◌, ℕ, List, [], ◌∷◌, ◌++◌, take, map, refl, sym, ap, ◌∙◌}
-use Rattle.std.proofs.Math.Seq.{take-length}
 use Rattle.std.specs.List.{flat_map}
 use Rattle.std.specs.Prelude.{codes}
 use Rattle.std.specs.Fmt.{decimal}
@@ -14,7 +13,6 @@ use Rattle.text_spec.specs.CellText.{finding_line}
 use Rattle.text_spec.specs.Lines.{line}
 use Rattle.cell_findings.specs.Rows.{findings_of_row, findings_of_rows, line_of, with_subject}
 use Rattle.cell_findings.specs.declared.list.SubjectFinding.{SubjectFinding}
-use Rattle.cell_findings.proofs.RowTexts.{row_counts}
 use Rattle.history_spec.specs.ReportText.{list_lines}
 
 row_lines_of : (s : Subject) (fs : List Finding) → map (finding_line s) fs ≡ map line_of (map (with_subject s) fs)
@@ -53,13 +51,3 @@ list_shown base shown total c rows found start first whole is_total is_rows is_f
     ∙ (λ i. headed base (is_total i) ++ flat_map line_of (take shown (findings_of_rows (is_rows i))))
     ∙ ap (λ text. headed base (finding_total c) ++ text)
     (shown_text shown (all_findings c))
-
--- all findings are as many as there are
-pub all_shown : (c : Cell) (total : ℕ) (rows : List (Subject × List Finding)) (found : List SubjectFinding) → total ≡ finding_total c
-    → rows ≡ all_findings c → found ≡ take total (findings_of_rows rows)
-    → found ≡ findings_of_rows (all_findings c)
-all_shown c total rows found is_total is_rows is_found =
-    is_found
-    ∙ (λ i. take (is_total i) (findings_of_rows (is_rows i)))
-    ∙ ap (λ n. take n (findings_of_rows (all_findings c))) (sym (row_counts (all_findings c)))
-    ∙ take-length (findings_of_rows (all_findings c))

@@ -8,7 +8,7 @@ ghost use Rattle.history_spec.specs.ReportText.{history_text};
 ghost use Rattle.text_spec.specs.Lines.{line};
 
 use crate::commit::push_entries;
-use crate::findings::print_findings;
+use crate::findings::push_left;
 use crate::order::push_order;
 use crate::transcript::Transcript;
 use cell_bench::narrow;
@@ -65,6 +65,6 @@ pub fn print_report(
     push_order(&mut report, book.entries())?;
     push_sessions(&mut report, transcripts)?;
     push_history(alloc, &mut report, book)?;
-    print_findings(alloc, book.bench(), &mut report)?;
+    push_left(&mut report, book.bench())?;
     push_bytes(out, &report)
 }

@@ -70,7 +70,7 @@ impl Transcript {
         self.lines.as_slice()
     }
 
-    /// Appends the line of an answer.
+    /// Appends the line of an answer. An `Err` means out of memory, and leaves the lines as they were.
     pub fn push_reply(&mut self, reply: &Reply) -> Result<(), AllocError>
         ensures ok { OnOk result (self.new ≡ self.old ++ reply_line reply.now) }
         ensures err { OnErr result (self.new ≡ self.old) }
@@ -78,7 +78,7 @@ impl Transcript {
         push_reply(&mut self.lines, reply)
     }
 
-    /// Appends the line after a local command: how many edits are in the draft.
+    /// Appends the line after a local command: how many edits are in the draft. An `Err` means out of memory, and leaves the lines as they were.
     pub fn push_draft(&mut self, count: u32) -> Result<(), AllocError>
         ensures ok { OnOk result (self.new ≡ self.old ++ draft_line count) }
         ensures err { OnErr result (self.new ≡ self.old) }
@@ -89,7 +89,8 @@ impl Transcript {
     }
 
     /// Appends the lines of a command that shows at most so many findings of a desk's copy of the cell: the number of the commit after
-    /// which the copy is so, how many findings there are, and the first of them.
+    /// which the copy is so, how many findings there are, and the first of them. An `Err` means out of memory, and leaves the lines as they
+    /// were.
     pub fn push_list(&mut self, seen: u32, shown: u32, bench: &Bench) -> Result<(), AllocError>
         ensures ok { OnOk result (self.new ≡ self.old ++ list_lines seen shown bench.now) }
         ensures err { OnErr result (self.new ≡ self.old) }

@@ -119,7 +119,7 @@ fn run_all<R: Threads + Wait + Sync, M: Meet + Sync>(
 /// Runs scripts on the cell of a new workroom, each in a thread of its own at a desk of its own. The log's entries are those of the
 /// sessions, each session's in its own order, and each session's lines are right beside them.
 ///
-/// An `Err` tells the session that was stuck, or means out of memory.
+/// An `Err` tells the first session that was stuck and which of its views and commits that was, counted from 1, or means out of memory.
 pub fn run_sessions<R: Threads + Wait + Sync, M: Meet + Sync>(
     rt: &R,
     alloc: Global,

@@ -151,7 +151,7 @@ impl Session {
         }
     }
 
-    /// The edit set that a commit sends, at the level of its cell, or the first fault of the draft's form.
+    /// The edit set that a commit sends, at the level of its cell, or the first fault of the draft's form. An `Err` is that fault, or out of memory.
     pub fn offer(&self, alloc: Global, nall: u8) -> Result<EditSet, FormRefusal>
         ensures { MatchResult result (IsSetOf nall self.now.draft.edits self.now.draft.guards) (IsFormRefusal nall self.now.draft.edits self.now.draft.guards) }
     {

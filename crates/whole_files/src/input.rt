@@ -23,7 +23,7 @@ pub enum InputRefusal {
 }
 
 /// The bytes of a file of at most so many bytes. It reads from the start until the end, or until one byte more than
-/// the limit was taken.
+/// the limit was taken. An `Err` says that no file has the name, that a read failed, that the file has more bytes, or means out of memory.
 pub fn read_file<H: Shelf>(
     alloc: Global,
     shelf: &mut H,

@@ -7,7 +7,7 @@ ghost use Rattle.whole_files.specs.Output.{Adds, AddsFront};
 
 use enc_outside::{Failed, Sink};
 
-/// Puts all of a text, in as many writes as it takes.
+/// Puts all of a text, in as many writes as it takes. An `Err` says that a write failed: a beginning of the text may have been put.
 pub fn put_all<O: Sink>(out: &mut O, text: &[u8]) -> Result<(), Failed>
     ensures ok { OnOk result (Told (Adds text.now) (O.written out.old) (O.written out.new)) }
     ensures err { OnErr result (Told (AddsFront text.now) (O.written out.old) (O.written out.new)) }

@@ -1,4 +1,4 @@
-use Rattle.std.proofs.Common.{ℕ, ◌<◌, ◌^◌, List, Vec, length, ap, ◌∙◌, subst, arith}
+use Rattle.std.proofs.Common.{ℕ, ◌<◌, ◌^◌, List, Vec, length, ap, subst, arith}
 use Rattle.std.specs.declared.alloc.Global.{Global}
 use Rattle.std.specs.Prelude.{count_by}
 use Rattle.std.proofs.lemmas.List.{length-map}
@@ -23,7 +23,7 @@ returns-clause-run g c =
     omega (arith, many, limit)) in
     let out = c.args.out.now in
     let work = c.in_ok-work_of.field-0 in
-    let texts = c.deref.ensures.value ∙ ap (λ (v : Vec (List ℕ) Global). v.items) c.into_parts-book.ensures.transcripts in
+    let texts = ap (λ (v : Vec (List ℕ) Global). v.items) c.into_parts-book.ensures.transcripts in
     let made : IsMadeOf work out held.book held.transcripts.items = subst (λ (book : BookState). IsMadeOf work out book held.transcripts.items)
     c.into_parts-book.ensures.book (subst (IsMadeOf work out c.into_parts-book.result.0) texts c.in_ok-work_of.ensures) in
     let order = c.entries_are_in_order.ensures.order bench scripts entries is.entries in

@@ -44,7 +44,8 @@ returns-then-eq-5-clause-asked g c =
 
 pub returns-then-eq-6-clause-asked : goal.returns-then-eq-6-clause-asked
 returns-then-eq-6-clause-asked g c =
-    subst (λ f. IsAskedBy ⊥ f (g.H.Shelf.files c.args.shelf.now) (g.H.Shelf.read_faults c.args.shelf.now) (g.H.Shelf.read_faults c.edit_edges-then-eq-6.new.shelf)
+    subst (λ f. IsAskedBy ⊥ f (g.H.Shelf.files c.args.shelf.now) (g.H.Shelf.read_faults c.args.shelf.now)
+    (g.H.Shelf.read_faults c.edit_edges-then-eq-6.new.shelf)
     c.edit_edges-then-eq-6.result) (sym (join_words c.args.words.now c.first-item.result (take (length c.args.words.now - 1) (drop 1 c.args.words.now))
     c.in-len1-up.len_at_least c.first-item.is (behind 1 c.args.words.now) c.requires c.as_str-first.result.now c.as_str-first.ensures.value c.if-eq.ensures
     c.if-eq-2.ensures c.if-eq-3.ensures c.if-eq-4.ensures c.if-eq-5.ensures c.if-eq-6.ensures)) c.edit_edges-then-eq-6.ensures.asked

@@ -1,4 +1,4 @@
-use Rattle.std.proofs.Common.{◌≡◌, IfSome, Ok, Err, inr, refl, sym, ap, ◌∙◌, subst}
+use Rattle.std.proofs.Common.{◌≡◌, IfSome, Ok, Err, inr, refl, ap, ◌∙◌, subst}
 use Rattle.enc_top.specs.Task.{run_task}
 use Rattle.call_files.specs.Task.{task_of}
 use Rattle.call_files.specs.declared.work.Work.{Work}
@@ -20,9 +20,8 @@ returns-in-Err-clause-tells g c =
 
 pub run_of-requires-clause-order : goal.run_of-requires-clause-order
 run_of-requires-clause-order g c κs within =
-    subst (IsOrder (quotas_of c.args.scripts.items)) (sym c.as_slice.ensures)
-    (subst (λ quotas. IsOrder quotas c.in-Ok.sessions) (c.deref-2.ensures.value ∙ c.in_ok-quotas.ensures ∙ ap quotas_of c.deref.ensures.value)
-    c.in-Ok.ensures.order)
+    subst (λ quotas. IsOrder quotas c.in-Ok.sessions) (c.deref-2.ensures.value ∙ c.in_ok-quotas.ensures ∙ ap quotas_of c.deref.ensures.value)
+    c.in-Ok.ensures.order
 
 pub returns-clause-run : goal.returns-clause-run
 returns-clause-run g c =
@@ -34,12 +33,12 @@ returns-clause-run g c =
     let told : IfSome files (λ fs. OrderIs (quotas_of commands) order fs (Ok sessions)) =
     subst (λ quotas. IfSome files (λ fs. OrderIs quotas order fs (Ok sessions)))
     (c.deref-2.ensures.value ∙ c.in_ok-quotas.ensures ∙ ap quotas_of c.deref.ensures.value) c.in-Ok.ensures.tells in
-    if_ok_more (λ (work : Work). task_of work ≡ run_task cell c.args.out.now commands c.as_slice.result.now)
+    if_ok_more (λ (work : Work). task_of work ≡ run_task cell c.args.out.now commands sessions)
     (λ (work : Work). IsOrderedRun cell c.args.out.now order commands files (task_of work)) c.run_of.result
     (λ work is. record {
       sessions = sessions;
       told = told;
-      is = is ∙ ap (run_task cell c.args.out.now commands) c.as_slice.ensures;
+      is = is;
       course = c.runs_take_their_course.ensures cell commands sessions
           (subst (λ quotas. IsOrder quotas sessions) (c.deref-2.ensures.value ∙ c.in_ok-quotas.ensures ∙ ap quotas_of c.deref.ensures.value)
           c.in-Ok.ensures.order);

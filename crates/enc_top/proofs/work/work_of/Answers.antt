@@ -8,8 +8,8 @@ pub returns : goal.returns
 returns c = λ scripts entries lines.
     let book = c.args.book in
     let order = order_of_entries book.entries in
-    let text = c.in_ok-print_report.ensures.ok ∙ ap (λ before. before ++ entries_report book.opening book.entries c.args.transcripts.now)
-    c.new-text.ensures.items
-    ∙ sym (c.a_history_has_the_report_of_its_order.ensures.report book.opening scripts book.entries c.args.transcripts.now entries lines) in
-    let cell = c.in_ok-cell.ensures ∙ c.bench.ensures ∙ sym (c.a_history_has_the_report_of_its_order.ensures.cell book.opening scripts book.entries entries) in
-    (λ i. record { text = text i; file = Some ((c.in_ok-name.ensures.ok i), (c.in_ok-bytes.ensures ∙ ap encoded_cell cell) i) })
+    let text = c.in_ok-print_report.ensures.ok
+    ∙ (λ i. c.new-text.ensures.items i ++ entries_report book.opening book.entries (c.deref.ensures.value i))
+    ∙ sym (c.a_history_has_the_report_of_its_order.ensures.report book.opening scripts book.entries c.args.transcripts.items entries lines) in
+    let cell = c.into_bench.ensures ∙ sym (c.a_history_has_the_report_of_its_order.ensures.cell book.opening scripts book.entries entries) in
+    (λ i. record { text = text i; file = Some ((c.in_ok-export.ensures.file ∙ ap (λ d. (c.args.out.now, encoded_cell d)) cell) i) })

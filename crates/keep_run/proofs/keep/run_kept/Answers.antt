@@ -81,6 +81,6 @@ returns-clause-ok g c =
     kept_with old.book.opening commits script new.book c.book-2.result.now c.loop-command.session.transcript c.into_transcript-transcript.result
     c.commits-count.result c.in_ok-report.field-0 (g.D.Disk.content new.disk.now) (g.D.Disk.images new.disk.now) run
     (c.commits-count.ensures ∙ ap (λ (b : BookState). length (history_of b).commits) c.book.ensures) c.book-2.ensures
-    c.into_transcript-transcript.ensures c.in_ok-report.ensures.text c.in_ok-report.ensures.bytes c.in_ok-report.ensures.read_back
+    c.into_transcript-transcript.ensures c.in_ok-report.ensures.text c.in_ok-report.ensures.bench
     (left_on g.D.Disk.content g.D.Disk.images old.book.opening (kept_history old.book.opening commits script).commits new run.opening run.commits_are
     c.loop-command.invariant.still c.loop-command.invariant.whole)
