@@ -28,6 +28,7 @@ use crash_disk::Disk;
 use edit_sets::FormFault;
 use s57_types::Cell;
 use std::alloc::Global;
+use std::snapshot::Snapshot;
 use std::sync::ledger::Ledger;
 use std::thread::Threads;
 
@@ -71,7 +72,7 @@ impl<'a, D: Disk> Journal<'a, D> {
     /// `open_book`, which is asked here.
     ///
     /// An `Err` says that a call of the disk failed, that the cell has more findings than the limit, at which place of the file, from 0, an entry is damaged,
-    /// or how many commits over the limit there are, or means out of memory.
+    /// or how many commits there are, where these are over the limit, or means out of memory.
     pub fn start<R: Threads + Sync, L: Ledger>(
         rt: &R,
         alloc: Global,
@@ -99,7 +100,7 @@ impl<'a, D: Disk> Journal<'a, D> {
         }
     }
 
-    /// The journal on a disk whose commits a book has, and whose list ends at a place.
+    /// The journal on a disk whose commits a book has, and whose list ends at a place. The place is below 2^63.
     pub fn over(disk: &'a mut D, book: Book, end: u64) -> Journal<'a, D>
         requires room { end < 2 ^ 63 }
         requires standing { IfSome (D.content disk.old) (IsStanding book.opening (history_of book).commits end (D.images disk.old)) }
@@ -216,6 +217,48 @@ impl<'a, D: Disk> Journal<'a, D> {
         Ok(())
     }
 
+    /// Adds the entry of a commit that the book answered, if it is accepted; one that isn't writes nothing. `before` is the book before its answer.
+    ///
+    /// An `Err` is a fault of the disk.
+    fn keep_answered(
+        &mut self,
+        before: Snapshot<Book>,
+        desk: u32,
+        prepared: &Prepared,
+        part: &[u8],
+        reply: &Reply,
+    ) -> Result<(), KeepRefusal>
+        requires entered { IsEntered before.value desk (Asked.Commit prepared.now.base prepared.now.edits) self.old.book reply.now }
+        requires within { length before.value.entries ≤ entry_limit }
+        requires level { prepared.now.edits.nall ≡ before.value.opening.head.nall }
+        requires lines { HaveLines prepared.now.edits.edits }
+        requires part { IsPartOf desk prepared.now part.now }
+        requires whole { self.old.broken ≡ false }
+        requires still { IsStill D.content D.images (record self.old { book = before.value }) }
+        ensures still { IsStill D.content D.images self.new }
+        ensures same_reference { self.new.disk.ghost_name ≡ self.old.disk.ghost_name }
+        ensures book { self.new.book ≡ self.old.book }
+        ensures refused { ¬ (IsAcceptance reply.now) → self.new.disk.now ≡ self.old.disk.now }
+        ensures whole { OnOk result (self.new.broken ≡ false) }
+        ensures stays_told { IsSome (D.content self.new.disk.now) ↔ IsSome (D.content self.old.disk.now) }
+        ensures fault { IfErr result (λ why. why ≡ KeepRefusal.DiskFault) }
+        ensures accepted { OnErr result (IsAcceptance reply.now) }
+        ensures broken { OnErr result (self.new.broken ≡ true) }
+        ensures rose { OnErr result (Rose (D.faults self.old.disk.now) (D.faults self.new.disk.now)) }
+        // A crash at any moment of the call leaves the commits from before it, or these and the new one.
+        ensures moments { IfSome (D.content self.old.disk.now)
+            (λ _. LeavesOnly D.moment D.left_since self.old.disk.now self.new.disk.now
+            (HasOrHasNot before.value.opening (history_of before.value).commits (commit_asked desk prepared.now))) }
+        ensures no_fall { D.faults self.old.disk.now ≤ D.faults self.new.disk.now }
+    {
+        prepared.edits().known();
+        if !is_accepted(reply) {
+            return Ok(());
+        }
+        self.keep(part)?;
+        Ok(())
+    }
+
     /// Commits the edits that a desk prepared, as the book does, and has an accepted commit on the disk before it answers. All memory is taken before
     /// the disk is written to; a commit that isn't accepted writes nothing.
     ///
@@ -256,13 +299,10 @@ impl<'a, D: Disk> Journal<'a, D> {
     {
         self.need_whole()?;
         self.book.known();
-        prepared.edits().known();
         let part = part_of(alloc, desk, prepared)?;
+        let before = Snapshot::of(&self.book);
         let told = self.book.commit(alloc, desk, prepared, steps)?;
-        if !is_accepted(&told.reply) {
-            return Ok(told);
-        }
-        match self.keep(&part) {
+        match self.keep_answered(before, desk, prepared, &part, &told.reply) {
             Ok(()) => Ok(told),
             Err(why) => Err(untold(told, why)),
         }
@@ -306,13 +346,10 @@ impl<'a, D: Disk> Journal<'a, D> {
     {
         self.need_whole()?;
         self.book.known();
-        prepared.edits().known();
         let part = part_of(alloc, desk, prepared)?;
+        let before = Snapshot::of(&self.book);
         let answered = self.book.answer_commit(alloc, desk, prepared, steps)?;
-        if !is_accepted(&answered.reply) {
-            return Ok(answered.reply);
-        }
-        self.keep(&part)?;
+        self.keep_answered(before, desk, prepared, &part, &answered.reply)?;
         Ok(answered.reply)
     }
 }

@@ -18,10 +18,10 @@ use std::sync::ledger::Ledger;
 use std::thread::Threads;
 
 /// The book of the commits of a disk's journal, and the place where their list ends. Nothing is repaired and nothing is cut: a file of at most one
-/// byte becomes an empty list, and no other file is written to. Its look-ups are counted.
+/// byte becomes an empty list, and no other file is written to. The look-ups of its commits are counted, those of the load aren't.
 ///
 /// An `Err` says that a call of the disk failed, that the cell has more findings than the limit, at which place of the file, from 0, an entry is damaged,
-/// or how many commits over the limit there are, or means out of memory. Only after the first the disk's bytes may be others.
+/// or how many commits there are, where these are over the limit, or means out of memory. Only after the first the disk's bytes may be others.
 pub fn open_book<R: Threads + Sync, L: Ledger, D: Disk>(
     rt: &R,
     alloc: Global,

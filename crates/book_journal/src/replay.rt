@@ -146,8 +146,8 @@ fn opened<R: Threads + Sync>(rt: &R, alloc: Global, cell: Cell) -> Result<Book, 
 
 /// The book of the commits of a journal, and the place where their list ends.
 ///
-/// An `Err` says that the cell has more findings than the limit, tells the place of a damaged entry or how many commits over the limit there
-/// are, or means out of memory.
+/// An `Err` says that the cell has more findings than the limit, tells the place of a damaged entry or how many commits there are, where
+/// these are over the limit, or means out of memory.
 pub(crate) fn replay<R: Threads + Sync, L: Ledger>(
     rt: &R,
     alloc: Global,

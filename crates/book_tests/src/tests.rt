@@ -1,3 +1,4 @@
+mod behind;
 mod books;
 mod desks;
 mod drawn;

@@ -1,5 +1,8 @@
 pub mod Merging
 pub mod Contested
+pub mod PlaceOrder
+pub mod Clashes
+pub mod Noted
 pub mod Taken
 pub mod Kept
 pub mod Numbered

@@ -64,7 +64,7 @@ pub sorted_behind : (name : RecName) (names : List RecName) → IsStrictlySorted
 unfolding IsStrictlySortedBy
 sorted_behind name names sorted = sorted.1
 
-any_named : (name : RecName) (edits : List Edit) → list_any (λ other. same_name name other) (map name_of_edit edits) ≡ list_any
+pub any_named : (name : RecName) (edits : List Edit) → list_any (λ other. same_name name other) (map name_of_edit edits) ≡ list_any
     (λ edit. same_name name (name_of_edit edit)) edits
 any_named name [] = refl
 any_named name (e ∷ edits) = ap (λ b. same_name name (name_of_edit e) || b) (any_named name edits)

@@ -17,13 +17,6 @@ numbered_behind zero n xs = (let e : n + 0 ≡ n = omega arith in ap (λ k. enum
 numbered_behind (suc b) n [] = refl
 numbered_behind (suc b) n (x ∷ xs) = (let e : n + suc b ≡ n + 1 + b = omega arith in ap (λ k. enumerate_from k (drop b xs)) e) ∙ numbered_behind b (n + 1) xs
 
-pub commits_behind : (base : ℕ) (accepted : List Taken) → enumerate_from (base + 1) (map commit_of (drop base accepted)) ≡
-    drop base (enumerate_from 1 (map commit_of accepted))
-commits_behind base accepted =
-    (let e : base + 1 ≡ 1 + base = omega arith in ap (λ k. enumerate_from k (map commit_of (drop base accepted))) e)
-    ∙ ap (enumerate_from (1 + base)) (sym (drop-map commit_of base accepted))
-    ∙ numbered_behind base 1 (map commit_of accepted)
-
 same_edits : (accepted : List Taken) → map (λ (set : GuardedEdits). set.edits) (map set_in accepted) ≡ map
     (λ (commit : AcceptedCommit). commit.edits) (map commit_of accepted)
 same_edits [] = refl

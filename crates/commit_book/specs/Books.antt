@@ -1,7 +1,6 @@
 -- The log of an editing history: what it is seen as, what it keeps, and what its calls answer and leave. This project's own rules.
 use Rattle.std.specs.Prelude.{◌≡◌, ℕ, ◌≤◌, true, List, [], ◌∷◌, ◌++◌, length, map, drop, filter_map, All, Option, None, Some}
 use Rattle.s57_types.specs.declared.cell.Cell.{Cell}
-use Rattle.s57_types.specs.declared.name.RecName.{RecName}
 use Rattle.cell_spec.specs.declared.edit.Edit.{Edit}
 use Rattle.cell_spec.specs.declared.key.Key.{Key}
 use Rattle.cell_spec.specs.Edits.{apply_edits, touched_keys}
@@ -18,7 +17,7 @@ use Rattle.history_spec.specs.declared.reply.Brief.TheVariants as brief
 use Rattle.history_spec.specs.declared.reply.Reply.{Reply}
 use Rattle.history_spec.specs.declared.reply.Reply.TheVariants.{Viewed, Formed, Newer, Refused, Accepted}
 use Rattle.history_spec.specs.Entries.{AreTold, brief_of, event_asked, replayed}
-use Rattle.history_spec.specs.Steps.{AcceptedCommit, History, answer, clash_with, commit, finding_limit, first_of}
+use Rattle.history_spec.specs.Steps.{AcceptedCommit, History, answer, commit, finding_limit}
 use Rattle.commit_book.specs.declared.accepted.Accepted.{Accepted as Taken}
 use Rattle.commit_book.specs.declared.refusal.BookRefusal.{BookRefusal}
 use Rattle.commit_book.specs.declared.refusal.BookRefusal.TheVariants.{LogFull, NoMemory}
@@ -147,10 +146,6 @@ sets_told (Formed fault) sets = []
 sets_told (Newer number name desk edit) sets = []
 sets_told (Refused refusal) sets = []
 sets_told (Accepted number findings) sets = sets
-
--- the answer where one of some commits, each with its number, clashes with edits and guards: the first that does
-abbrev pub first_clash : List Edit → List RecName → List (ℕ × AcceptedCommit) → Option Reply
-first_clash edits guards commits = first_of (filter_map (clash_with edits guards) commits)
 
 -- the answer tells of a newer commit
 abbrev pub IsNewer : Reply → Type 0

@@ -9,6 +9,7 @@ ghost use Rattle.commit_book.specs.Books.{AreSetsOf, HaveLines, IsBookRefusal, I
 ghost use Rattle.commit_book.specs.Prepared.{AreRight, commit_budget};
 
 use crate::accepted::{Accepted, accepted_after};
+use crate::commit_places::CommitPlaces;
 use crate::refusal::BookRefusal;
 use crate::told::{EditSets, Told, sets_of, sets_told, with_set};
 use cell_bench::{Bench, LoadRefusal, Prepared};
@@ -22,12 +23,13 @@ use std::snapshot::Snapshot;
 use std::sync::ledger::Ledger;
 use turn_gate::Chronicle;
 
-/// A cell in the course of its editing: its bench, the commits that it took, and an entry for each answer. It is seen as the cell
-/// with which it was opened and its entries, which tell all else.
+/// A cell in the course of its editing: its bench, the commits that it took, their places at the names that they edit, and an entry
+/// for each answer. It is seen as the cell with which it was opened and its entries, which tell all else.
 pub struct Book {
     opening: Snapshot<Bench>,
     pub(crate) bench: Bench,
     pub(crate) accepted: Vec<Accepted>,
+    pub(crate) places: CommitPlaces,
     pub(crate) entries: Vec<Entry>,
 }
 
@@ -37,6 +39,7 @@ impl Drop for Book {
             opening: _,
             bench: _,
             accepted: _,
+            places: _,
             entries: _,
         } = self;
     }
@@ -44,12 +47,13 @@ impl Drop for Book {
 
 impl Model for Book {
     ghost use Rattle.commit_book.specs.Books.{BookState, IsKept};
+    ghost use Rattle.commit_book.specs.CommitPlaces.{AreNoted};
 
     ghost Value = { BookState };
 
     ghost view = { λ b. record { opening = b.opening.value; entries = b.entries.items } };
 
-    ghost invariant = { λ b. IsKept b.opening.value b.entries.items b.bench b.accepted.items };
+    ghost invariant = { λ b. IsKept b.opening.value b.entries.items b.bench b.accepted.items × AreNoted b.places b.accepted.items };
 }
 
 impl Chronicle for Book {
@@ -89,6 +93,7 @@ impl Book {
             opening: Snapshot::of(&bench),
             bench,
             accepted: Vec::new(alloc),
+            places: CommitPlaces::none(alloc),
             entries: Vec::new(alloc),
         }
     }
@@ -136,6 +141,7 @@ impl Book {
             opening: _,
             bench,
             accepted: _,
+            places: _,
             entries: _,
         } = self;
         bench

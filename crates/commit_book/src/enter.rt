@@ -85,7 +85,8 @@ impl Book {
         self.enter(desk, asked, reply)
     }
 
-    /// Enters a commit that is accepted, and becomes what was planned. All memory is taken before anything is changed.
+    /// Enters a commit that is accepted, and becomes what was planned. All memory is taken before anything is changed but the places at
+    /// names, of which those that aren't of a commit do no harm.
     fn accept(
         &mut self,
         alloc: Global,
@@ -111,8 +112,10 @@ impl Book {
         self.entries.reserve(1)?;
         self.accepted.reserve(1)?;
         self.bench.reserve(alloc, &plan)?;
+        let place = self.accepted.len() as u32;
+        self.places.note(accepted.set.names(), place)?;
         let replaced = Some(self.bench.replace(plan));
-        let number = self.accepted.len() as u32 + 1;
+        let number = place + 1;
         let findings = self.bench.finding_count();
         let brief = Brief::Accepted { number, findings };
         self.accepted.push_reserved(accepted);
@@ -230,7 +233,8 @@ impl Book {
     {
         let base = prepared.base();
         let set = prepared.edits();
-        if let Some(reply) = newer_answer(alloc, self.accepted.as_slice(), base, set)? {
+        let newer = newer_answer(alloc, &self.accepted, &self.places, base, set)?;
+        if let Some(reply) = newer {
             self.refuse(alloc, desk, base, set, &reply)?;
             return Ok(Answered::alone(reply));
         }

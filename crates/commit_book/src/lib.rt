@@ -3,6 +3,7 @@
 
 mod accepted;
 mod book;
+mod commit_places;
 mod enter;
 mod names;
 mod newer;

@@ -1,11 +1,13 @@
 -- What a disk in memory shows, and that it is a disk. This project's own.
-use Rattle.std.specs.Prelude.{◌≡◌, ◌⊎◌, ℕ, ◌+◌, ◌≤◌, ◌==◌, ◌%◌, ◌&&◌, Bool, true, false, nat_le, List, [], ◌∷◌, ◌++◌, length, take, drop, if◌then◌else◌, Vec}
+use Rattle.std.specs.Prelude.{◌≡◌, ◌⊎◌, ℕ, ◌+◌, ◌≤◌, ◌==◌, ◌%◌, ◌&&◌, Bool, true, false, nat_le, List, [], ◌∷◌, ◌++◌, length, take, drop, if◌then◌else◌, IsErr, OnErr, OnOk, Result, Vec}
 use Rattle.std.proofs.Common.{inl, inr, arith, ◌∙◌, ap, refl, length-append, length-drop}
 use Rattle.std.proofs.lemmas.Bool.{leb-true}
 use Rattle.std.proofs.lemmas.List.{take_at, drop_at, length-take-le, append_assoc}
 use Rattle.std.specs.declared.alloc.Global.{Global}
-use Rattle.crash_disk.specs.Disk.{Torn, overlaid}
-use Rattle.crash_disk.specs.Calls.{newest_first, read_after, IsImage, LeftSince, are_within, AreKept, filled}
+use Rattle.enc_outside.specs.Count.{Counts}
+use Rattle.crash_disk.specs.Disk.{SameImages, Torn, overlaid}
+use Rattle.crash_disk.specs.Calls.{newest_first, read_after, Goes, IsImage, LeftSince, are_within, AreKept, filled}
+use Rattle.crash_disk.specs.declared.disk.DiskFailed.{DiskFailed}
 use Rattle.crash_disk.specs.declared.mem_disk.Call.{Call}
 use Rattle.crash_disk.specs.declared.mem_disk.Call.TheVariants.{Idle, Wrote, Synced}
 use Rattle.crash_disk.specs.declared.mem_disk.MemDisk.{MemDisk}
@@ -47,6 +49,18 @@ pub record IsSame (old new : MemDisk) : Type 0 where
 pub record IsIdle (old new : MemDisk) : Type 0 where
   pub bytes : mem_bytes new ≡ mem_bytes old
   pub calls : (mem_calls new ≡ Idle ∷ mem_calls old) ⊎ (mem_calls new ≡ mem_calls old)
+
+-- a call that changes nothing was made: the same bytes and images, and time goes on. It fails where that was set, and where there was no memory to
+-- keep it
+pub record IsPassed {T : Type 0} (old new : MemDisk) (result : Result T DiskFailed) : Type 0 where
+  pub same : mem_bytes new ≡ mem_bytes old
+  pub images : SameImages (IsImage (mem_calls old)) (IsImage (mem_calls new))
+  pub time : Goes (mem_calls old) (mem_calls new)
+  pub faults : Counts (failed_calls old) (failed_calls new) result
+  pub set : IsFailing old → IsErr result
+  pub failing : failing_call new ≡ failing_call old
+  pub calls : OnOk result (mem_calls new ≡ Idle ∷ mem_calls old)
+  pub err : OnErr result (IsIdle old new)
 
 -- bytes were written at a place, and that is kept
 pub record IsWritten (at : ℕ) (bytes : List ℕ) (old new : MemDisk) : Type 0 where

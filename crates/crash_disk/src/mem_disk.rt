@@ -198,7 +198,7 @@ impl Disk for MemDisk {
     ghost use Rattle.crash_disk.specs.Calls.{Goes, IsImage, LeftSince, newest_first};
     ghost use Rattle.crash_disk.specs.Disk.{Follows, NoMore, Only, SameImages, Torn};
     ghost use Rattle.crash_disk.specs.MemDisk.{failed_calls, failing_call, image_is_left, kept_is_image, left_is_image, mem_bytes, mem_calls};
-    ghost use Rattle.crash_disk.specs.MemDisk.{IsFailing, IsIdle, IsWritten};
+    ghost use Rattle.crash_disk.specs.MemDisk.{IsFailing, IsIdle, IsPassed, IsWritten};
 
     ghost content = { λ disk. Some (mem_bytes disk) };
 
@@ -219,14 +219,7 @@ impl Disk for MemDisk {
     /// It fails at the call that was set, and where memory was refused.
     fn length(&mut self) -> Result<u64, DiskFailed>
         ensures length { IfOk result (λ n. n ≡ length (mem_bytes self.old)) }
-        ensures same { mem_bytes self.new ≡ mem_bytes self.old }
-        ensures images { SameImages (IsImage (mem_calls self.old)) (IsImage (mem_calls self.new)) }
-        ensures time { Goes (mem_calls self.old) (mem_calls self.new) }
-        ensures faults { Counts (failed_calls self.old) (failed_calls self.new) result }
-        ensures set { IsFailing self.old → IsErr result }
-        ensures failing { failing_call self.new ≡ failing_call self.old }
-        ensures calls { OnOk result (mem_calls self.new ≡ Call.Idle ∷ mem_calls self.old) }
-        ensures err { OnErr result (IsIdle self.old self.new) }
+        ensures passed { IsPassed self.old self.new result }
     {
         self.pass()?;
         Ok(self.bytes.len() as u64)
@@ -236,14 +229,7 @@ impl Disk for MemDisk {
     fn read_at(&mut self, at: u64, into: &mut [u8]) -> Result<(), DiskFailed>
         requires { at + length into.old ≤ length (mem_bytes self.old) }
         ensures filled { OnOk result (into.new ≡ slice_range (mem_bytes self.old) at (at + length into.old)) }
-        ensures same { mem_bytes self.new ≡ mem_bytes self.old }
-        ensures images { SameImages (IsImage (mem_calls self.old)) (IsImage (mem_calls self.new)) }
-        ensures time { Goes (mem_calls self.old) (mem_calls self.new) }
-        ensures faults { Counts (failed_calls self.old) (failed_calls self.new) result }
-        ensures set { IsFailing self.old → IsErr result }
-        ensures failing { failing_call self.new ≡ failing_call self.old }
-        ensures calls { OnOk result (mem_calls self.new ≡ Call.Idle ∷ mem_calls self.old) }
-        ensures err { OnErr result (IsIdle self.old self.new) }
+        ensures passed { IsPassed self.old self.new result }
     {
         self.pass()?;
         let at = at as usize;

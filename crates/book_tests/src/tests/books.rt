@@ -1,6 +1,6 @@
-//! A book of the cell of one square, which has the nodes 1 to 4, and commits on it.
+//! A book of a cell of squares, of which one square has the nodes 1 to 4, and commits on it.
 
-ghost use Rattle.std.specs.Prelude.{◌≡◌, [], IfOk, length};
+ghost use Rattle.std.specs.Prelude.{◌≡◌, ◌≤◌, [], IfOk, length};
 ghost use Rattle.rule_spec.specs.Affected.{RowsAreExact};
 ghost use Rattle.commit_book.specs.Books.{history_of};
 ghost use Rattle.commit_book.specs.Prepared.{AreRight};
@@ -16,7 +16,7 @@ use std::process::Abort;
 use std::sync::ledger::Ledger;
 use std::thread::Threads;
 
-/// A book without entries.
+/// A book without entries, of a cell of one square.
 pub(crate) fn open_book<L: Ledger>(
     rt: &impl Abort,
     alloc: Global,
@@ -24,7 +24,21 @@ pub(crate) fn open_book<L: Ledger>(
 ) -> Result<Book, AllocError>
     ensures { IfOk result (λ book. book.entries ≡ []) }
 {
-    match Book::make(alloc, make_cell(alloc, 1)?, steps) {
+    open_squares(rt, alloc, 1, steps)
+}
+
+/// A book without entries, of a cell of n rows of n squares.
+pub(crate) fn open_squares<L: Ledger>(
+    rt: &impl Abort,
+    alloc: Global,
+    n: u32,
+    steps: &mut Steps<L>,
+) -> Result<Book, AllocError>
+    requires some { 1 ≤ n }
+    requires few { n ≤ 100 }
+    ensures { IfOk result (λ book. book.entries ≡ []) }
+{
+    match Book::make(alloc, make_cell(alloc, n)?, steps) {
         Ok(book) => Ok(book),
         Err(LoadRefusal::NoMemory) => Err(AllocError),
         Err(_) => panic!(rt; "the cell isn't loaded"),

@@ -30,5 +30,6 @@ returns-in-Ok g c =
     let set_is = rw c.in-Some.is at c.in_ok-set.ensures in
     let leveled = subst (λ (n : ℕ). IsSetRead n c.args.text.now (Some c.in-Some.set)) level set_is in
     let read = subst (λ (set : GuardedEdits). IsSetRead (history_of book).cell.head.nall c.args.text.now (Some set)) (sym on.edits) leveled in
-    book_taken book c.answer_commit.new.self c.args.desk p.base c.args.text.now p.edits c.in-Ok.answered.reply read (on.base ∙ c.commits-base.ensures) c.in-Ok.ensures.ok
+    book_taken book c.answer_commit.new.self c.args.desk p.base c.args.text.now p.edits c.in-Ok.answered.reply read (on.base ∙ c.commits-base.ensures)
+    c.in-Ok.ensures.ok
     c.is_accepted.result c.is_accepted.ensures

@@ -10,6 +10,7 @@ use Rattle.history_spec.specs.declared.reply.Reply.TheVariants.{Accepted}
 use Rattle.history_spec.specs.Steps.{answer, commit}
 use Rattle.commit_book.specs.Books.{IsTakenAt, book_state, commit_of, entry_of, history_of}
 use Rattle.commit_book.proofs.Kept.{kept_accepted}
+use Rattle.commit_book.proofs.Noted.{noted_more}
 use Rattle.commit_book.proofs.book.Book.accept.Goals as goal
 
 pub invariant_of-self-2 : goal.invariant_of-self-2
@@ -17,24 +18,28 @@ invariant_of-self-2 c =
     let book = c.self.inside in
     let known = sym c.self.view_is in
     let one = c.args.accepted in
-    let number = c.len.result + 1 in
+    let number = c.len-place.result + 1 in
     let findings = c.finding_count-findings.result in
-    let counted : c.len.result ≡ length book.accepted.items = c.len.ensures ∙ c.reserve-2.ensures.len ∙ book.accepted.ok.0 in
-    let numbered = counted ∙ sym (length-map book.accepted.items commit_of) ∙ ap length c.self.invariant.commits_are in
+    let counted : c.len-place.result ≡ length book.accepted.items = c.len-place.ensures ∙ c.reserve-2.ensures.len ∙ book.accepted.ok.0 in
+    let numbered = counted ∙ sym (length-map book.accepted.items commit_of) ∙ ap length c.self.invariant.0.commits_are in
     let found = c.finding_count-findings.ensures ∙ ap finding_total c.replace.ensures.new in
     let answered = subst (λ b. answer (history_of b) (commit c.args.base one.set.edits one.set.guards) ≡ Accepted
     (length (history_of b).commits + 1) (finding_total c.args.plan)) known c.requires.answered in
-    kept_accepted book.opening.value book.entries.items c.push_reserved-2.new.self.items book.bench c.replace.new.self book.accepted.items
-    c.push_reserved.new.self.items one c.args.base number findings c.self.invariant
-    (subst (λ b. length b.entries < 1000000) known c.requires.room)
-    ((λ i. Accepted (numbered i + 1) (found i)) ∙ sym answered)
-    (subst (λ b. one.set.nall ≡ b.opening.head.nall) known c.requires.level)
-    c.requires.lines
-    (subst (λ b. IsTakenAt (history_of b).cell one) known c.requires.taken)
-    (c.replace.ensures.new ∙ subst (λ b. c.args.plan ≡ apply_edits one.set.edits (history_of b).cell) known c.requires.planned)
-    (c.push_reserved.ensures.items ∙ (λ i. c.reserve-2.ensures.items i ++ one ∷ []))
-    (c.push_reserved-2.ensures.items ∙ (λ i. c.reserve.ensures.items i ++ entry_of one.desk (Commit c.args.base (c.in_ok-copy.ensures i))
-    (brief.Accepted number findings) ∷ []))
+    let pushed = c.push_reserved.ensures.items ∙ (λ i. c.reserve-2.ensures.items i ++ one ∷ []) in (
+      kept_accepted book.opening.value book.entries.items c.push_reserved-2.new.self.items book.bench c.replace.new.self book.accepted.items
+          c.push_reserved.new.self.items one c.args.base number findings c.self.invariant.0
+          (subst (λ b. length b.entries < 1000000) known c.requires.room)
+          ((λ i. Accepted (numbered i + 1) (found i)) ∙ sym answered)
+          (subst (λ b. one.set.nall ≡ b.opening.head.nall) known c.requires.level)
+          c.requires.lines
+          (subst (λ b. IsTakenAt (history_of b).cell one) known c.requires.taken)
+          (c.replace.ensures.new ∙ subst (λ b. c.args.plan ≡ apply_edits one.set.edits (history_of b).cell) known c.requires.planned)
+          pushed
+          (c.push_reserved-2.ensures.items ∙ (λ i. c.reserve.ensures.items i ++ entry_of one.desk (Commit c.args.base (c.in_ok-copy.ensures i))
+          (brief.Accepted number findings) ∷ [])),
+      noted_more book.places c.note.new.self book.accepted.items c.push_reserved.new.self.items one
+          c.len-place.result c.names.result.now c.note.ensures.kept c.self.invariant.1 c.names.ensures c.in_ok-note.ensures.noted counted pushed,
+    )
 
 -- ---- out of memory
 no_ok : {T E : Type 0} (P : T → Type 0) (Q : E → Type 0) (r : Result T E) → IsErrAnd r Q → IfOk r P

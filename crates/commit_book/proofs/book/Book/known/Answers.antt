@@ -11,7 +11,7 @@ pub returns-clause-sets : goal.returns-clause-sets
 returns-clause-sets c =
     let book = c.self.inside in
     subst (λ (b : BookState). AreSetsOf b.opening.head.nall (history_of b).commits (accepted_sets b.entries)) c.self.view_is
-    (sets_of_commits book.opening.value book.entries.items book.bench book.accepted.items c.self.invariant)
+    (sets_of_commits book.opening.value book.entries.items book.bench book.accepted.items c.self.invariant.0)
 
 pub returns-clause-lines : goal.returns-clause-lines
-returns-clause-lines c = subst (λ (b : BookState). All HaveLines (accepted_sets b.entries)) c.self.view_is c.self.invariant.lines
+returns-clause-lines c = subst (λ (b : BookState). All HaveLines (accepted_sets b.entries)) c.self.view_is c.self.invariant.0.lines

@@ -25,7 +25,7 @@ plan-requires-clause-level g c =
     ap (λ (set : GuardedEdits). set.nall) c.edits-set.ensures
     ∙ c.requires.fits.level
     ∙ sym (ap (λ (b : BookState). b.opening.head.nall) c.self.view_is)
-    ∙ level_now book.opening.value book.entries.items book.bench book.accepted.items c.self.invariant
+    ∙ level_now book.opening.value book.entries.items book.bench book.accepted.items c.self.invariant.0
 
 -- rows that no newer commit made stale are those of this cell
 pub plan-requires-clause-ready : goal.plan-requires-clause-ready
@@ -35,7 +35,7 @@ plan-requires-clause-ready g c =
     let stale = stale_of c.deref.ensures.value c.in_ok-stale.ensures c.accepted_after-newer.ensures.newer c.base.ensures c.as_slice.ensures.value in
     subst (λ (x : GuardedEdits × List Key × List Row). AreReady book.bench x.0.edits x.1 x.2)
     (λ i. (sym c.edits-set.ensures i, sym stale i, sym c.rows.ensures i))
-    (rows_ready book.opening.value book.entries.items book.bench book.accepted.items c.self.invariant c.writable_cells_are_readable.ensures
+    (rows_ready book.opening.value book.entries.items book.bench book.accepted.items c.self.invariant.0 c.writable_cells_are_readable.ensures
     c.formed_edits_find_their_records.ensures
     c.untouched_keys_keep_answers.ensures c.valid_rows_stay_exact.ensures c.known-2.ensures.writable prepared.base prepared.edits prepared.rows
     (subst (λ (set : GuardedEdits). IsFormed set.nall set.edits set.guards) c.edits-set.ensures c.known.ensures.parts)
@@ -44,7 +44,7 @@ plan-requires-clause-ready g c =
 
 pub returns-clause-planned : goal.returns-clause-planned
 returns-clause-planned g c =
-    let cell = c.self.invariant.cell_is ∙ ap (λ (b : BookState). (history_of b).cell) c.self.view_is in
+    let cell = c.self.invariant.0.cell_is ∙ ap (λ (b : BookState). (history_of b).cell) c.self.view_is in
     subst (λ (x : Cell × GuardedEdits). MatchResult c.plan.result (IsPlanned x.0 x.1.edits) (IsPlanRefusal x.0 x.1.edits))
     (λ i. (cell i, c.edits-set.ensures i)) c.plan.ensures.planned
 
@@ -57,7 +57,7 @@ returns-clause-steps g c =
     let budget : plan_budget c.edits-set.result.now.edits book.bench c.deref.result.now c.rows.result.now ≡ commit_budget c.args.self.now prepared =
     (λ i. plan_budget (c.edits-set.ensures i).edits book.bench (stale i) (c.rows.ensures i))
     ∙ budget_kept c.args.self.now (book_state book.opening.value book.entries.items) book.bench book.accepted.items c.self.view_is
-    c.self.invariant prepared c.requires.alone in
+    c.self.invariant.0 prepared c.requires.alone in
     omega (arith, c.plan.ensures.steps, budget)
 
 pub returns-clause-left : goal.returns-clause-left
@@ -69,7 +69,7 @@ returns-clause-left g c =
     let budget : plan_budget set.edits book.bench c.deref.result.now c.rows.result.now ≡ commit_budget c.args.self.now prepared =
     (λ i. plan_budget (c.edits-set.ensures i).edits book.bench (stale i) (c.rows.ensures i))
     ∙ budget_kept c.args.self.now (book_state book.opening.value book.entries.items) book.bench book.accepted.items c.self.view_is
-    c.self.invariant prepared c.requires.alone in
+    c.self.invariant.0 prepared c.requires.alone in
     let many : length set.edits ≡ length prepared.edits.edits = ap (λ (set : GuardedEdits). length set.edits) c.edits-set.ensures in
     where_planned book.bench set.edits c.plan.result c.plan.ensures.planned
     (λ none. let within = with_touched set.edits book.bench c.deref.result.now c.rows.result.now
