@@ -27,13 +27,13 @@ pub(crate) enum Block<'a> {
 const BLOCKS: usize = 64;
 
 /// The least work of a block: less isn't worth a thread.
-const LEAST_WORK: usize = 256;
+const LEAST_WORK: usize = 1024;
 
 /// The work of a feature, where that of a node, an edge, a side or an identifier is 1.
 const FEATURE_WORK: usize = 8;
 
 /// The work of a connected node or an edge with those near it.
-const PAIRS_WORK: usize = 2;
+const PAIRS_WORK: usize = 8;
 
 /// Appends records in blocks of at most so many.
 fn push_record_blocks<'a>(

@@ -25,12 +25,11 @@ use std::sync::ledger::Ledger;
 
 impl<'a, 'b> Search<'a, 'b> {
     /// Appends the findings about records, then those about the sides of edges.
-    fn push_records_and_sides<L: Ledger>(
+    fn push_records_and_sides(
         &self,
         gathered: &mut Vec<SubjectFinding>,
         names: &[RecName],
         edges: &[RecName],
-        steps: &mut Steps<L>,
     ) -> Result<(), LoadRefusal>
         requires { length gathered.old.items ≤ self.now.limit }
         ensures { MatchResult result
@@ -39,8 +38,8 @@ impl<'a, 'b> Search<'a, 'b> {
             (IsOver self.now.limit (gathered.old.items
             ++ flat_map (subject_findings self.now.look.now) (map SubjectRec names.now ++ map SubjectSide edges.now))) }
     {
-        self.push_records(gathered, names, steps)?;
-        self.push_sides(gathered, edges, steps)
+        self.push_records(gathered, names)?;
+        self.push_sides(gathered, edges)
     }
 
     /// Appends the findings about each two connected nodes or edges among some records, then those about identifiers.
@@ -63,7 +62,7 @@ impl<'a, 'b> Search<'a, 'b> {
     {
         let parts = part_names(self.alloc, names)?;
         self.push_pairs(gathered, &parts, steps)?;
-        self.push_identities(gathered, identities, steps)
+        self.push_identities(gathered, identities)
     }
 }
 
@@ -90,7 +89,7 @@ fn gather<L: Ledger>(
         limit,
     };
     let mut gathered = Vec::new(alloc);
-    search.push_records_and_sides(&mut gathered, names, &edges, steps)?;
+    search.push_records_and_sides(&mut gathered, names, &edges)?;
     search.push_pairs_and_identities(&mut gathered, names, &identities, steps)?;
     Ok(gathered)
 }
@@ -98,6 +97,8 @@ fn gather<L: Ledger>(
 /// All findings of a writable cell about its records, the sides of its edges, each two connected nodes or edges, and the
 /// identifiers of its features, ascending by subject, kind and numbers, where there are at most so many. Counting stops at
 /// the first subject that goes over the limit.
+///
+/// An `Err` says that there are more, or is out of memory.
 pub fn find_all<L: Ledger>(
     alloc: Global,
     cell: &Cell,

@@ -6,7 +6,7 @@ ghost use Rattle.cell_findings.specs.Rows.{with_subject};
 
 use crate::list::SubjectFinding;
 use crate::refusal::LoadRefusal;
-use cell_spec::{Finding, Row, Subject};
+use cell_spec::{Finding, Subject};
 use std::alloc::AllocError;
 
 fn push_findings(
@@ -40,16 +40,4 @@ pub(crate) fn push_found(
         return Err(LoadRefusal::FindingsFull);
     }
     Ok(())
-}
-
-/// Appends the findings of a row.
-pub(crate) fn push_row(
-    gathered: &mut Vec<SubjectFinding>,
-    row: &Row,
-    limit: usize,
-) -> Result<(), LoadRefusal>
-    ensures { MatchResult result (λ _. IsGathered limit (gathered.old.items ++ map (with_subject row.now.subject) row.now.findings)
-        gathered.new.items) (IsOver limit (gathered.old.items ++ map (with_subject row.now.subject) row.now.findings)) }
-{
-    push_found(gathered, row.subject, row.findings.as_slice(), limit)
 }

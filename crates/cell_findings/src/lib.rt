@@ -2,6 +2,7 @@
 #![tactic(auto)]
 
 mod block;
+mod each;
 mod findings;
 mod gather;
 mod list;
@@ -15,6 +16,7 @@ mod text;
 mod threads;
 mod tiles;
 
+pub use each::each_in_threads;
 pub use findings::find_all;
 pub use list::{Findings, SubjectFinding};
 pub use names::names_in;

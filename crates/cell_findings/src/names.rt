@@ -23,6 +23,8 @@ fn push_names(names: &mut Vec<RecName>, recs: &[Rec]) -> Result<(), AllocError>
 }
 
 /// The names of a cell's records, ascending.
+///
+/// An `Err` means out of memory.
 pub fn names_in(alloc: Global, cell: &Cell) -> Result<Names, AllocError>
     ensures { IfOk result (λ names. names ≡ spec_names_in cell.now) }
 {

@@ -28,6 +28,9 @@ use s57_types::RecName;
 use std::alloc::{AllocError, Global};
 use std::sync::ledger::Ledger;
 
+/// How many names there is room for at first: about as many as meet a box in a chart, so that a list mostly is made once.
+const LIKELY_NEAR: usize = 16;
+
 fn is_below(name: RecName, other: RecName) -> bool
     ensures { result ≡ spec_is_below name other }
 {
@@ -39,7 +42,7 @@ fn is_below(name: RecName, other: RecName) -> bool
 fn names_near(alloc: Global, tree: &BoxTree, leaf: Leaf) -> Result<Names, AllocError>
     ensures { IfOk result (λ names. names ≡ spec_names_near leaf tree.now) }
 {
-    let mut names = Vec::new(alloc);
+    let mut names = Vec::with_capacity(alloc, LIKELY_NEAR)?;
     tree.push_meeting(&mut names, leaf.around)?;
     names.retain(|name| is_below(leaf.name, *name));
     Ok(ascending_names(names))

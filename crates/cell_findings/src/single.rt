@@ -6,37 +6,34 @@ ghost use Rattle.cell_spec.specs.declared.key.Subject.TheVariants.{Ident as Subj
 ghost use Rattle.cell_findings.specs.Gathered.{IsGathered, IsOver};
 ghost use Rattle.cell_findings.specs.Judged.{subject_findings};
 
-use crate::gather::push_row;
+use crate::gather::push_found;
 use crate::list::SubjectFinding;
 use crate::refusal::LoadRefusal;
 use crate::search::Search;
-use chain_topo::Steps;
-use check_group1::{verdict_ident, verdict_side};
-use check_record::verdict_rec;
+use cell_spec::Subject;
+use check_group1::{findings_of_ident, findings_of_side};
+use check_record::findings_of_rec;
 use s57_types::{Lnam, RecName};
-use std::sync::ledger::Ledger;
 
 impl<'a, 'b> Search<'a, 'b> {
-    fn push_record<L: Ledger>(
+    fn push_record(
         &self,
         gathered: &mut Vec<SubjectFinding>,
         name: RecName,
-        steps: &mut Steps<L>,
     ) -> Result<(), LoadRefusal>
         ensures { MatchResult result
             (λ _. IsGathered self.now.limit (gathered.old.items ++ subject_findings self.now.look.now (SubjectRec name)) gathered.new.items)
             (IsOver self.now.limit (gathered.old.items ++ subject_findings self.now.look.now (SubjectRec name))) }
     {
-        let row = verdict_rec(self.alloc, self.look, name, steps)?;
-        push_row(gathered, &row, self.limit)
+        let found = findings_of_rec(self.alloc, self.look, name)?;
+        push_found(gathered, Subject::Rec(name), &found, self.limit)
     }
 
     /// Appends the findings about records.
-    pub(crate) fn push_records<L: Ledger>(
+    pub(crate) fn push_records(
         &self,
         gathered: &mut Vec<SubjectFinding>,
         names: &[RecName],
-        steps: &mut Steps<L>,
     ) -> Result<(), LoadRefusal>
         requires { length gathered.old.items ≤ self.now.limit }
         ensures { MatchResult result
@@ -45,31 +42,29 @@ impl<'a, 'b> Search<'a, 'b> {
             (IsOver self.now.limit (gathered.old.items ++ flat_map (subject_findings self.now.look.now) (map SubjectRec names.now))) }
     {
         for name in names {
-            self.push_record(gathered, *name, steps)?;
+            self.push_record(gathered, *name)?;
         }
         Ok(())
     }
 
-    fn push_side<L: Ledger>(
+    fn push_side(
         &self,
         gathered: &mut Vec<SubjectFinding>,
         edge: RecName,
-        steps: &mut Steps<L>,
     ) -> Result<(), LoadRefusal>
         ensures { MatchResult result
             (λ _. IsGathered self.now.limit (gathered.old.items ++ subject_findings self.now.look.now (SubjectSide edge)) gathered.new.items)
             (IsOver self.now.limit (gathered.old.items ++ subject_findings self.now.look.now (SubjectSide edge))) }
     {
-        let row = verdict_side(self.alloc, self.look, edge, steps)?;
-        push_row(gathered, &row, self.limit)
+        let found = findings_of_side(self.alloc, self.look, edge)?;
+        push_found(gathered, Subject::Side(edge), &found, self.limit)
     }
 
     /// Appends the findings about the sides of edges.
-    pub(crate) fn push_sides<L: Ledger>(
+    pub(crate) fn push_sides(
         &self,
         gathered: &mut Vec<SubjectFinding>,
         edges: &[RecName],
-        steps: &mut Steps<L>,
     ) -> Result<(), LoadRefusal>
         requires { length gathered.old.items ≤ self.now.limit }
         ensures { MatchResult result
@@ -78,31 +73,34 @@ impl<'a, 'b> Search<'a, 'b> {
             (IsOver self.now.limit (gathered.old.items ++ flat_map (subject_findings self.now.look.now) (map SubjectSide edges.now))) }
     {
         for edge in edges {
-            self.push_side(gathered, *edge, steps)?;
+            self.push_side(gathered, *edge)?;
         }
         Ok(())
     }
 
-    fn push_identity<L: Ledger>(
+    fn push_identity(
         &self,
         gathered: &mut Vec<SubjectFinding>,
         identity: Lnam,
-        steps: &mut Steps<L>,
     ) -> Result<(), LoadRefusal>
         ensures { MatchResult result
             (λ _. IsGathered self.now.limit (gathered.old.items ++ subject_findings self.now.look.now (SubjectIdent identity)) gathered.new.items)
             (IsOver self.now.limit (gathered.old.items ++ subject_findings self.now.look.now (SubjectIdent identity))) }
     {
-        let row = verdict_ident(self.alloc, self.look, identity, steps)?;
-        push_row(gathered, &row, self.limit)
+        let found = findings_of_ident(self.alloc, self.look, identity)?;
+        push_found(
+            gathered,
+            Subject::Ident(identity),
+            found.as_slice(),
+            self.limit,
+        )
     }
 
     /// Appends the findings about identifiers.
-    pub(crate) fn push_identities<L: Ledger>(
+    pub(crate) fn push_identities(
         &self,
         gathered: &mut Vec<SubjectFinding>,
         identities: &[Lnam],
-        steps: &mut Steps<L>,
     ) -> Result<(), LoadRefusal>
         requires { length gathered.old.items ≤ self.now.limit }
         ensures { MatchResult result
@@ -111,7 +109,7 @@ impl<'a, 'b> Search<'a, 'b> {
             (IsOver self.now.limit (gathered.old.items ++ flat_map (subject_findings self.now.look.now) (map SubjectIdent identities.now))) }
     {
         for identity in identities {
-            self.push_identity(gathered, *identity, steps)?;
+            self.push_identity(gathered, *identity)?;
         }
         Ok(())
     }

@@ -1,17 +1,16 @@
 //! The findings of a cell, judged by several threads.
 
-ghost use Rattle.std.specs.Prelude.{◌≡◌, ◌≤◌, ◌<◌, ◌++◌, All, IfOk, List, MatchResult, Ok, length, map};
-ghost use Rattle.std.specs.Borrow.{Bor};
-ghost use Rattle.std.specs.List.{AllZip, flat_map};
+ghost use Rattle.std.specs.Prelude.{◌≡◌, ◌≤◌, ◌<◌, ◌++◌, All, IfOk, MatchResult, length, map};
+ghost use Rattle.std.specs.List.{flat_map};
 ghost use Rattle.cell_spec.specs.Writable.{IsWritable};
 ghost use Rattle.cell_findings.specs.AllFindings.{IsAllOf, IsFindingRefusal};
 ghost use Rattle.cell_findings.specs.Cut.{AreSubjects, IsJudgedOf, block_findings};
 ghost use Rattle.cell_findings.specs.Gathered.{IsGathered, IsOver};
 ghost use Rattle.cell_findings.specs.Judged.{judged_subjects, subject_findings};
 ghost use Rattle.cell_findings.specs.Parts.{AreParts};
-ghost use Rattle.cell_findings.specs.declared.block.Block.{Block as SpecBlock};
 
 use crate::block::{Block, Judged};
+use crate::each::each_in_threads;
 use crate::findings::find_all;
 use crate::list::{Findings, SubjectFinding};
 use crate::names::{edge_names, identities_in, names_in, part_names};
@@ -21,7 +20,6 @@ use crate::search::Search;
 use chain_topo::{ListLook, Steps};
 use finding_laws::apart_pairs_are_clean;
 use look_counter::start_counter;
-use rayon::prelude::*;
 use s57_types::Cell;
 use std::alloc::{AllocError, Global};
 use std::marker::Brand;
@@ -48,12 +46,12 @@ fn push_block<L: Ledger>(
     ensures { IfOk result (λ _. gathered.new.items ≡ gathered.old.items ++ block_findings search.now.look.now judged.now.tree block.entry) }
 {
     match block {
-        Block::Records(names) => search.push_records(gathered, names, steps),
-        Block::Sides(edges) => search.push_sides(gathered, edges, steps),
+        Block::Records(names) => search.push_records(gathered, names),
+        Block::Sides(edges) => search.push_sides(gathered, edges),
         Block::Pairs(leaves) => {
             search.push_near_pairs(gathered, &judged.placed, leaves, &judged.tree, steps)
         }
-        Block::Identities(identities) => search.push_identities(gathered, identities, steps),
+        Block::Identities(identities) => search.push_identities(gathered, identities),
     }
 }
 
@@ -96,30 +94,6 @@ fn judge(
     counted::<Brand>(alloc, look, judged, block, limit, Blank::new(1))
 }
 
-/// What a call answers about each block, in the order of blocks. Threads share them.
-///
-/// An `Err` is that of a call, or out of memory.
-fn each_in_threads<
-    R: Threads + Sync,
-    F: Fn(&Block) -> Result<Findings, LoadRefusal> + Copy + Send + Sync,
->(rt: &R, alloc: Global, blocks: &[Block], judge: F) -> Result<Vec<Findings>, LoadRefusal>
-    requires { All (λ (block : SpecBlock). (shown : Bor SpecBlock) → shown.now ≡ block → F.pre judge shown) blocks.now }
-    ensures { IfOk result (λ parts. (shown : List (Bor SpecBlock)) × (map (λ (b : Bor SpecBlock). b.now) shown ≡ blocks.now)
-        × AllZip (λ b found. F.post judge b (Ok found)) shown parts.items) }
-{
-    let parts = blocks
-        .par_iter()
-        .with_min_len(FEWEST)
-        .map(
-            |block: &Block| -> Result<Findings, LoadRefusal>
-                requires { F.pre judge block }
-                ensures { F.post judge block.entry result }
-            { judge(block) },
-        )
-        .collect::<Result<Vec<Findings>, LoadRefusal>>(rt, alloc)?;
-    Ok(parts?)
-}
-
 /// The findings about each block, in the order of blocks.
 ///
 /// An `Err` says that some block has more than the limit, or that memory ran out.
@@ -138,6 +112,7 @@ fn judge_blocks<R: Threads + Sync>(
     let parts = each_in_threads(
         rt,
         alloc,
+        FEWEST,
         blocks,
         |block: &Block| -> Result<Findings, LoadRefusal>
             requires { AreParts look.now judged.now.placed × AreSubjects look.now judged.now.tree block.now }
@@ -243,7 +218,7 @@ fn find_alone<L: Ledger>(
 /// All findings of a writable cell, as `find_all` gives them, where threads share the judging.
 ///
 /// Each thread judges blocks of subjects, each within a part of the limit, so that what the threads hold is bounded however
-/// many findings there are. Where a block has more, one thread judges all, and stops at the limit.
+/// many findings there are. Where a block has more, one thread judges all, and stops at the limit. An `Err` is as that of `find_all`.
 pub fn find_all_in_threads<R: Threads + Sync>(
     rt: &R,
     alloc: Global,

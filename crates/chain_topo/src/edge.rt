@@ -88,7 +88,10 @@ fn node_position<B: Look, L: Ledger>(look: &B, name: RecName, steps: &mut Steps<
     position_of(look.get(name, steps)?)
 }
 
-fn points_between(
+/// The points of a line from a point along more points to a point.
+///
+/// An `Err` means out of memory.
+pub fn points_between(
     alloc: Global,
     first: Point,
     plane: &[Point],

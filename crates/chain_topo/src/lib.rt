@@ -8,7 +8,7 @@ mod listed;
 mod sorted;
 
 pub use answers::Look;
-pub use edge::{edge_line, edge_of, edge_points, node_at, position_of};
+pub use edge::{edge_line, edge_of, edge_points, node_at, points_between, position_of};
 pub use groups::Groups;
 pub use listed::records_of;
 pub use look_counter::Steps;

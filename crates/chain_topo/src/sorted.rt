@@ -102,6 +102,33 @@ impl<'a> ListLook<'a> {
     }
 }
 
+/// The look-ups where nobody counts them, as in a check of the whole cell.
+impl<'a> ListLook<'a> {
+    /// The record of a name, or none.
+    pub fn find_record(&self, name: RecName) -> Option<&Rec>
+        ensures { option_copied result ≡ lookup_record self.now name }
+    {
+        if name == RecName::of_head() {
+            return Some(&self.head);
+        }
+        find_near(&self.records, self.likely_place(name), name)
+    }
+
+    /// The pointers to a name, ascending by the record that has them, then by place.
+    pub fn find_pointers(&self, name: RecName) -> &[Ref]
+        ensures { result.now ≡ lookup_pointers self.now name }
+    {
+        pointers_to(&self.pointers, name)
+    }
+
+    /// The features that bear a feature object identifier, ascending.
+    pub fn find_bearers(&self, foid: Lnam) -> &[RecName]
+        ensures { result.now ≡ lookup_identity self.now foid }
+    {
+        bearers_of(&self.identities, foid)
+    }
+}
+
 impl<'a> Look for ListLook<'a> {
     ghost cell = { λ look. look };
 
@@ -111,20 +138,17 @@ impl<'a> Look for ListLook<'a> {
 
     fn get<L: Ledger>(&self, name: RecName, steps: &mut Steps<L>) -> Option<&Rec> {
         steps.tick();
-        if name == RecName::of_head() {
-            return Some(&self.head);
-        }
-        find_near(&self.records, self.likely_place(name), name)
+        self.find_record(name)
     }
 
     fn refs<L: Ledger>(&self, name: RecName, steps: &mut Steps<L>) -> &[Ref] {
         steps.tick();
-        pointers_to(&self.pointers, name)
+        self.find_pointers(name)
     }
 
     fn bearers<L: Ledger>(&self, foid: Lnam, steps: &mut Steps<L>) -> &[RecName] {
         steps.tick();
-        bearers_of(&self.identities, foid)
+        self.find_bearers(foid)
     }
 }
 

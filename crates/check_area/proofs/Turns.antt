@@ -11,7 +11,7 @@ use Rattle.geometry_spec.proofs.AreaSums.{twice_area_along-append}
 use Rattle.rule_spec.specs.declared.line.BoundaryRow.{BoundaryRow}
 use Rattle.rule_spec.specs.declared.line.EdgeLine.{EdgeLine}
 use Rattle.rule_spec.specs.Boundary.{line_along, reversed_line, turn_of_loop}
-use Rattle.check_area.specs.declared.line.LineEnd.{LineEnd}
+use Rattle.near_records.specs.declared.ends.LineEnd.{LineEnd}
 use Rattle.check_area.specs.Parts.{area_home, part_of, turn_of_parts}
 use Rattle.check_area.specs.Sweeps.{first_point, last_point, sweep_along, sweep_between, sweep_of, turned_sweep}
 

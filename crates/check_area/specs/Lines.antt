@@ -11,21 +11,14 @@ use Rattle.s57_types.specs.declared.record.Vector.{Vector}
 use Rattle.s57_types.specs.declared.cell.Cell.{Cell}
 use Rattle.cell_spec.specs.declared.key.Key.{Key}
 use Rattle.cell_spec.specs.declared.key.Key.TheVariants.{Name}
-use Rattle.geometry_spec.specs.Points.{Point}
 use Rattle.near_records.specs.Near.{has_key}
 use Rattle.rule_spec.specs.Boundary.{has_points}
-use Rattle.rule_spec.specs.EdgePoints.{edge_line_of, node_position}
+use Rattle.rule_spec.specs.EdgePoints.{edge_line_of}
 use Rattle.rule_spec.specs.Features.{target}
 use Rattle.rule_spec.specs.Records.{edge_named}
-use Rattle.check_area.specs.declared.line.LineEnd.{LineEnd}
 use Rattle.check_area.specs.declared.part.Part.{Part}
 use Rattle.check_area.specs.declared.sweep.LineSweep.{LineSweep}
 use Rattle.check_area.specs.Sweeps.{sweep_along, sweep_of}
-
--- a node with its position, if it has one
-abbrev pub line_end : Cell → Option RecName → Option LineEnd
-line_end c None = None
-line_end c (Some n) = option_map (λ (p : Point). record { node = n; at = p }) (node_position c n)
 
 -- what the edge of a name sweeps, if it has points
 abbrev pub sweep_named : Cell → RecName → Option LineSweep

@@ -7,10 +7,8 @@ use Rattle.s57_types.specs.declared.record.Rec.TheVariants.{F}
 use Rattle.cell_spec.specs.declared.key.Key.{Key}
 use Rattle.cell_spec.specs.declared.key.Subject.TheVariants.{Rec}
 use Rattle.cell_spec.specs.Lookup.{lookup_record}
-use Rattle.near_records.specs.Near.{IsNear}
-use Rattle.near_records.specs.declared.near.NearRecords.{NearRecords}
 use Rattle.rule_spec.specs.Reads.{read_set}
 
-abbrev pub WhereNear : NearRecords → Feature → (Cell → Type 0) → Type 0
-WhereNear near f Holds =
-    (c : Cell) (n : RecName) (keys : List Key) → IsNear c keys near → keys ≡ read_set c (Rec n) → lookup_record c n ≡ Some (F f) → Holds c
+abbrev pub WhereNear : (Cell → List Key → Type 0) → Feature → (Cell → Type 0) → Type 0
+WhereNear Tells f Holds =
+    (c : Cell) (n : RecName) (keys : List Key) → Tells c keys → keys ≡ read_set c (Rec n) → lookup_record c n ≡ Some (F f) → Holds c

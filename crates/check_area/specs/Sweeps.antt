@@ -1,9 +1,10 @@
 -- What the loops of a boundary need of a line: its nodes, its end points, and the area that its points sweep.
-use Rattle.std.specs.Prelude.{ℕ, ◌==◌, pos, ◌-ℤ◌, List, [], ◌∷◌, ◌++◌, Option, None, Some, if◌then◌else◌}
+use Rattle.std.specs.Prelude.{ℕ, ◌==◌, pos, ◌-ℤ◌, List, [], ◌∷◌, Option, None, Some, if◌then◌else◌}
 use Rattle.geometry_spec.specs.Areas.{twice_area_along}
 use Rattle.geometry_spec.specs.Points.{Point}
+use Rattle.near_records.specs.LineEnds.{line_from}
 use Rattle.rule_spec.specs.declared.line.EdgeLine.{EdgeLine}
-use Rattle.check_area.specs.declared.line.LineEnd.{LineEnd}
+use Rattle.near_records.specs.declared.ends.LineEnd.{LineEnd}
 use Rattle.check_area.specs.declared.sweep.LineSweep.{LineSweep}
 
 abbrev pub first_point : List Point → Point
@@ -32,10 +33,6 @@ turned_sweep s = record { begins = s.ends; ends = s.begins; first = s.last; last
 -- a line as a spatial pointer goes along it: forward (ORNT 1) or in reverse (ORNT 2)
 abbrev pub sweep_along : ℕ → LineSweep → LineSweep
 sweep_along ornt s = if ornt == 2 then turned_sweep s else s
-
--- a line between two nodes, along these points
-abbrev pub line_from : LineEnd → List Point → LineEnd → EdgeLine
-line_from begins points ends = record { begins = begins.node; ends = ends.node; points = begins.at ∷ (points ++ ends.at ∷ []) }
 
 abbrev pub sweep_between : LineEnd → List Point → LineEnd → LineSweep
 sweep_between begins points ends = sweep_of (line_from begins points ends)

@@ -7,7 +7,6 @@ ghost use Rattle.std.specs.Ordering.{nat_cmp};
 ghost use Rattle.s57_types.specs.declared.cell.Cell.{Cell as SpecCell};
 ghost use Rattle.s57_types.specs.declared.record.Spot.{Spot as SpecSpot};
 ghost use Rattle.cell_spec.specs.declared.key.Key.{Key as SpecKey};
-ghost use Rattle.near_records.specs.Near.{IsNear};
 ghost use Rattle.rule_spec.specs.declared.kind.TheConstants.{MIXED_RING, OPEN_RING, OUTER_COUNT, WRONG_TURN};
 ghost use Rattle.rule_spec.specs.Boundary.{mixed_ring, open_ring, outer_count, wrong_turn};
 ghost use Rattle.rule_spec.specs.Features.{bad_codes, dangling_ref, prim_refs};
@@ -22,7 +21,7 @@ use crate::ring::ring_findings;
 use crate::sweep::{LineSweep, sweep_along};
 use cell_spec::Finding;
 use check_words::number;
-use near_records::NearRecords;
+use near_records::Near;
 use s57_types::{Feature, Kind, RecName, Spot};
 use std::alloc::{AllocError, Global};
 use std::collections::BTreeMap;
@@ -39,14 +38,14 @@ fn keep_sweep(
 }
 
 /// What the edge of a number sweeps, which is summed once and kept.
-fn kept_sweep(
-    near: &NearRecords,
+fn kept_sweep<N: Near>(
+    near: &N,
     known: &mut BTreeMap<u32, LineSweep>,
     id: u32,
 ) -> Result<Option<LineSweep>, AllocError>
-    ensures sweep { (c : SpecCell) (keys : List SpecKey) → IsNear c keys near.now → AsksForLine c keys (edge_name id) → HoldsSweeps c known.old
+    ensures sweep { (c : SpecCell) (keys : List SpecKey) → N.tells near.now c keys → AsksForLine c keys (edge_name id) → HoldsSweeps c known.old
         → IfOk result (λ sweep. sweep ≡ spec_sweep_named c (edge_name id)) }
-    ensures known { (c : SpecCell) (keys : List SpecKey) → IsNear c keys near.now → AsksForLine c keys (edge_name id) → HoldsSweeps c known.old
+    ensures known { (c : SpecCell) (keys : List SpecKey) → N.tells near.now c keys → AsksForLine c keys (edge_name id) → HoldsSweeps c known.old
         → OnOk result (HoldsSweeps c known.new) }
 {
     if let Some(sweep) = known.get(&id) {
@@ -61,14 +60,14 @@ fn kept_sweep(
 }
 
 /// What the edge of a name sweeps.
-fn sweep_at(
-    near: &NearRecords,
+fn sweep_at<N: Near>(
+    near: &N,
     known: &mut BTreeMap<u32, LineSweep>,
     name: RecName,
 ) -> Result<Option<LineSweep>, AllocError>
-    ensures sweep { (c : SpecCell) (keys : List SpecKey) → IsNear c keys near.now → AsksForLine c keys name → HoldsSweeps c known.old
+    ensures sweep { (c : SpecCell) (keys : List SpecKey) → N.tells near.now c keys → AsksForLine c keys name → HoldsSweeps c known.old
         → IfOk result (λ sweep. sweep ≡ spec_sweep_named c name) }
-    ensures known { (c : SpecCell) (keys : List SpecKey) → IsNear c keys near.now → AsksForLine c keys name → HoldsSweeps c known.old
+    ensures known { (c : SpecCell) (keys : List SpecKey) → N.tells near.now c keys → AsksForLine c keys name → HoldsSweeps c known.old
         → OnOk result (HoldsSweeps c known.new) }
 {
     match name.kind {
@@ -89,15 +88,15 @@ fn part_along(place: u32, spot: &Spot, sweep: LineSweep) -> Result<Part, AllocEr
 }
 
 /// The part of a boundary that a spatial pointer makes, if it names an edge with points.
-fn part_at(
-    near: &NearRecords,
+fn part_at<N: Near>(
+    near: &N,
     known: &mut BTreeMap<u32, LineSweep>,
     place: u32,
     spot: &Spot,
 ) -> Result<Option<Part>, AllocError>
-    ensures part { (c : SpecCell) (keys : List SpecKey) → IsNear c keys near.now → AsksForLine c keys spot.now.to → HoldsSweeps c known.old
+    ensures part { (c : SpecCell) (keys : List SpecKey) → N.tells near.now c keys → AsksForLine c keys spot.now.to → HoldsSweeps c known.old
         → IfOk result (λ part. part ≡ spec_part_at c (place, spot.now)) }
-    ensures known { (c : SpecCell) (keys : List SpecKey) → IsNear c keys near.now → AsksForLine c keys spot.now.to → HoldsSweeps c known.old
+    ensures known { (c : SpecCell) (keys : List SpecKey) → N.tells near.now c keys → AsksForLine c keys spot.now.to → HoldsSweeps c known.old
         → OnOk result (HoldsSweeps c known.new) }
 {
     let Some(sweep) = sweep_at(near, known, spot.to)? else {
@@ -109,12 +108,12 @@ fn part_at(
 
 /// The parts of a boundary in the order of its spatial pointers, if each of these names an edge with points. An edge
 /// that is named more than once is summed once.
-fn parts_of(
+fn parts_of<N: Near>(
     alloc: Global,
-    near: &NearRecords,
+    near: &N,
     places: &[Spot],
 ) -> Result<Option<Vec<Part>>, AllocError>
-    ensures { (c : SpecCell) (keys : List SpecKey) → IsNear c keys near.now → All (λ (s : SpecSpot). AsksForLine c keys s.to) places.now
+    ensures { (c : SpecCell) (keys : List SpecKey) → N.tells near.now c keys → All (λ (s : SpecSpot). AsksForLine c keys s.to) places.now
         → IfOk result (λ parts. option_map (λ list. list.items) parts ≡ spec_parts_of c places.now) }
 {
     let mut known = BTreeMap::new(alloc);
@@ -135,12 +134,12 @@ fn parts_of(
 /// found. `near` holds what the cell answers to the feature's read set.
 ///
 /// An `Err` means out of memory.
-pub fn area_findings(
+pub fn area_findings<N: Near>(
     alloc: Global,
-    near: &NearRecords,
+    near: &N,
     feature: &Feature,
 ) -> Result<Vec<Finding>, AllocError>
-    ensures { WhereNear near.now feature.now (λ c. (feature.now.prim == 3) ≡ true
+    ensures { WhereNear (N.tells near.now) feature.now (λ c. (feature.now.prim == 3) ≡ true
         → prim_refs c feature.now ≡ [] → dangling_ref c feature.now ≡ [] → bad_codes c feature.now ≡ []
         → IfOk result (λ findings. findings.items ≡ map (finding OPEN_RING) (open_ring c feature.now)
         ++ (map (finding MIXED_RING) (mixed_ring c feature.now)

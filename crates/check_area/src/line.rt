@@ -1,58 +1,24 @@
 //! What the edges of a boundary sweep.
 
-ghost use Rattle.std.specs.Prelude.{◌≡◌, IfOk, List, Some, option_map, true};
+ghost use Rattle.std.specs.Prelude.{◌≡◌, IfOk, List, option_map, true};
 ghost use Rattle.std.specs.List.{All};
 ghost use Rattle.std.specs.Option.{option_copied};
 ghost use Rattle.s57_types.specs.declared.cell.Cell.{Cell as SpecCell};
 ghost use Rattle.s57_types.specs.declared.record.End.{End as SpecEnd};
 ghost use Rattle.cell_spec.specs.declared.key.Key.{Key as SpecKey};
 ghost use Rattle.cell_spec.specs.declared.key.Key.TheVariants.{Name as KeyName};
-ghost use Rattle.near_records.specs.Near.{IsNear, has_key};
-ghost use Rattle.rule_spec.specs.EdgePoints.{line_of, node_at as spec_node_at, node_position as spec_position};
+ghost use Rattle.near_records.specs.Near.{has_key};
+ghost use Rattle.rule_spec.specs.EdgePoints.{line_of};
 ghost use Rattle.rule_spec.specs.Records.{edge_named as spec_edge};
-ghost use Rattle.check_area.specs.Lines.{AsksForLine, line_end as spec_line_end, sweep_named as spec_sweep_named};
+ghost use Rattle.check_area.specs.Lines.{AsksForLine, sweep_named as spec_sweep_named};
 ghost use Rattle.check_area.specs.Sweeps.{sweep_between as spec_sweep_between, sweep_of};
 
 use crate::sweep::{LineSweep, way_along, way_to};
-use chain_topo::{edge_of, node_at, position_of};
+use chain_topo::edge_of;
 use geo_exact::Point;
-use near_records::NearRecords;
+use near_records::{LineEnd, Near, line_end};
 use s57_types::{RecName, Vector};
 use std::alloc::AllocError;
-
-/// A node at an end of a line, and its position.
-#[derive(Clone, Copy)]
-pub(crate) struct LineEnd {
-    pub(crate) node: RecName,
-    pub(crate) at: Point,
-}
-
-fn node_position(near: &NearRecords, node: RecName) -> Option<Point>
-    ensures { (c : SpecCell) (keys : List SpecKey) → IsNear c keys near.now → has_key keys (KeyName node) ≡ true → result ≡ spec_position c node }
-{
-    position_of(near.record(node)?)
-}
-
-/// A node and its position, if it is a connected node with exactly one.
-fn end_at(near: &NearRecords, node: RecName) -> Option<LineEnd>
-    ensures { (c : SpecCell) (keys : List SpecKey) → IsNear c keys near.now → has_key keys (KeyName node) ≡ true → result ≡ spec_line_end c (Some node) }
-{
-    match node_position(near, node) {
-        Some(at) => Some(LineEnd { node, at }),
-        None => None,
-    }
-}
-
-/// The node at the one end of an edge with a topology indicator, if it is a connected node with exactly one position.
-fn line_end(near: &NearRecords, topi: u8, edge: &Vector) -> Option<LineEnd>
-    ensures { (c : SpecCell) (keys : List SpecKey) → IsNear c keys near.now
-        → All (λ (e : SpecEnd). has_key keys (KeyName e.to) ≡ true) edge.now.ends → result ≡ spec_line_end c (spec_node_at topi edge.now) }
-{
-    match node_at(topi, edge) {
-        Some(node) => end_at(near, node),
-        None => None,
-    }
-}
 
 /// What a line between two nodes sweeps along its points.
 fn sweep_between(begins: LineEnd, points: &[Point], ends: LineEnd) -> Result<LineSweep, AllocError>
@@ -70,8 +36,8 @@ fn sweep_between(begins: LineEnd, points: &[Point], ends: LineEnd) -> Result<Lin
 }
 
 /// What the line of an edge sweeps, if the edge has one.
-fn sweep_of_edge(near: &NearRecords, edge: &Vector) -> Result<Option<LineSweep>, AllocError>
-    ensures { (c : SpecCell) (keys : List SpecKey) → IsNear c keys near.now
+fn sweep_of_edge<N: Near>(near: &N, edge: &Vector) -> Result<Option<LineSweep>, AllocError>
+    ensures { (c : SpecCell) (keys : List SpecKey) → N.tells near.now c keys
         → All (λ (e : SpecEnd). has_key keys (KeyName e.to) ≡ true) edge.now.ends
         → IfOk result (λ sweep. sweep ≡ option_map sweep_of (line_of c edge.now)) }
 {
@@ -86,8 +52,8 @@ fn sweep_of_edge(near: &NearRecords, edge: &Vector) -> Result<Option<LineSweep>,
     }
 }
 
-fn edge_named<'a>(near: &NearRecords<'a>, name: RecName) -> Option<&'a Vector>
-    ensures { (c : SpecCell) (keys : List SpecKey) → IsNear c keys near.now → has_key keys (KeyName name) ≡ true → option_copied result ≡ spec_edge c name }
+fn edge_named<N: Near>(near: &N, name: RecName) -> Option<&Vector>
+    ensures { (c : SpecCell) (keys : List SpecKey) → N.tells near.now c keys → has_key keys (KeyName name) ≡ true → option_copied result ≡ spec_edge c name }
 {
     edge_of(near.record(name)?)
 }
@@ -95,11 +61,9 @@ fn edge_named<'a>(near: &NearRecords<'a>, name: RecName) -> Option<&'a Vector>
 /// What the edge of a name sweeps. There is nothing where the name isn't an edge's, where the edge hasn't exactly one
 /// beginning node and one end node, or where one of these isn't a connected node with exactly one position (S-57 Part 2,
 /// 2.2.1.2; Part 3, 7.7.1.4).
-pub(crate) fn sweep_named(
-    near: &NearRecords,
-    name: RecName,
-) -> Result<Option<LineSweep>, AllocError>
-    ensures { (c : SpecCell) (keys : List SpecKey) → IsNear c keys near.now → AsksForLine c keys name → IfOk result (λ sweep. sweep ≡ spec_sweep_named c name) }
+pub(crate) fn sweep_named<N: Near>(near: &N, name: RecName) -> Result<Option<LineSweep>, AllocError>
+    ensures { (c : SpecCell) (keys : List SpecKey) → N.tells near.now c keys → AsksForLine c keys name
+        → IfOk result (λ sweep. sweep ≡ spec_sweep_named c name) }
 {
     match edge_named(near, name) {
         Some(edge) => sweep_of_edge(near, edge),

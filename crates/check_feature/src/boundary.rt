@@ -7,7 +7,7 @@ ghost use Rattle.check_feature.specs.FeatureFindings.{boundary_findings, pointer
 use cell_spec::Finding;
 use check_area::area_findings;
 use check_words::AREA;
-use near_records::NearRecords;
+use near_records::Near;
 use s57_types::Feature;
 use std::alloc::{AllocError, Global};
 
@@ -20,13 +20,13 @@ fn may_be_judged(findings: &[Finding], feature: &Feature) -> bool
 
 /// OpenRing, MixedRing, OuterCount and WrongTurn: appends their findings about a feature, where the findings about its
 /// spatial pointers are known. Only an area without those has a boundary to judge.
-pub(crate) fn push_boundary_findings(
+pub(crate) fn push_boundary_findings<N: Near>(
     alloc: Global,
     findings: &mut Vec<Finding>,
-    near: &NearRecords,
+    near: &N,
     feature: &Feature,
 ) -> Result<(), AllocError>
-    ensures { WhereNear near.now feature.now (λ c. findings.old.items ≡ pointer_findings c feature.now
+    ensures { WhereNear (N.tells near.now) feature.now (λ c. findings.old.items ≡ pointer_findings c feature.now
         → OnOk result (findings.new.items ≡ findings.old.items ++ boundary_findings c feature.now)) }
 {
     if !may_be_judged(findings.as_slice(), feature) {

@@ -9,11 +9,11 @@ ghost use Rattle.cell_spec.specs.declared.key.Key.TheVariants.{Name as KeyName};
 ghost use Rattle.rule_spec.specs.declared.kind.TheConstants.{BAD_CODES, BAD_LEVEL};
 ghost use Rattle.rule_spec.specs.Features.{bad_codes, bad_level, has_its_codes as spec_codes, is_beyond_ascii as spec_beyond};
 ghost use Rattle.rule_spec.specs.Findings.{finding};
-ghost use Rattle.near_records.specs.Near.{IsNear, has_key};
+ghost use Rattle.near_records.specs.Near.{has_key};
 
 use crate::found::push_place_if;
 use cell_spec::Finding;
-use near_records::NearRecords;
+use near_records::Near;
 use rule_spec::{BAD_CODES, BAD_LEVEL};
 use s57_types::{Attr, Feature, Rec, RecName, Spot};
 use std::alloc::AllocError;
@@ -65,8 +65,8 @@ pub(crate) fn push_bad_codes(
 }
 
 /// Whether general texts are at the lexical level 0 (AALL, S-57 Part 3, 2.4), where the head is near.
-fn is_at_level_zero(near: &NearRecords) -> bool
-    ensures { (c : SpecCell) (keys : List SpecKey) → IsNear c keys near.now → has_key keys (KeyName head_name) ≡ true → result ≡ (c.head.aall == 0) }
+fn is_at_level_zero<N: Near>(near: &N) -> bool
+    ensures { (c : SpecCell) (keys : List SpecKey) → N.tells near.now c keys → has_key keys (KeyName head_name) ≡ true → result ≡ (c.head.aall == 0) }
 {
     match near.record(RecName::of_head()) {
         Some(Rec::H(head)) => head.aall == 0,
@@ -90,12 +90,12 @@ fn first_beyond_ascii(attrs: &[Attr]) -> Option<usize>
 
 /// BadLevel: appends its finding about a feature, where the head is near.
 #[tactic(auto, using(crate::proofs::FeatureFindings::first_place, crate::proofs::FeatureFindings::no_place))]
-pub(crate) fn push_bad_level(
+pub(crate) fn push_bad_level<N: Near>(
     findings: &mut Vec<Finding>,
-    near: &NearRecords,
+    near: &N,
     feature: &Feature,
 ) -> Result<(), AllocError>
-    ensures { (c : SpecCell) (keys : List SpecKey) → IsNear c keys near.now → has_key keys (KeyName head_name) ≡ true
+    ensures { (c : SpecCell) (keys : List SpecKey) → N.tells near.now c keys → has_key keys (KeyName head_name) ≡ true
         → OnOk result (findings.new.items ≡ findings.old.items ++ map (finding BAD_LEVEL) (bad_level c feature.now)) }
 {
     if !is_at_level_zero(near) {

@@ -11,7 +11,7 @@ use crate::group::push_wrong_group;
 use crate::naming::push_dangling;
 use crate::places::push_prim_refs;
 use cell_spec::Finding;
-use near_records::NearRecords;
+use near_records::Near;
 use rule_spec::{DANGLING_FEATURE, DANGLING_REF};
 use s57_types::Feature;
 use std::alloc::{AllocError, Global};
@@ -21,12 +21,13 @@ use std::alloc::{AllocError, Global};
 /// WrongGroup and BadLevel (S-57 Part 3, 2.4 and 7.6; Appendix B.1).
 ///
 /// An `Err` means out of memory.
-pub fn feature_findings(
+pub fn feature_findings<N: Near>(
     alloc: Global,
-    near: &NearRecords,
+    near: &N,
     feature: &Feature,
 ) -> Result<Vec<Finding>, AllocError>
-    ensures { WhereNear near.now feature.now (λ c. IfOk result (λ found. found.items ≡ findings_of_rules (λ rule. rule c feature.now) feature_rules)) }
+    ensures { WhereNear (N.tells near.now) feature.now
+        (λ c. IfOk result (λ found. found.items ≡ findings_of_rules (λ rule. rule c feature.now) feature_rules)) }
 {
     let mut findings = Vec::new(alloc);
     push_prim_refs(&mut findings, feature)?;

@@ -1,7 +1,7 @@
 //! The pointers of a feature to other features (FFPT, S-57 Part 3, 7.6.6).
 
 use crate::naming::Naming;
-use near_records::NearRecords;
+use near_records::Near;
 use s57_types::Partner;
 
 impl Naming for Partner {
@@ -13,7 +13,7 @@ impl Naming for Partner {
 
     ghost is_dangling = { λ c partner. length (lookup_identity c partner.to) == 0 };
 
-    fn dangles(&self, near: &NearRecords) -> bool {
+    fn dangles<N: Near>(&self, near: &N) -> bool {
         !near.is_borne(self.to)
     }
 }

@@ -11,7 +11,7 @@ ghost use Rattle.rule_spec.specs.Records.{is_edge_name, is_node_name};
 use crate::found::push_if;
 use crate::naming::Naming;
 use cell_spec::Finding;
-use near_records::NearRecords;
+use near_records::Near;
 use rule_spec::PRIM_REFS;
 use s57_types::{Feature, Kind, Spot};
 use std::alloc::AllocError;
@@ -71,7 +71,7 @@ impl Naming for Spot {
 
     ghost is_dangling = { λ c spot. not (is_some (lookup_record c (target spot))) };
 
-    fn dangles(&self, near: &NearRecords) -> bool {
+    fn dangles<N: Near>(&self, near: &N) -> bool {
         match near.record(self.to) {
             Some(_) => false,
             None => true,

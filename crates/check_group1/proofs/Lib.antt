@@ -1,2 +1,1 @@
-pub mod Referrers
 pub mod SideRows

@@ -9,7 +9,7 @@ ghost use Rattle.s57_types.specs.declared.cell.Cell.{Cell as SpecCell};
 ghost use Rattle.s57_types.specs.declared.name.Lnam.{Lnam as SpecLnam};
 
 use cell_spec::{Finding, Findings, Key, Keys, Row, Subject, ascending_keys};
-use chain_topo::{Look, Steps};
+use chain_topo::{ListLook, Look, Steps};
 use check_words::number;
 use rule_spec::TWICE_FOID;
 use s57_types::{Lnam, RecName};
@@ -39,6 +39,16 @@ fn reads_of(alloc: Global, foid: Lnam) -> Result<Keys, AllocError>
 {
     let keys = vec![in alloc; Key::Foid(foid)]?;
     Ok(ascending_keys(keys))
+}
+
+/// The findings about a feature object identifier in a cell that is looked into, as `verdict_ident` gives them. Their read set isn't made, and no
+/// look-up is counted.
+///
+/// An `Err` means out of memory.
+pub fn findings_of_ident(alloc: Global, look: &ListLook, foid: Lnam) -> Result<Findings, AllocError>
+    ensures { IfOk result (λ findings. findings ≡ findings_of_subject look.now (SubjectIdent foid)) }
+{
+    findings_of(alloc, look.find_bearers(foid))
 }
 
 /// The findings about a feature object identifier, and their read set: its bearers. The kind is TwiceFoid, with the number

@@ -4,9 +4,8 @@
 
 mod finding;
 mod identity;
-mod referrer;
 mod side;
 mod uses;
 
-pub use identity::verdict_ident;
-pub use side::verdict_side;
+pub use identity::{findings_of_ident, verdict_ident};
+pub use side::{findings_of_side, verdict_side};

@@ -1,21 +1,23 @@
 //! The uses that features make of an edge.
 
-ghost use Rattle.std.specs.Prelude.{◌≡◌, ◌+◌, ◌-◌, ◌≤◌, ◌++◌, IfOk, OnOk, find, length, option_and_then, option_map, option_to_list, slice_get};
+ghost use Rattle.std.specs.Prelude.{◌≡◌, ◌-◌, ◌++◌, IfOk, List, OnOk, filter_map, find, option_and_then, option_map, option_to_list, slice_get, true};
+ghost use Rattle.std.specs.List.{All};
 ghost use Rattle.std.specs.Option.{option_copied};
+ghost use Rattle.s57_types.specs.declared.cell.Cell.{Cell as SpecCell};
 ghost use Rattle.s57_types.specs.declared.record.Feature.{Feature as SpecFeature};
-ghost use Rattle.cell_spec.specs.declared.key.Subject.TheVariants.{Side as SubjectSide};
-ghost use Rattle.cell_spec.specs.Lookup.{lookup_pointers};
-ghost use Rattle.rule_spec.specs.Reads.{read_set};
-ghost use Rattle.rule_spec.specs.Sides.{is_truncated, side_count, side_counts as counts_of, use_of_row as use_at_row, uses_of as uses_in};
+ghost use Rattle.cell_spec.specs.declared.key.Key.{Key as SpecKey};
+ghost use Rattle.cell_spec.specs.declared.key.Key.TheVariants.{Name as KeyName};
+ghost use Rattle.cell_spec.specs.declared.key.Ref.{Ref as SpecRef};
+ghost use Rattle.near_records.specs.Near.{has_key};
+ghost use Rattle.rule_spec.specs.Records.{feature_named as spec_feature};
+ghost use Rattle.rule_spec.specs.Sides.{is_truncated, side_count, side_counts as counts_of, use_by as spec_use_by, use_of_row as use_at_row};
 
-use crate::referrer::{feature_at, features_of};
-use cell_spec::{Key, Ref};
-use chain_topo::{Look, Steps};
+use cell_spec::Ref;
 use check_words::{AREA, is_coverage_area, is_group1_area, number};
+use near_records::Near;
 use rule_spec::{EdgeSideCounts, EdgeUse};
-use s57_types::{Feature, RecName, Spot};
+use s57_types::{Feature, Rec, RecName, Spot};
 use std::alloc::{AllocError, Global};
-use std::sync::ledger::Ledger;
 
 /// The usage indicator USAG of a boundary that is cut off by the data limit.
 const TRUNCATED: u8 = 3;
@@ -67,26 +69,28 @@ fn push_use(uses: &mut Vec<EdgeUse>, found: Option<EdgeUse>) -> Result<(), Alloc
     }
 }
 
-/// The uses of an edge, ascending by feature and place, where `keys` are its read set and `pointers` those to it. Each key
-/// is looked up once.
-#[tactic(auto, unfolding(rule_spec::specs::Sides::uses_of))]
-pub(crate) fn uses_of<B: Look, L: Ledger>(
-    alloc: Global,
-    look: &B,
-    name: RecName,
-    keys: &[Key],
-    pointers: &[Ref],
-    steps: &mut Steps<L>,
-) -> Result<Vec<EdgeUse>, AllocError>
-    requires keys { keys.now ≡ read_set (B.cell look.now) (SubjectSide name) }
-    requires pointers { pointers.now ≡ lookup_pointers (B.cell look.now) name }
-    ensures uses { IfOk result (λ uses. uses.items ≡ uses_in (B.cell look.now) name) }
-    ensures steps { steps.new ≤ steps.old + length keys.now }
+/// The feature of a name that is near.
+fn feature_named<N: Near>(near: &N, name: RecName) -> Option<&Feature>
+    ensures { (c : SpecCell) (keys : List SpecKey) → N.tells near.now c keys → has_key keys (KeyName name) ≡ true → option_copied result ≡ spec_feature c name }
 {
-    let features = features_of(alloc, look, keys, steps)?;
-    let mut uses = Vec::new(alloc);
+    match near.record(name) {
+        Some(Rec::F(feature)) => Some(feature),
+        _ => None,
+    }
+}
+
+/// The uses that pointers are, in their order, where the records that have them are near.
+pub(crate) fn uses_of<N: Near>(
+    alloc: Global,
+    near: &N,
+    pointers: &[Ref],
+) -> Result<Vec<EdgeUse>, AllocError>
+    ensures { (c : SpecCell) (keys : List SpecKey) → N.tells near.now c keys → All (λ (r : SpecRef). has_key keys (KeyName r.from) ≡ true) pointers.now
+        → IfOk result (λ uses. uses.items ≡ filter_map (spec_use_by c) pointers.now) }
+{
+    let mut uses = Vec::with_capacity(alloc, pointers.len())?;
     for pointer in pointers {
-        let feature = feature_at(keys, &features, pointer.from);
+        let feature = feature_named(near, pointer.from);
         push_use(&mut uses, use_by(*pointer, feature))?;
     }
     Ok(uses)

@@ -1,5 +1,5 @@
 -- The read set of a record, by what the cell has under its name.
-use Rattle.std.proofs.Common.{◌≡◌, ◌+◌, ◌≤◌, Bool, true, false, ◌||◌, not, is_some, List, [], ◌∷◌, ◌++◌, length, count_by, map, flat_map, None, Some, cond}
+use Rattle.std.proofs.Common.{◌≡◌, ◌≤◌, Bool, true, false, ◌||◌, is_some, List, [], ◌∷◌, ◌++◌, length, map, flat_map, None, Some, cond}
 use Rattle.std.proofs.Common.{refl, sym, ap, ◌∙◌, append_assoc, arith}
 use Rattle.std.specs.Prelude.{◌==◌, option_and_then}
 use Rattle.std.specs.List.{list_any}
@@ -7,8 +7,6 @@ use Rattle.std.specs.Option.{option_map_or}
 use Rattle.std.specs.Ordering.{is_eq}
 use Rattle.std.proofs.lemmas.List.Concat.{flat_map-cons}
 use Rattle.std.proofs.lemmas.List.Folds.{list_any-append}
-use Rattle.s57_types.specs.declared.name.Kind.{Kind}
-use Rattle.s57_types.specs.declared.name.Kind.TheVariants.{Vi, Vc, Ve, Fe, Head}
 use Rattle.s57_types.specs.declared.name.RecName.{RecName}
 use Rattle.s57_types.specs.declared.record.Feature.{Feature}
 use Rattle.s57_types.specs.declared.record.Rec.TheVariants.{V, F, H}
@@ -23,7 +21,7 @@ use Rattle.cell_spec.specs.declared.key.Subject.TheVariants.{Rec}
 use Rattle.cell_spec.specs.Ascending.{ascending}
 use Rattle.cell_spec.specs.declared.finding.Finding.{Finding}
 use Rattle.cell_spec.specs.Lookup.{listed_record, lookup_record}
-use Rattle.cell_spec.specs.Names.{is_of_kind, key_order, kind_rank}
+use Rattle.cell_spec.specs.Names.{key_order}
 use Rattle.rule_spec.specs.Findings.{findings_of_record, findings_of_subject}
 use Rattle.rule_spec.specs.Reads.{end_keys, end_keys_at, feature_keys, keys_read, read_set}
 use Rattle.rule_spec.specs.Records.{feature_of, is_edge_name, vector_of}
@@ -32,34 +30,13 @@ use Rattle.cell_spec.proofs.Orders.{exact_keys, total_keys}
 use Rattle.near_records.specs.Near.{answer_held, answer_to}
 use Rattle.near_records.specs.declared.near.Answer.{Answer}
 use Rattle.check_record.specs.EndKeys.{ends_found, ends_of_answer, ends_of_key, named_by, partner_keys}
-use Rattle.check_record.specs.Nodes.{is_node_key}
 use Rattle.cell_spec.proofs.Ascending.{any-ascending, longer_ascending}
-use Rattle.check_record.proofs.FewerPass.{fewer_pass}
-use Rattle.check_record.proofs.FoundRecords.{found_name, listed_feature, listed_vector}
+use Rattle.check_record.proofs.FoundRecords.{listed_feature, listed_vector}
 
 -- a read set has the record's own key
 pub some_keys : (c : Cell) (n : RecName) → 1 ≤ length (read_set c (Rec n))
 unfolding read_set
 some_keys c n = longer_ascending key_order (Name n ∷ []) (end_keys_at c n ++ option_map_or (feature_keys c) (option_and_then feature_of (lookup_record c n)) [])
-
-edge_no_node : (k : Kind) → (kind_rank k == kind_rank Ve) ≡ true → not (kind_rank k == kind_rank Vc) ≡ true
-edge_no_node Vi h = absurd cc
-edge_no_node Vc h = absurd cc
-edge_no_node Ve h = refl
-edge_no_node Fe h = absurd cc
-edge_no_node Head h = absurd cc
-
-or_true : (a b : Bool) → a ≡ true → (a || b) ≡ true
-or_true a b h = ap (λ z. z || b) h
-
--- an edge's own key asks for no connected node
-pub edge_keys : (c : Cell) (n : RecName) (v : Vector) → lookup_record c n ≡ Some (V v) → is_edge_name v.name ≡ true
-    → count_by is_node_key (read_set c (Rec n)) + 1 ≤ length (read_set c (Rec n))
-unfolding read_set
-edge_keys c n v h e =
-    let own : not (is_of_kind Vc n) ≡ true = ap (λ (m : RecName). not (is_of_kind Vc m)) (found_name c n (V v) h) ∙ edge_no_node v.name.kind e in
-    fewer_pass is_node_key (ascending key_order (keys_read c (Rec n)))
-    (any-ascending key_order exact_keys (λ k. not (is_node_key k)) (keys_read c (Rec n)) ∙ or_true (not (is_of_kind Vc n)) _ own)
 
 place_keys : Feature → List Key
 place_keys f = map (λ (s : Spot). Name s.to) f.places

@@ -1,4 +1,3 @@
 pub mod EndKeys
 pub mod Blocks
-pub mod Nodes
 pub mod RecordRow

@@ -4,6 +4,7 @@
 mod asked;
 mod blocks;
 mod ends;
+mod found;
 mod line;
 mod reads;
 mod self_meet;
@@ -11,4 +12,5 @@ mod shape;
 mod vector;
 mod verdict;
 
+pub use found::findings_of_rec;
 pub use verdict::verdict_rec;

@@ -1,14 +1,14 @@
 //! Segments of an edge that meet one another.
 
-ghost use Rattle.std.specs.Prelude.{◌≡◌, ◌++◌, All, OnOk, find, map};
+ghost use Rattle.std.specs.Prelude.{◌≡◌, ◌++◌, All, None, OnOk, find, map};
 ghost use Rattle.rule_spec.specs.declared.kind.TheConstants.{SELF_MEET};
 ghost use Rattle.rule_spec.specs.Findings.{finding};
 ghost use Rattle.rule_spec.specs.Vectors.{is_bad_meeting as spec_bad_meeting, is_closed_line as spec_closed, meets_wrongly as spec_meets_wrongly};
 ghost use Rattle.rule_spec.specs.Vectors.{first_wrong_meeting as spec_first_wrong, found_pair as spec_found_pair, self_meet_of};
+ghost use Rattle.rule_spec.specs.Vectors.{stacked_segment as spec_stacked_segment};
 ghost use Rattle.check_record.specs.Blocks.{IsBoxed, segments_in};
 
 use crate::blocks::{Block, blocks_of};
-use crate::line::stacked_segment;
 use cell_spec::Finding;
 use check_words::{Numbered, number, numbered, same_point, segments_of};
 use geo_exact::meeting;
@@ -131,22 +131,21 @@ fn push_pair(
     Ok(())
 }
 
-/// SelfMeet: appends its finding about the points of an edge.
+/// SelfMeet: appends its finding about the points of an edge, none of which are stacked. One segment meets no other.
 pub(crate) fn push_self_meet(
     alloc: Global,
     findings: &mut Vec<Finding>,
     points: &[Point],
 ) -> Result<(), AllocError>
+    requires { spec_stacked_segment points.now ≡ None }
     ensures { OnOk result (findings.new.items ≡ findings.old.items ++ map (finding SELF_MEET) (self_meet_of points.now)) }
 {
-    if stacked_segment(alloc, points)?.is_some() {
+    if points.len() <= 2 {
         return Ok(());
     }
     let segments = segments_of(alloc, points)?;
     let segments = numbered(alloc, &segments)?;
     let blocks = blocks_of(alloc, &segments)?;
-    push_pair(
-        findings,
-        first_wrong_meeting(is_closed_line(points), &segments, &blocks),
-    )
+    let pair = first_wrong_meeting(is_closed_line(points), &segments, &blocks);
+    push_pair(findings, pair)
 }

@@ -1,24 +1,29 @@
 //! The findings about a node or an edge.
 
-ghost use Rattle.std.specs.Prelude.{◌≡◌, ◌+◌, ◌*◌, ◌≤◌, IfOk, Some, count_by, false, length, true};
+ghost use Rattle.std.specs.Prelude.{◌≡◌, IfOk, List, Some, false, true};
+ghost use Rattle.std.specs.List.{All};
 ghost use Rattle.s57_types.specs.declared.cell.Cell.{Cell as SpecCell};
+ghost use Rattle.s57_types.specs.declared.name.RecName.{RecName as SpecName};
+ghost use Rattle.s57_types.specs.declared.record.End.{End as SpecEnd};
 ghost use Rattle.s57_types.specs.declared.record.Rec.TheVariants.{V};
+ghost use Rattle.cell_spec.specs.declared.key.Key.{Key as SpecKey};
+ghost use Rattle.cell_spec.specs.declared.key.Key.TheVariants.{Name as KeyName};
 ghost use Rattle.cell_spec.specs.declared.key.Subject.TheVariants.{Rec as SubjectRec};
 ghost use Rattle.cell_spec.specs.Lookup.{lookup_record};
+ghost use Rattle.near_records.specs.Near.{has_key};
 ghost use Rattle.rule_spec.specs.Findings.{findings_of_record};
 ghost use Rattle.rule_spec.specs.Reads.{read_set};
 ghost use Rattle.rule_spec.specs.Records.{is_edge_name, is_node_name};
-ghost use Rattle.check_record.specs.Nodes.{is_node_key};
 
-use crate::asked::Asked;
-use crate::ends::{nodes_among, push_dangling_ends, push_end_count};
-use crate::line::push_line_findings;
+use crate::ends::push_end_count;
+use crate::line::{line_of, push_line_findings};
 use crate::shape::{push_bad_shape, push_node_pointer};
-use cell_spec::{Finding, Key};
-use chain_topo::{Look, Steps, edge_line};
+use cell_spec::Finding;
+use check_feature::push_dangling;
+use near_records::Near;
+use rule_spec::DANGLING_END;
 use s57_types::{Kind, Vector};
 use std::alloc::{AllocError, Global};
-use std::sync::ledger::Ledger;
 
 /// Findings, or out of memory.
 type Found = Result<Vec<Finding>, AllocError>;
@@ -45,41 +50,30 @@ fn shape_findings(alloc: Global, vector: &Vector) -> Found
     Ok(findings)
 }
 
-impl<'a, B: Look> Asked<'a, B> {
-    /// The findings about an edge, where the keys are its read set.
-    fn edge_findings<L: Ledger>(&self, edge: &Vector, reads: &[Key], steps: &mut Steps<L>) -> Found
-        requires found { lookup_record (B.cell self.now.look.now) self.now.name ≡ Some (V edge.now) }
-        requires kind { is_edge_name edge.now.name ≡ true }
-        requires reads { reads.now ≡ read_set (B.cell self.now.look.now) (SubjectRec self.now.name) }
-        ensures findings { IfOk result (λ findings. findings.items ≡ findings_of_record (B.cell self.now.look.now) (V edge.now)) }
-        ensures steps { steps.new ≤ steps.old + count_by is_node_key reads.now + 3 }
-    {
-        let nodes = nodes_among(self.alloc, self.look, reads, steps)?;
-        let line = edge_line(self.alloc, self.look, self.name, steps)?;
-        let mut findings = Vec::new(self.alloc);
-        push_bad_shape(&mut findings, edge)?;
-        push_end_count(&mut findings, edge)?;
-        push_dangling_ends(&mut findings, &nodes, edge)?;
-        push_line_findings(self.alloc, &mut findings, line.as_ref())?;
-        Ok(findings)
-    }
+/// The findings about an edge, where what its ends name is near.
+fn edge_findings<N: Near>(alloc: Global, near: &N, edge: &Vector) -> Found
+    requires kind { is_edge_name edge.now.name ≡ true }
+    ensures { (c : SpecCell) (keys : List SpecKey) → N.tells near.now c keys → All (λ (e : SpecEnd). has_key keys (KeyName e.to) ≡ true) edge.now.ends
+        → IfOk result (λ findings. findings.items ≡ findings_of_record c (V edge.now)) }
+{
+    let line = line_of(alloc, near, edge)?;
+    let mut findings = Vec::new(alloc);
+    push_bad_shape(&mut findings, edge)?;
+    push_end_count(&mut findings, edge)?;
+    push_dangling(&mut findings, DANGLING_END, near, edge.ends.as_slice())?;
+    push_line_findings(alloc, &mut findings, line.as_ref())?;
+    Ok(findings)
+}
 
-    /// The findings about a vector record, where the keys are its read set.
-    pub(crate) fn vector_findings<L: Ledger>(
-        &self,
-        vector: &Vector,
-        reads: &[Key],
-        steps: &mut Steps<L>,
-    ) -> Result<Vec<Finding>, AllocError>
-        requires found { lookup_record (B.cell self.now.look.now) self.now.name ≡ Some (V vector.now) }
-        requires reads { reads.now ≡ read_set (B.cell self.now.look.now) (SubjectRec self.now.name) }
-        ensures findings { IfOk result (λ findings. findings.items ≡ findings_of_record (B.cell self.now.look.now) (V vector.now)) }
-        ensures steps { steps.new + 1 ≤ steps.old + 4 * length reads.now }
-    {
-        match vector.name.kind {
-            Kind::Ve => self.edge_findings(vector, reads, steps),
-            Kind::Vi | Kind::Vc => node_findings(self.alloc, vector),
-            Kind::Fe | Kind::Head => shape_findings(self.alloc, vector),
-        }
+/// The findings about a vector record. Those about a node are by its shape alone; for an edge, what the cell answers to its read set is near.
+pub(crate) fn vector_findings<N: Near>(alloc: Global, near: &N, vector: &Vector) -> Found
+    ensures { (c : SpecCell) (n : SpecName) (keys : List SpecKey) → (is_edge_name vector.now.name ≡ true → N.tells near.now c keys)
+        → keys ≡ read_set c (SubjectRec n) → lookup_record c n ≡ Some (V vector.now)
+        → IfOk result (λ findings. findings.items ≡ findings_of_record c (V vector.now)) }
+{
+    match vector.name.kind {
+        Kind::Ve => edge_findings(alloc, near, vector),
+        Kind::Vi | Kind::Vc => node_findings(alloc, vector),
+        Kind::Fe | Kind::Head => shape_findings(alloc, vector),
     }
 }

@@ -1,6 +1,6 @@
 //! The check of a record.
 
-ghost use Rattle.std.specs.Prelude.{◌≡◌, ◌+◌, ◌*◌, ◌≤◌, IfOk, None, Some, length};
+ghost use Rattle.std.specs.Prelude.{◌≡◌, ◌+◌, ◌*◌, ◌≤◌, IfOk, None, Some, length, true};
 ghost use Rattle.s57_types.specs.declared.cell.Cell.{Cell as SpecCell};
 ghost use Rattle.s57_types.specs.declared.head.Head.{Head as SpecHead};
 ghost use Rattle.s57_types.specs.declared.record.Rec.TheVariants.{F, H, V};
@@ -8,20 +8,38 @@ ghost use Rattle.cell_spec.specs.declared.key.Subject.TheVariants.{Rec as Subjec
 ghost use Rattle.cell_spec.specs.Lookup.{lookup_record};
 ghost use Rattle.rule_spec.specs.Findings.{findings_of_subject};
 ghost use Rattle.rule_spec.specs.Reads.{read_set};
+ghost use Rattle.rule_spec.specs.Records.{is_edge_name};
 ghost use Rattle.near_records.specs.Near.{IsNear};
 ghost use Rattle.check_record.specs.RecordRow.{IsRecordRow};
 
 use crate::asked::Asked;
 use crate::reads::{feature_reads, named_keys, vector_reads};
+use crate::vector::vector_findings;
 use cell_spec::{Findings, Key, Keys, Row, Subject, ascending_keys};
 use chain_topo::{Look, Steps};
 use check_feature::feature_findings;
 use near_records::{NearRecords, gather, gather_beside};
-use s57_types::{Feature, Items, Rec, RecName, Vector};
+use s57_types::{Feature, Items, Kind, Rec, RecName, Vector};
 use std::alloc::{AllocError, Global};
 use std::sync::ledger::Ledger;
 
 impl<'a, B: Look> Asked<'a, B> {
+    /// What the cell answers to the read set of an edge. The findings about a node ask for nothing.
+    fn near_vector<L: Ledger>(
+        &self,
+        vector: &Vector,
+        reads: &[Key],
+        steps: &mut Steps<L>,
+    ) -> Result<NearRecords<'a>, AllocError>
+        ensures near { is_edge_name vector.now.name ≡ true → IfOk result (λ near. IsNear (B.cell self.now.look.now) reads.now near) }
+        ensures steps { steps.new ≤ steps.old + length reads.now }
+    {
+        match vector.name.kind {
+            Kind::Ve => gather(self.alloc, self.look, reads, steps),
+            _ => gather(self.alloc, self.look, &[], steps),
+        }
+    }
+
     /// The row of a vector record.
     fn vector<L: Ledger>(&self, vector: &Vector, steps: &mut Steps<L>) -> Result<Row, AllocError>
         requires { lookup_record (B.cell self.now.look.now) self.now.name ≡ Some (V vector.now) }
@@ -29,8 +47,8 @@ impl<'a, B: Look> Asked<'a, B> {
         ensures steps { steps.new + 1 ≤ steps.old + 4 * length (read_set (B.cell self.now.look.now) (SubjectRec self.now.name)) }
     {
         let reads = vector_reads(self.alloc, self.name, vector)?;
-        let keys = reads.as_slice();
-        let findings = self.vector_findings(vector, keys, steps)?;
+        let near = self.near_vector(vector, reads.as_slice(), steps)?;
+        let findings = vector_findings(self.alloc, &near, vector)?;
         Ok(Row {
             subject: Subject::Rec(self.name),
             findings: Items::of_vec(findings),

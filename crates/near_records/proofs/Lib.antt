@@ -1,3 +1,4 @@
 pub mod InOrder
 pub mod NearAnswers
 pub mod ReadKeys
+pub mod AskedEnds

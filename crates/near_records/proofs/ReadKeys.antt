@@ -1,5 +1,6 @@
 -- The keys that the read set of a feature has: the head's, and those of its places, of the ends of its boundary's edges, and of its partners.
-use Rattle.std.proofs.Common.{◌≡◌, ℕ, ◌<◌, Bool, true, false, ◌||◌, List, [], ◌∷◌, ◌++◌, length, map, flat_map, get_or, Some, cond, refl, ap, ◌∙◌}
+-- The read set of an edge has those of its ends, and that of a side those of the edge and of the records that point to it.
+use Rattle.std.proofs.Common.{◌≡◌, ℕ, ◌<◌, Bool, true, false, ◌||◌, List, [], ◌∷◌, ◌++◌, length, map, flat_map, get_or, None, Some, cond, refl, ap, ◌∙◌}
 use Rattle.std.specs.Prelude.{◌==◌, option_and_then}
 use Rattle.std.specs.List.{list_any, All}
 use Rattle.std.specs.Option.{option_map_or}
@@ -13,17 +14,19 @@ use Rattle.s57_types.specs.declared.name.RecName.{RecName}
 use Rattle.s57_types.specs.declared.record.End.{End}
 use Rattle.s57_types.specs.declared.record.Feature.{Feature}
 use Rattle.s57_types.specs.declared.record.Partner.{Partner}
-use Rattle.s57_types.specs.declared.record.Rec.TheVariants.{F}
+use Rattle.s57_types.specs.declared.record.Rec.TheVariants.{F, V}
 use Rattle.s57_types.specs.declared.record.Spot.{Spot}
 use Rattle.s57_types.specs.declared.record.Vector.{Vector}
 use Rattle.s57_types.specs.Heads.{head_name}
 use Rattle.cell_spec.specs.declared.key.Key.{Key}
-use Rattle.cell_spec.specs.declared.key.Key.TheVariants.{Name, Foid}
-use Rattle.cell_spec.specs.declared.key.Subject.TheVariants.{Rec}
-use Rattle.cell_spec.specs.Lookup.{lookup_record}
+use Rattle.cell_spec.specs.declared.key.Key.TheVariants.{Name, Refs, Foid}
+use Rattle.cell_spec.specs.declared.key.Ref.{Ref}
+use Rattle.cell_spec.specs.declared.key.Subject.TheVariants.{Rec, Side}
+use Rattle.cell_spec.specs.Ascending.{ascending}
+use Rattle.cell_spec.specs.Lookup.{lookup_pointers, lookup_record}
 use Rattle.cell_spec.specs.Names.{key_order}
 use Rattle.rule_spec.specs.Reads.{end_keys, end_keys_at, feature_keys, keys_read, read_set}
-use Rattle.rule_spec.specs.Records.{edge_named, feature_of}
+use Rattle.rule_spec.specs.Records.{edge_named, feature_of, is_edge_name, vector_of}
 use Rattle.cell_spec.proofs.Ascending.{holds-ascending}
 use Rattle.cell_spec.proofs.Orders.{exact_keys, total_keys}
 use Rattle.near_records.specs.Near.{has_key}
@@ -135,3 +138,45 @@ module _ (c : Cell) (n : RecName) (f : Feature) (keys : List Key) (is_set : keys
       ap (λ b. has_key (cond b gathered []) key) area ∙ has_gathered (λ (s : Spot). end_keys_at c s.to) f.places k d key within here in
       by_pointers key (by_parts key ∙ earlier (has_key place_keys key || has_key boundary_keys key) (has_key partner_keys key)
       (later (has_key place_keys key) (has_key boundary_keys key) among))
+
+-- ---- an edge
+edge_keys : (c : Cell) (n : RecName) (v : Vector) → lookup_record c n ≡ Some (V v) → is_edge_name v.name ≡ true
+    → keys_read c (Rec n) ≡ Name n ∷ (end_keys v ++ [])
+edge_keys c n v found kind =
+    (λ i. Name n ∷ (option_map_or end_keys (option_and_then (vector_of is_edge_name) (found i)) [] ++ option_map_or (feature_keys c)
+    (option_and_then feature_of (found i)) []))
+    ∙ ap (λ b. Name n ∷ (option_map_or end_keys (cond b (Some v) None) [] ++ [])) kind
+
+-- the records that the ends of an edge name
+pub own_ends_are_read : (c : Cell) (n : RecName) (v : Vector) (keys : List Key) → keys ≡ read_set c (Rec n) → lookup_record c n ≡ Some (V v)
+    → is_edge_name v.name ≡ true → All (λ (e : End). has_key keys (Name e.to) ≡ true) v.ends
+unfolding read_set
+own_ends_are_read c n v keys is_set found kind = λ k d within.
+    let key = Name (get_or v.ends k d).to in
+    ap (λ ks. has_key ks key) (is_set ∙ ap (ascending key_order) (edge_keys c n v found kind))
+    ∙ holds-ascending key_order exact_keys key (Name n ∷ (end_keys v ++ []))
+    ∙ later (is_eq (key_order key (Name n))) (has_key (end_keys v ++ []) key)
+    (has-append key (end_keys v) [] ∙ earlier (has_key (end_keys v) key) false (has_mapped (λ (e : End). Name e.to) v.ends k d within))
+
+-- ---- a side
+module _ (c : Cell) (n : RecName) (keys : List Key) (is_set : keys ≡ read_set c (Side n)) where
+  -- the edge
+  pub edge_is_read : has_key keys (Name n) ≡ true
+  unfolding read_set
+  edge_is_read =
+      let key = Name n in
+      ap (λ ks. has_key ks key) is_set
+      ∙ holds-ascending key_order exact_keys key (keys_read c (Side n))
+      ∙ earlier (is_eq (key_order key key)) _ (ties_itself (key_order key key) (total_keys.antisymm key key))
+
+  -- the records that point to it
+  pub referrers_are_read : All (λ (r : Ref). has_key keys (Name r.from) ≡ true) (lookup_pointers c n)
+  unfolding read_set
+  referrers_are_read = λ k d within.
+      let pointers = lookup_pointers c n in
+      let key = Name (get_or pointers k d).from in
+      let froms = map (λ (r : Ref). Name r.from) pointers in
+      ap (λ ks. has_key ks key) is_set
+      ∙ holds-ascending key_order exact_keys key (keys_read c (Side n))
+      ∙ later (is_eq (key_order key (Name n))) (has_key (Refs n ∷ froms) key)
+      (later (is_eq (key_order key (Refs n))) (has_key froms key) (has_mapped (λ (r : Ref). Name r.from) pointers k d within))

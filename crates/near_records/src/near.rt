@@ -1,16 +1,15 @@
 //! The answers to some keys, found again by their keys.
 
-ghost use Rattle.std.specs.Prelude.{◌≡◌, ◌+◌, ◌≤◌, IfOk, List, Some, length, map, nat_lt, option_map, true};
+ghost use Rattle.std.specs.Prelude.{◌≡◌, ◌+◌, ◌≤◌, IfOk, List, Some, length, map, option_map, true};
 ghost use Rattle.std.specs.Option.{option_copied};
 ghost use Rattle.std.specs.Ordering.{is_lt};
 ghost use Rattle.s57_types.specs.declared.cell.Cell.{Cell as SpecCell};
 ghost use Rattle.cell_spec.specs.declared.key.Key.{Key as SpecKey};
-ghost use Rattle.cell_spec.specs.declared.key.Key.TheVariants.{Foid as KeyFoid, Name as KeyName};
 ghost use Rattle.cell_spec.specs.Ascending.{ascending};
 ghost use Rattle.cell_spec.specs.Names.{key_order};
-ghost use Rattle.cell_spec.specs.Lookup.{lookup_identity, lookup_record};
 ghost use Rattle.near_records.specs.Near.{AreAnswers, IsNear, answer_held, answer_to as spec_answer, has_key};
 
+use crate::told::Near;
 use cell_spec::{Key, Keys, ascending_keys, orders_are_by_parts};
 use chain_topo::{Look, Steps};
 use s57_types::{Lnam, Rec, RecName};
@@ -230,23 +229,19 @@ impl<'a> NearRecords<'a> {
     {
         &self.answers
     }
+}
 
-    /// The record of a name among the keys, or none.
-    pub fn record(&self, name: RecName) -> Option<&'a Rec>
-        ensures { (c : SpecCell) (keys : List SpecKey) → IsNear c keys self.now → has_key keys (KeyName name) ≡ true
-            → option_copied result ≡ lookup_record c name }
-    {
+impl<'a> Near for NearRecords<'a> {
+    ghost tells = { λ near c keys. IsNear c keys near };
+
+    fn record(&self, name: RecName) -> Option<&Rec> {
         match find_answer(&self.answers, Key::Name(name)) {
             Some(answer) => answer.record,
             None => None,
         }
     }
 
-    /// Whether a feature bears an identifier among the keys.
-    pub fn is_borne(&self, foid: Lnam) -> bool
-        ensures { (c : SpecCell) (keys : List SpecKey) → IsNear c keys self.now → has_key keys (KeyFoid foid) ≡ true
-            → result ≡ nat_lt 0 (length (lookup_identity c foid)) }
-    {
+    fn is_borne(&self, foid: Lnam) -> bool {
         match find_answer(&self.answers, Key::Foid(foid)) {
             Some(answer) => answer.is_borne,
             None => false,

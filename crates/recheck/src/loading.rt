@@ -1,24 +1,20 @@
 //! The bench of a whole cell, of which several threads judge all.
 
-ghost use Rattle.std.specs.Prelude.{◌≡◌, ◌||◌, ◌<◌, All, IfOk, IsTrue, List, MatchResult, Ok, map};
-ghost use Rattle.std.specs.Borrow.{Bor};
-ghost use Rattle.std.specs.List.{AllZip};
+ghost use Rattle.std.specs.Prelude.{◌≡◌, ◌||◌, ◌<◌, All, IfOk, IsTrue, MatchResult, map};
 ghost use Rattle.cell_bench.specs.Benches.{IsLoadRefusal, IsLoaded};
 ghost use Rattle.cell_bench.specs.Singles.{reads_row as spec_reads_row, singles_in};
 ghost use Rattle.cell_spec.specs.Ascending.{ascending};
 ghost use Rattle.cell_spec.specs.Names.{subject_order};
 ghost use Rattle.cell_spec.specs.Writable.{IsWritable};
-ghost use Rattle.cell_spec.specs.declared.key.Subject.{Subject as SpecSubject};
 ghost use Rattle.rule_spec.specs.Affected.{is_single};
 ghost use Rattle.rule_spec.specs.Findings.{is_subject};
 
 use crate::judging::FEWEST;
 use cell_bench::{Bench, FINDING_LIMIT, LoadRefusal, reads_row, singles_of};
-use cell_findings::find_all_in_threads;
+use cell_findings::{each_in_threads, find_all_in_threads};
 use cell_spec::{Keys, Subject, writable_cells_are_readable};
 use chain_topo::ListLook;
 use look_counter::start_counter;
-use rayon::prelude::*;
 use s57_types::Cell;
 use std::alloc::{AllocError, Global};
 use std::marker::Brand;
@@ -50,31 +46,7 @@ fn read(alloc: Global, look: &ListLook, subject: Subject) -> Result<(Subject, Ke
     counted::<Brand>(alloc, look, subject, Blank::new(1))
 }
 
-/// What a call answers about each subject, in the order of subjects. Threads share them where there are many.
-///
-/// An `Err` is that of a call, or out of memory.
-fn each_in_threads<
-    R: Threads + Sync,
-    F: Fn(&Subject) -> Result<(Subject, Keys), AllocError> + Copy + Send + Sync,
->(rt: &R, alloc: Global, subjects: &[Subject], read: F) -> Result<Vec<(Subject, Keys)>, AllocError>
-    requires { All (λ (s : SpecSubject). (shown : Bor SpecSubject) → shown.now ≡ s → F.pre read shown) subjects.now }
-    ensures { IfOk result (λ rows. (shown : List (Bor SpecSubject)) × (map (λ (b : Bor SpecSubject). b.now) shown ≡ subjects.now)
-        × AllZip (λ b row. F.post read b (Ok row)) shown rows.items) }
-{
-    let rows = subjects
-        .par_iter()
-        .with_min_len(FEWEST)
-        .map(
-            |subject: &Subject| -> Result<(Subject, Keys), AllocError>
-                requires { F.pre read subject }
-                ensures { F.post read subject.entry result }
-            { read(subject) },
-        )
-        .collect::<Result<Vec<(Subject, Keys)>, AllocError>>(rt, alloc)?;
-    Ok(rows?)
-}
-
-/// Subjects with their read sets, in their order.
+/// Subjects with their read sets, in their order. Threads share them where there are many.
 fn rows_read<R: Threads + Sync>(
     rt: &R,
     alloc: Global,
@@ -87,6 +59,7 @@ fn rows_read<R: Threads + Sync>(
     let rows = each_in_threads(
         rt,
         alloc,
+        FEWEST,
         subjects,
         |subject: &Subject| -> Result<(Subject, Keys), AllocError>
             requires { IsTrue (is_single subject.now || is_subject look.now subject.now) }

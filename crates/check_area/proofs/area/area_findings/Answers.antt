@@ -8,7 +8,7 @@ use Rattle.check_area.proofs.Places.{all_asked, none_found, parts_found}
 use Rattle.check_area.proofs.area.area_findings.Goals as goal
 
 pub returns-in-Some : goal.returns-in-Some
-returns-in-Some c = λ cell n keys near is_set found area fits there coded.
+returns-in-Some g c = λ cell n keys near is_set found area fits there coded.
     let f = c.args.feature.now in
     let asks = subst (λ (places : List Spot). All (λ (s : Spot). AsksForLine cell keys s.to) places) (sym c.as_slice.ensures)
     (all_asked cell n f keys is_set found area) in
@@ -18,7 +18,7 @@ returns-in-Some c = λ cell n keys near is_set found area fits there coded.
     (ap findings_of_parts c.deref.ensures.value ∙ parts_found cell f area fits there coded c.in-Some.parts.items parts) c.ring_findings.ensures
 
 pub returns-in-None : goal.returns-in-None
-returns-in-None c = λ cell n keys near is_set found area fits there coded.
+returns-in-None g c = λ cell n keys near is_set found area fits there coded.
     let f = c.args.feature.now in
     let asks = subst (λ (places : List Spot). All (λ (s : Spot). AsksForLine cell keys s.to) places) (sym c.as_slice.ensures)
     (all_asked cell n f keys is_set found area) in

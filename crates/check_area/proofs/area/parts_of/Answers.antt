@@ -4,7 +4,7 @@ use Rattle.check_area.proofs.Places.{IsSoFar, place_refused, place_taken}
 use Rattle.check_area.proofs.area.parts_of.Goals as goal
 
 pub returns-in_default : goal.returns-in_default
-returns-in_default c = λ cell keys near asks.
+returns-in_default g c = λ cell keys near asks.
     let places = c.args.places.now in
     let k = c.loop-k.k in
     let within = c.loop-k-test.true in
@@ -13,7 +13,7 @@ returns-in_default c = λ cell keys near asks.
     place_refused cell c.loop-k.known c.loop-k.parts.items k places _ _ within so_far c.in_ok-place.ensures (sym c.in_default.is ∙ found)
 
 pub loop-k-preserved : goal.loop-k-preserved
-loop-k-preserved c = λ cell keys near asks.
+loop-k-preserved g c = λ cell keys near asks.
     let places = c.args.places.now in
     let k = c.loop-k.k in
     let within = c.loop-k-test.true in

@@ -5,7 +5,7 @@ use Rattle.check_feature.proofs.FeatureFindings.{judged_codes, judged_prim, judg
 use Rattle.check_feature.proofs.boundary.push_boundary_findings.Goals as goal
 
 pub returns-then-not-may_be_judged : goal.returns-then-not-may_be_judged
-returns-then-not-may_be_judged c = λ cell n keys near is_set found pointers.
+returns-then-not-may_be_judged g c = λ cell n keys near is_set found pointers.
     let held = c.args.findings.now.items in
     let none = not_judged cell c.args.feature.now c.as_slice.result.now (c.as_slice.ensures.value ∙ pointers)
     (sym c.may_be_judged.ensures ∙ c.if-not-may_be_judged.true) in
@@ -13,7 +13,7 @@ returns-then-not-may_be_judged c = λ cell n keys near is_set found pointers.
 
 pub returns : goal.returns
 unfolding boundary_findings
-returns c = λ cell n keys near is_set found pointers.
+returns g c = λ cell n keys near is_set found pointers.
     let area = c.args.feature.now in
     let held = c.as_slice.result.now in
     let is = c.as_slice.ensures.value ∙ pointers in

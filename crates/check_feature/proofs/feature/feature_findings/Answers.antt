@@ -14,7 +14,7 @@ use Rattle.check_feature.proofs.FeatureFindings.{all_appended, pointers_appended
 use Rattle.check_feature.proofs.feature.feature_findings.Goals as goal
 
 pub returns : goal.returns
-returns c = λ cell n keys near is_set found.
+returns g c = λ cell n keys near is_set found.
     let f = c.args.feature.now in
     let places : c.as_slice.result.now ≡ f.places = c.as_slice.ensures in
     let partners : c.as_slice-2.result.now ≡ f.partners = c.as_slice-2.ensures in

@@ -1,4 +1,5 @@
+use Rattle.std.proofs.Common.{◌∙◌}
 use Rattle.cell_findings.proofs.search.Search.push_side.Goals as goal
 
 pub returns : goal.returns
-returns g c = rw (← c.in_ok-row.ensures.findings, ← c.in_ok-row.ensures.subject) c.push_row.ensures
+returns c = rw (← (c.deref.ensures.value ∙ c.in_ok-found.ensures)) c.push_found.ensures
