@@ -39,6 +39,11 @@ IsOpenRefusal c before faults now (JournalFull count) = (finding_total c ≤ fin
 IsOpenRefusal c before faults now FindingsFull = finding_limit < finding_total c
 IsOpenRefusal c before faults now NoMemory = Unit {0}
 
+-- the count of the disk's failed calls rose where that is why a journal isn't opened, and stayed with every other refusal
+abbrev pub CountsFaults : (faults now : ℕ) → OpenRefusal → Type 0
+CountsFaults faults now DiskFault = Rose faults now
+CountsFaults faults now why = now ≡ faults
+
 -- only after a fault of the disk its bytes may be others
 abbrev pub LeavesBytes : Option (List ℕ) → Option (List ℕ) → OpenRefusal → Type 0
 LeavesBytes before now (BadJournal place) = now ≡ before

@@ -16,10 +16,10 @@ with_entry file end part = with_part file end 1 part
 abbrev pub IsTornEntry : List ℕ → ℕ → List ℕ → List ℕ → Type 0
 IsTornEntry file end part image = (take (end + 1) image ≡ take (end + 1) file) ⊎ ((mark : ℕ) × (image ≡ with_part file end mark part))
 
--- a disk isn't read because of a fault, or because memory is out
+-- a disk isn't read because of a fault, or because memory is out, and then no call of it failed
 abbrev pub IsReadRefusal : ℕ → ℕ → OpenRefusal → Type 0
 IsReadRefusal before after (BadJournal place) = ⊥
 IsReadRefusal before after DiskFault = Rose before after
 IsReadRefusal before after (JournalFull count) = ⊥
 IsReadRefusal before after FindingsFull = ⊥
-IsReadRefusal before after NoMemory = Unit {0}
+IsReadRefusal before after NoMemory = after ≡ before

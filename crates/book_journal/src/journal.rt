@@ -91,7 +91,7 @@ impl<'a, D: Disk> Journal<'a, D> {
         // A crash at any moment of the call leaves what is read as something that a crash before it may have left.
         ensures moments { IfOk result (λ journal. IfSome (D.content disk.old)
             (λ _. LeavesOnly D.moment D.left_since disk.old journal.disk.now (IsAsBefore cell (D.images disk.old)))) }
-        ensures no_fall { IfOk result (λ journal. D.faults disk.old ≤ D.faults journal.disk.now) }
+        ensures counted { IfOk result (λ journal. D.faults journal.disk.now ≡ D.faults disk.old) }
         ensures err { IfErr result (IsOpenCause cell (D.content disk.old)) }
     {
         match open_book(rt, alloc, cell, disk, steps) {
@@ -199,6 +199,7 @@ impl<'a, D: Disk> Journal<'a, D> {
         ensures broken { OnErr result (self.new.broken ≡ true) }
         ensures fault { IfErr result (λ why. why ≡ KeepRefusal.DiskFault) }
         ensures rose { OnErr result (Rose (D.faults self.old.disk.now) (D.faults self.new.disk.now)) }
+        ensures counted { OnOk result (D.faults self.new.disk.now ≡ D.faults self.old.disk.now) }
         ensures no_fall { D.faults self.old.disk.now ≤ D.faults self.new.disk.now }
         ensures content { OnOk result (IfSome (D.content self.old.disk.now)
             (λ file. D.content self.new.disk.now ≡ Some (with_entry file self.old.end part.now))) }
@@ -245,6 +246,7 @@ impl<'a, D: Disk> Journal<'a, D> {
         ensures accepted { OnErr result (IsAcceptance reply.now) }
         ensures broken { OnErr result (self.new.broken ≡ true) }
         ensures rose { OnErr result (Rose (D.faults self.old.disk.now) (D.faults self.new.disk.now)) }
+        ensures counted { OnOk result (D.faults self.new.disk.now ≡ D.faults self.old.disk.now) }
         // A crash at any moment of the call leaves the commits from before it, or these and the new one.
         ensures moments { IfSome (D.content self.old.disk.now)
             (λ _. LeavesOnly D.moment D.left_since self.old.disk.now self.new.disk.now
@@ -284,6 +286,7 @@ impl<'a, D: Disk> Journal<'a, D> {
         ensures whole { OnOk result (self.new.broken ≡ false) }
         ensures stays_told { IsSome (D.content self.new.disk.now) ↔ IsSome (D.content self.old.disk.now) }
         ensures err { IfErr result (IsKeepRefusal D.faults desk prepared.now self.old self.new) }
+        ensures counted { OnOk result (D.faults self.new.disk.now ≡ D.faults self.old.disk.now) }
         ensures broken { self.old.broken ≡ true → result ≡ Err KeepRefusal.Broken }
         ensures long { text_limit < length (text_asked prepared.now) → MatchResult result (λ _. ⊥) IsTooLongOrOut }
         ensures full { self.old.broken ≡ false → length (text_asked prepared.now) ≤ text_limit → length self.old.book.entries ≡ entry_limit
@@ -331,6 +334,7 @@ impl<'a, D: Disk> Journal<'a, D> {
         ensures whole { OnOk result (self.new.broken ≡ false) }
         ensures stays_told { IsSome (D.content self.new.disk.now) ↔ IsSome (D.content self.old.disk.now) }
         ensures err { IfErr result (IsKeepRefusal D.faults desk prepared.now self.old self.new) }
+        ensures counted { OnOk result (D.faults self.new.disk.now ≡ D.faults self.old.disk.now) }
         ensures broken { self.old.broken ≡ true → result ≡ Err KeepRefusal.Broken }
         ensures long { text_limit < length (text_asked prepared.now) → MatchResult result (λ _. ⊥) IsTooLongOrOut }
         ensures full { self.old.broken ≡ false → length (text_asked prepared.now) ≤ text_limit → length self.old.book.entries ≡ entry_limit

@@ -1,10 +1,10 @@
 //! Opening a journal.
 
-ghost use Rattle.std.specs.Prelude.{◌≤◌, ◌↔◌, IfErr, IfOk, IfSome, IsSome};
+ghost use Rattle.std.specs.Prelude.{◌≡◌, ◌≤◌, ◌↔◌, IfErr, IfOk, IfSome, IsSome, MatchResult};
 ghost use Rattle.cell_spec.specs.Writable.{IsWritable};
 ghost use Rattle.crash_disk.specs.Disk.{LeavesOnly};
 ghost use Rattle.book_journal.specs.Keeping.{IsAsBefore};
-ghost use Rattle.book_journal.specs.Opening.{IsBookOfJournal, IsOpenRefusal, IsOpenedAt, LeavesBytes};
+ghost use Rattle.book_journal.specs.Opening.{CountsFaults, IsBookOfJournal, IsOpenRefusal, IsOpenedAt, LeavesBytes};
 
 use crate::reading::{begin_list, read_disk};
 use crate::refusal::OpenRefusal;
@@ -36,6 +36,7 @@ pub fn open_book<R: Threads + Sync, L: Ledger, D: Disk>(
     ensures left { IfErr result (LeavesBytes (D.content disk.old) (D.content disk.new)) }
     ensures stays_told { IsSome (D.content disk.new) ↔ IsSome (D.content disk.old) }
     ensures moments { IfSome (D.content disk.old) (λ _. LeavesOnly D.moment D.left_since disk.old disk.new (IsAsBefore cell (D.images disk.old))) }
+    ensures counted { MatchResult result (λ _. D.faults disk.new ≡ D.faults disk.old) (CountsFaults (D.faults disk.old) (D.faults disk.new)) }
     ensures no_fall { D.faults disk.old ≤ D.faults disk.new }
 {
     let bytes = read_disk(alloc, disk)?;

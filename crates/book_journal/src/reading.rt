@@ -16,6 +16,7 @@ pub(crate) fn read_disk<D: Disk>(alloc: Global, disk: &mut D) -> Result<Vec<u8>,
     ensures kept { OnOk result (IfSome (D.content disk.old) (λ file. Only file (D.images disk.new))) }
     ensures moments { LeavesOnly D.moment D.left_since disk.old disk.new (D.images disk.old) }
     ensures err { IfErr result (IsReadRefusal (D.faults disk.old) (D.faults disk.new)) }
+    ensures counted { OnOk result (D.faults disk.new ≡ D.faults disk.old) }
     ensures no_fall { D.faults disk.old ≤ D.faults disk.new }
 {
     disk.sync()?;

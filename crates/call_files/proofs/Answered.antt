@@ -8,7 +8,7 @@ use Rattle.enc_outside.specs.Count.{Rose}
 use Rattle.enc_outside.specs.Files.{Files}
 use Rattle.text_spec.specs.declared.command.Command.{Command}
 use Rattle.call_files.specs.Inputs.{AreScripts, IsInputStatus, IsReachedScript, ScriptIs, ScriptsAre}
-use Rattle.call_files.specs.Inputs.{Tells}
+use Rattle.call_files.specs.Inputs.{EndTellsReads, Tells, TellsReads}
 use Rattle.report_text.specs.declared.status.Status.{Status}
 use Rattle.report_text.specs.declared.status.Status.TheVariants.{Done, Usage, Absent, BadCell, BadScript, ReadFault, WriteFault, TooLarge, NoMemory}
 use Rattle.report_text.specs.declared.status.Status.TheVariants.{BadOrder, Stuck, TooManyFindings, BadUpdate, Refused, BadJournal, DiskFault, OpRefused}
@@ -67,6 +67,21 @@ status_of_more P Q (BadJournal place) more is = is
 status_of_more P Q DiskFault more is = is
 status_of_more P Q (OpRefused cause) more is = is
 status_of_more P Q (JournalFull count) more is = is
+
+-- ---- what is told of failed reads
+pub none_failed : (before after : ℕ) (status : Status) → after ≡ before → EndTellsReads before after status
+none_failed before after (ReadFault name) same = tt
+none_failed before after NoMemory same = tt
+none_failed before after status same = same
+
+pub none_read : {A : Type 0} (n : ℕ) (result : Result A Status) → TellsReads n n result
+none_read n (Ok a) = refl
+none_read n (Err status) = none_failed n n status refl
+
+-- none failed, and then an answer told
+pub told_behind : {A : Type 0} (before mid after : ℕ) (result : Result A Status) → mid ≡ before → TellsReads mid after result
+    → TellsReads before after result
+told_behind before mid after result same tells = subst (λ n. TellsReads n after result) same tells
 
 -- ---- scripts one after the other
 pub name_there : (names : List (String Global)) (k : ℕ) (name : String Global) → k < length names → name ≡ get_or names k name

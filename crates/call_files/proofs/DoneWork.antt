@@ -15,6 +15,8 @@ module _ (before mid after : Outside) (same_files : mid.files ≡ before.files) 
   finished_still : (task : Task) → IsFinished task mid after → IsFinished task before after
   finished_still task done = record {
     written = subst (λ (w : Option (List ℕ)). Told (Adds task.text) w after.written) same_written done.written;
+    put_faults = done.put_faults ∙ same_puts;
+    write_faults = done.write_faults ∙ same_faults;
     files = subst (λ (fs : Option Files). AreWritten task.file fs after.files) same_files done.files;
   }
 
@@ -30,6 +32,7 @@ module _ (before mid after : Outside) (same_files : mid.files ≡ before.files) 
   cut_file_still task cut = record {
     rose = subst (λ n. Rose n after.write_faults) same_faults cut.rose;
     written = subst (λ (w : Option (List ℕ)). Told (Adds task.text) w after.written) same_written cut.written;
+    put_faults = cut.put_faults ∙ same_puts;
     files = subst (λ (fs : Option Files). AreBegun task.file fs after.files) same_files cut.files;
   }
 

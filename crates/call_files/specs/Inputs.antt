@@ -108,6 +108,16 @@ Tells seen Step Reached files before after (Err (ReadFault name)) = Rose before 
 Tells seen Step Reached files before after (Err NoMemory) = Unit {0}
 Tells seen Step Reached files before after (Err status) = IfSome files (λ fs. Step fs (Err status))
 
+-- the count of failed reads stays, unless the status tells of one; where memory ran out, one may have failed before
+abbrev pub EndTellsReads : (before after : ℕ) → Status → Type 0
+EndTellsReads before after (ReadFault name) = Unit {0}
+EndTellsReads before after NoMemory = Unit {0}
+EndTellsReads before after status = after ≡ before
+
+abbrev pub TellsReads : {A : Type 0} → (before after : ℕ) → Result A Status → Type 0
+TellsReads before after (Ok a) = after ≡ before
+TellsReads before after (Err status) = EndTellsReads before after status
+
 -- a step that reaches one file alone
 abbrev pub IsFile : List ℕ → Files → List ℕ → Type 0
 IsFile name files other = other ≡ name

@@ -37,10 +37,12 @@ abbrev pub AreBegun : Option (List ℕ × List ℕ) → Option Files → Option 
 AreBegun None old new = ⊥
 AreBegun (Some file) old new = Told (IsBegun file.0 file.1) old new
 
--- the text was put, and then the file was written
+-- the text was put, and then the file was written, and no put and no write failed
 pub record IsFinished (task : Task) (before after : Outside) : Type 0 where
   pub written : Told (Adds task.text) before.written after.written
+  pub put_faults : after.put_faults ≡ before.put_faults
   pub files : AreWritten task.file before.files after.files
+  pub write_faults : after.write_faults ≡ before.write_faults
 
 -- a put failed: a beginning of the text was put, and no file changed or was tried to be changed
 pub record IsCutText (task : Task) (before after : Outside) : Type 0 where
@@ -53,6 +55,7 @@ pub record IsCutText (task : Task) (before after : Outside) : Type 0 where
 pub record IsCutFile (task : Task) (before after : Outside) : Type 0 where
   pub rose : Rose before.write_faults after.write_faults
   pub written : Told (Adds task.text) before.written after.written
+  pub put_faults : after.put_faults ≡ before.put_faults
   pub files : AreBegun task.file before.files after.files
 
 abbrev pub IsCut : Task → Outside → Outside → Type 0

@@ -6,7 +6,8 @@ ghost use Rattle.cell_spec.specs.Writable.{IsWritable};
 ghost use Rattle.export_laws.specs.DecodedTypes.{AreFileBytes};
 ghost use Rattle.file_spec.specs.DecodedCell.{decoded_cell};
 ghost use Rattle.history_spec.specs.Steps.{finding_limit};
-ghost use Rattle.call_files.specs.Inputs.{CellIs, FileIs, IsCellOfFile, IsFile, IsInputStatus, IsJudged, IsNotOfOrder, IsNotOfText, Tells, cell_in, cell_limit};
+ghost use Rattle.call_files.specs.Inputs.{CellIs, FileIs, IsCellOfFile, IsFile, IsInputStatus, IsJudged, IsNotOfOrder, IsNotOfText, Tells, cell_in};
+ghost use Rattle.call_files.specs.Inputs.{TellsReads, cell_limit};
 
 use crate::input::read_input;
 use cell_bench::{Bench, FINDING_LIMIT, LoadRefusal};
@@ -127,6 +128,7 @@ pub fn read_cell<R: Threads + Sync, H: Shelf>(
     ensures text { IfErr result IsNotOfText }
     ensures files { H.files shelf.new ≡ H.files shelf.old }
     ensures read_faults { H.read_faults shelf.old ≤ H.read_faults shelf.new }
+    ensures told_reads { TellsReads (H.read_faults shelf.old) (H.read_faults shelf.new) result }
     ensures write_faults { H.write_faults shelf.new ≡ H.write_faults shelf.old }
 {
     let bytes = read_input(alloc, shelf, name, CELL_LIMIT)?;
@@ -147,6 +149,7 @@ pub fn read_bench<R: Threads + Sync, H: Shelf>(
     ensures text { IfErr result IsNotOfText }
     ensures files { H.files shelf.new ≡ H.files shelf.old }
     ensures read_faults { H.read_faults shelf.old ≤ H.read_faults shelf.new }
+    ensures told_reads { TellsReads (H.read_faults shelf.old) (H.read_faults shelf.new) result }
     ensures write_faults { H.write_faults shelf.new ≡ H.write_faults shelf.old }
 {
     let bytes = read_input(alloc, shelf, name, CELL_LIMIT)?;
@@ -162,6 +165,7 @@ pub fn read_update<H: Shelf>(alloc: Global, shelf: &mut H, name: &str) -> Result
     ensures within { IfOk result (λ bytes. length bytes.items ≤ cell_limit) }
     ensures files { H.files shelf.new ≡ H.files shelf.old }
     ensures read_faults { H.read_faults shelf.old ≤ H.read_faults shelf.new }
+    ensures told_reads { TellsReads (H.read_faults shelf.old) (H.read_faults shelf.new) result }
     ensures write_faults { H.write_faults shelf.new ≡ H.write_faults shelf.old }
 {
     read_input(alloc, shelf, name, CELL_LIMIT)

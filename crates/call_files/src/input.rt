@@ -1,7 +1,7 @@
 //! The bytes of an input file of a call.
 
 ghost use Rattle.std.specs.Prelude.{◌≡◌, ◌≤◌, ◌<◌, ◌^◌, IfErr, IfOk, length};
-ghost use Rattle.call_files.specs.Inputs.{FileIs, IsFile, IsInputStatus, IsNotOfOrder, IsNotOfText, Tells};
+ghost use Rattle.call_files.specs.Inputs.{FileIs, IsFile, IsInputStatus, IsNotOfOrder, IsNotOfText, Tells, TellsReads};
 ghost use Rattle.call_files.specs.Refused.{IsRefusal};
 
 use enc_outside::Shelf;
@@ -42,6 +42,7 @@ pub(crate) fn read_input<H: Shelf>(
     ensures within { IfOk result (λ bytes. length bytes.items ≤ limit) }
     ensures files { H.files shelf.new ≡ H.files shelf.old }
     ensures read_faults { H.read_faults shelf.old ≤ H.read_faults shelf.new }
+    ensures told_reads { TellsReads (H.read_faults shelf.old) (H.read_faults shelf.new) result }
     ensures write_faults { H.write_faults shelf.new ≡ H.write_faults shelf.old }
 {
     match read_file(alloc, shelf, name, limit) {

@@ -2,7 +2,7 @@
 
 ghost use Rattle.std.specs.Prelude.{◌≡◌, ◌≤◌, ◌<◌, ◌^◌, IfErr, IfOk, length};
 ghost use Rattle.text_spec.specs.OrderLine.{IsOrder, order_of};
-ghost use Rattle.call_files.specs.Inputs.{IsFile, IsInputStatus, IsJudged, OrderIs, Tells, order_in};
+ghost use Rattle.call_files.specs.Inputs.{IsFile, IsInputStatus, IsJudged, OrderIs, Tells, TellsReads, order_in};
 
 use crate::input::read_input;
 use enc_outside::Shelf;
@@ -43,6 +43,7 @@ pub fn order_in_file<H: Shelf>(
     ensures status { IfErr result (IsInputStatus (λ n. n ≡ name.now)) }
     ensures files { H.files shelf.new ≡ H.files shelf.old }
     ensures read_faults { H.read_faults shelf.old ≤ H.read_faults shelf.new }
+    ensures told_reads { TellsReads (H.read_faults shelf.old) (H.read_faults shelf.new) result }
     ensures write_faults { H.write_faults shelf.new ≡ H.write_faults shelf.old }
 {
     let bytes = read_input(alloc, shelf, name, ORDER_LIMIT)?;

@@ -18,6 +18,7 @@ fn append_all<H: Shelf>(shelf: &mut H, name: &str, bytes: &[u8]) -> Result<(), F
     ensures ok { OnOk result (Told (Writes name.now bytes.now) (H.files shelf.old) (H.files shelf.new)) }
     ensures err { OnErr result (Told (HasFront name.now bytes.now) (H.files shelf.old) (H.files shelf.new)) }
     ensures cause { OnErr result (Rose (H.write_faults shelf.old) (H.write_faults shelf.new)) }
+    ensures kept { OnOk result (H.write_faults shelf.new ≡ H.write_faults shelf.old) }
     ensures writes { OnlyWrites (H.files shelf.old) (H.files shelf.new)
         (H.read_faults shelf.old) (H.read_faults shelf.new) (H.write_faults shelf.old) (H.write_faults shelf.new) }
 {
@@ -33,6 +34,7 @@ fn write_file<H: Shelf>(shelf: &mut H, name: &str, bytes: &[u8]) -> Result<(), F
     ensures ok { OnOk result (Told (Writes name.now bytes.now) (H.files shelf.old) (H.files shelf.new)) }
     ensures err { OnErr result (Told (IsBegun name.now bytes.now) (H.files shelf.old) (H.files shelf.new)) }
     ensures cause { OnErr result (Rose (H.write_faults shelf.old) (H.write_faults shelf.new)) }
+    ensures kept { OnOk result (H.write_faults shelf.new ≡ H.write_faults shelf.old) }
     ensures writes { OnlyWrites (H.files shelf.old) (H.files shelf.new)
         (H.read_faults shelf.old) (H.read_faults shelf.new) (H.write_faults shelf.old) (H.write_faults shelf.new) }
 {
@@ -45,6 +47,7 @@ fn export_file<H: Shelf>(shelf: &mut H, export: &Export) -> Result<(), Failed>
     ensures ok { OnOk result (Told (Writes (string_bytes export.now.name) export.now.bytes.items) (H.files shelf.old) (H.files shelf.new)) }
     ensures err { OnErr result (Told (IsBegun (string_bytes export.now.name) export.now.bytes.items) (H.files shelf.old) (H.files shelf.new)) }
     ensures cause { OnErr result (Rose (H.write_faults shelf.old) (H.write_faults shelf.new)) }
+    ensures kept { OnOk result (H.write_faults shelf.new ≡ H.write_faults shelf.old) }
     ensures writes { OnlyWrites (H.files shelf.old) (H.files shelf.new)
         (H.read_faults shelf.old) (H.read_faults shelf.new) (H.write_faults shelf.old) (H.write_faults shelf.new) }
 {

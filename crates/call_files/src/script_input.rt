@@ -5,7 +5,7 @@ ghost use Rattle.export_laws.specs.ExportedCells.{IsScriptOfText};
 ghost use Rattle.sessions.specs.Replays.{IsShortScript};
 ghost use Rattle.room_laws.specs.Orders.{quotas_of as quotas_of_lem};
 ghost use Rattle.call_files.specs.Inputs.{IsAmong, IsFile, IsInputStatus, IsJudgedScript, IsReachedScript, IsScriptWithin, ScriptIs, ScriptsAre, Tells};
-ghost use Rattle.call_files.specs.Inputs.{IsNotOfOrder, script_limit};
+ghost use Rattle.call_files.specs.Inputs.{IsNotOfOrder, TellsReads, script_limit};
 
 use crate::input::read_input;
 use enc_outside::Shelf;
@@ -49,6 +49,7 @@ pub fn script_in_file<H: Shelf>(
     ensures kind { IfErr result IsNotOfOrder }
     ensures files { H.files shelf.new ≡ H.files shelf.old }
     ensures read_faults { H.read_faults shelf.old ≤ H.read_faults shelf.new }
+    ensures told_reads { TellsReads (H.read_faults shelf.old) (H.read_faults shelf.new) result }
     ensures write_faults { H.write_faults shelf.new ≡ H.write_faults shelf.old }
 {
     let bytes = read_input(alloc, shelf, name, SCRIPT_LIMIT)?;
@@ -79,6 +80,7 @@ pub fn scripts_in_files<H: Shelf>(
     ensures kind { IfErr result IsNotOfOrder }
     ensures files { H.files shelf.new ≡ H.files shelf.old }
     ensures read_faults { H.read_faults shelf.old ≤ H.read_faults shelf.new }
+    ensures told_reads { TellsReads (H.read_faults shelf.old) (H.read_faults shelf.new) result }
     ensures write_faults { H.write_faults shelf.new ≡ H.write_faults shelf.old }
 {
     let mut scripts = Vec::new(alloc);

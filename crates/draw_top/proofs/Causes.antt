@@ -11,11 +11,11 @@ use Rattle.file_spec.specs.DecodedCell.{decoded_cell}
 use Rattle.rule_spec.specs.Findings.{all_findings, finding_total}
 use Rattle.s57_types.specs.declared.cell.Cell.{Cell}
 use Rattle.s57_types.specs.declared.fault.CellFault.{CellFault}
-use Rattle.whole_files.specs.Input.{IsInputCause, IsUntoldCause}
+use Rattle.whole_files.specs.Input.{CountsReads, IsInputCause}
 use Rattle.whole_files.specs.Output.{Adds, AddsFront}
 use Rattle.whole_files.specs.declared.input.InputRefusal.{InputRefusal}
 use Rattle.whole_files.specs.declared.input.InputRefusal.TheVariants as input
-use Rattle.draw_top.specs.Drawing.{IsAnswer, IsAsked, IsCause, IsPicture, drawn_bytes, drawn_file, drawn_if, ending_of, finding_limit}
+use Rattle.draw_top.specs.Drawing.{CountsFaults, IsAnswer, IsAsked, IsCause, IsPicture, drawn_bytes, drawn_file, drawn_if, ending_of, finding_limit}
 use Rattle.draw_top.specs.declared.ending.Ending.{Ending}
 use Rattle.draw_top.specs.declared.ending.Ending.TheVariants.{Done, Usage, Absent, BadCell, ReadFault, WriteFault, TooLarge, NoMemory, TooManyFindings}
 
@@ -78,7 +78,7 @@ answer_of_bytes name files before after content (Err ending) fits told ok err = 
 
 -- a file that wasn't read
 pub answer_of_refusal : (name : List ℕ) (files : Option Files) (before after : ℕ) (refusal : InputRefusal)
-    → IfSome files (λ fs. IsInputCause 16777216 (fs name) before after refusal) → IsUntoldCause before after refusal
+    → IfSome files (λ fs. IsInputCause 16777216 (fs name) before after refusal) → CountsReads before after refusal
     → IsAnswer name files before after (Err (ending_of refusal))
 answer_of_refusal name None before after input.Absent told untold = tt
 answer_of_refusal name (Some fs) before after input.Absent told untold = ap drawn_file told
@@ -114,3 +114,36 @@ cause_of_put name files before after text old new put_before put_after ending is
 pub no_usage : (name : List ℕ) (files : Option Files) (before after : ℕ) (ending : Ending) → IsAnswer name files before after (Err ending)
     → ending ≡ Usage → ⊥
 no_usage name files before after ending answer is = subst (λ e. IsAnswer name files before after (Err e)) is answer
+
+-- ---- which counts of failed calls rose
+pub counts_of_bytes : (before after puts : ℕ) (content : List ℕ) (result : Result (Vec ℕ Global) Ending) → after ≡ before
+    → IfErr result (λ ending. (drawn_bytes content ≡ Err ending) ⊎ (ending ≡ NoMemory)) → IfErr result (CountsFaults before after puts puts)
+counts_of_bytes before after puts content (Ok text) same err = tt
+counts_of_bytes before after puts content (Err ending) same err = by ending err
+  where
+    by : (e : Ending) → (drawn_bytes content ≡ Err e) ⊎ (e ≡ NoMemory) → CountsFaults before after puts puts e
+    by e (inr none) = subst (CountsFaults before after puts puts) (sym none) (same, refl)
+    by ReadFault (inl is) = absurd (of_bytes content ReadFault is)
+    by WriteFault (inl is) = absurd (of_bytes content WriteFault is)
+    by Done (inl is) = (same, refl)
+    by Usage (inl is) = (same, refl)
+    by Absent (inl is) = (same, refl)
+    by (BadCell fault) (inl is) = (same, refl)
+    by TooLarge (inl is) = (same, refl)
+    by NoMemory (inl is) = (same, refl)
+    by TooManyFindings (inl is) = (same, refl)
+
+pub counts_of_refusal : (before after puts : ℕ) (refusal : InputRefusal) → CountsReads before after refusal
+    → CountsFaults before after puts puts (ending_of refusal)
+counts_of_refusal before after puts input.ReadFault counted = (counted, refl)
+counts_of_refusal before after puts input.Absent counted = (counted, refl)
+counts_of_refusal before after puts input.TooLarge counted = (counted, refl)
+counts_of_refusal before after puts input.NoMemory counted = (counted, refl)
+
+pub counts_of_put : (reads reads_now puts puts_now : ℕ) (Put : Type 0) (ending : Ending) → reads_now ≡ reads → (ending ≡ Done → puts_now ≡ puts)
+    → (ending ≡ WriteFault → Put × Rose puts puts_now) → (ending ≡ Done) ⊎ (ending ≡ WriteFault)
+    → CountsFaults reads reads_now puts puts_now ending
+counts_of_put reads reads_now puts puts_now Put ending same done fault (inl e) =
+    subst (CountsFaults reads reads_now puts puts_now) (sym e) (same, done e)
+counts_of_put reads reads_now puts puts_now Put ending same done fault (inr e) =
+    subst (CountsFaults reads reads_now puts puts_now) (sym e) (same, (fault e).1)

@@ -64,6 +64,12 @@ IsAnswer name files before after (Err ReadFault) = Rose before after
 IsAnswer name files before after (Err NoMemory) = Unit {0}
 IsAnswer name files before after (Err ending) = IsAsked name files ending
 
+-- the counts of failed reads and puts before and after a call: the one of the device that the ending tells rose, and each other stayed
+abbrev pub CountsFaults : (reads reads_now puts puts_now : ℕ) → Ending → Type 0
+CountsFaults reads reads_now puts puts_now ReadFault = Rose reads reads_now × (puts_now ≡ puts)
+CountsFaults reads reads_now puts puts_now WriteFault = (reads_now ≡ reads) × Rose puts puts_now
+CountsFaults reads reads_now puts puts_now ending = (reads_now ≡ reads) × (puts_now ≡ puts)
+
 -- a picture that was put whole, or in part where a put failed
 pub record IsPut (Added : List ℕ → List ℕ → List ℕ → Type 0) (name : List ℕ) (files : Option Files) (old new : Option (List ℕ)) : Type 0 where
   pub text : List ℕ

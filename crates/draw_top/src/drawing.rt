@@ -1,12 +1,12 @@
 //! The program as one call over a file store and an output sink.
 
-ghost use Rattle.std.specs.Prelude.{◌≡◌, ◌≢◌, ◌⊎◌, ◌↔◌, ◌<◌, ◌≤◌, ◌∷◌, [], ℕ, List, IfErr, IfOk, Ok, Err, length, string_bytes, map};
+ghost use Rattle.std.specs.Prelude.{◌≡◌, ◌≢◌, ◌⊎◌, ◌↔◌, ◌<◌, ◌≤◌, ◌∷◌, [], ℕ, List, IfErr, IfOk, OnOk, Ok, Err, length, string_bytes, map};
 ghost use Rattle.cell_spec.specs.Writable.{IsWritable};
 ghost use Rattle.enc_outside.specs.Count.{Rose};
-ghost use Rattle.enc_outside.specs.Files.{Told};
+ghost use Rattle.enc_outside.specs.Files.{StaysUntold, Told};
 ghost use Rattle.file_spec.specs.DecodedCell.{decoded_cell};
 ghost use Rattle.whole_files.specs.Output.{Adds, AddsFront};
-ghost use Rattle.draw_top.specs.Drawing.{IsAnswer, IsCause, drawn_bytes, drawn_cell, ending_of};
+ghost use Rattle.draw_top.specs.Drawing.{CountsFaults, IsAnswer, IsCause, drawn_bytes, drawn_cell, ending_of};
 
 use crate::ending::Ending;
 use cell_findings::{LoadRefusal, find_all};
@@ -97,6 +97,8 @@ fn refused(refusal: InputRefusal) -> Ending
 #[tactic(auto, using(crate::proofs::Causes::answer_of_bytes, crate::proofs::Causes::answer_of_refusal))]
 fn draw_file<H: Shelf>(alloc: Global, shelf: &mut H, name: &str) -> Result<Vec<u8>, Ending>
     ensures answer { IsAnswer name.now (H.files shelf.old) (H.read_faults shelf.old) (H.read_faults shelf.new) result }
+    ensures kept { OnOk result (H.read_faults shelf.new ≡ H.read_faults shelf.old) }
+    ensures counted { (puts : ℕ) → IfErr result (CountsFaults (H.read_faults shelf.old) (H.read_faults shelf.new) puts puts) }
     ensures files { H.files shelf.new ≡ H.files shelf.old }
     ensures read_faults { H.read_faults shelf.old ≤ H.read_faults shelf.new }
     ensures write_faults { H.write_faults shelf.new ≡ H.write_faults shelf.old }
@@ -113,6 +115,8 @@ fn put_picture<O: Sink>(out: &mut O, text: &[u8]) -> Ending
     ensures fault { result ≡ Ending.WriteFault
         → Told (AddsFront text.now) (O.written out.old) (O.written out.new) × Rose (O.faults out.old) (O.faults out.new) }
     ensures either { (result ≡ Ending.Done) ⊎ (result ≡ Ending.WriteFault) }
+    ensures kept { result ≡ Ending.Done → O.faults out.new ≡ O.faults out.old }
+    ensures untold { StaysUntold (O.written out.old) (O.written out.new) }
     ensures faults { O.faults out.old ≤ O.faults out.new }
 {
     match put_all(out, text) {
@@ -134,6 +138,8 @@ pub fn draw<H: Shelf, O: Sink>(
     ensures cause { (name : List ℕ) → map string_bytes words.now ≡ name ∷ []
         → IsCause name (H.files shelf.old) (H.read_faults shelf.old) (H.read_faults shelf.new)
         (O.written out.old) (O.written out.new) (O.faults out.old) (O.faults out.new) result }
+    ensures counted { CountsFaults (H.read_faults shelf.old) (H.read_faults shelf.new) (O.faults out.old) (O.faults out.new) result }
+    ensures untold_put { StaysUntold (O.written out.old) (O.written out.new) }
     ensures files { H.files shelf.new ≡ H.files shelf.old }
     ensures read_faults { H.read_faults shelf.old ≤ H.read_faults shelf.new }
     ensures write_faults { H.write_faults shelf.new ≡ H.write_faults shelf.old }

@@ -3,7 +3,7 @@
 ghost use Rattle.std.specs.Prelude.{◌≡◌, ◌<◌, ◌≤◌, IfErr, IfOk, MatchResult, Option, map, string_bytes};
 ghost use Rattle.topo_ops.specs.Refusals.{IsRefusal};
 ghost use Rattle.topo_ops.specs.declared.refusal.OpRefusal.{OpRefusal as SpecRefusal};
-ghost use Rattle.call_files.specs.Inputs.{IsJudged};
+ghost use Rattle.call_files.specs.Inputs.{IsJudged, TellsReads};
 ghost use Rattle.enc_top.specs.Operations.{IsOperation, IsOperationEnd, IsOperationStatus, OperationKeeps, operated, operation_refusal};
 ghost use Rattle.enc_top.specs.Outcome.{IsAskedBy};
 ghost use Rattle.enc_top.specs.Words.{edge_among, edge_form, operation_in};
@@ -35,6 +35,7 @@ pub(crate) fn edit_edges<R: Threads + Sync, H: Shelf>(
         (H.files shelf.old) (H.read_faults shelf.old) (H.read_faults shelf.new) result }
     ensures files { H.files shelf.new ≡ H.files shelf.old }
     ensures read_faults { H.read_faults shelf.old ≤ H.read_faults shelf.new }
+    ensures told_reads { TellsReads (H.read_faults shelf.old) (H.read_faults shelf.new) result }
     ensures write_faults { H.write_faults shelf.new ≡ H.write_faults shelf.old }
 {
     let [cell, out, numbers @ ..] = others else {
@@ -58,6 +59,7 @@ fn edit<R: Threads + Sync, H: Shelf>(
     ensures asked { IsAskedBy ⊥ (edge_form cell.now out.now operation) (H.files shelf.old) (H.read_faults shelf.old) (H.read_faults shelf.new) result }
     ensures files { H.files shelf.new ≡ H.files shelf.old }
     ensures read_faults { H.read_faults shelf.old ≤ H.read_faults shelf.new }
+    ensures told_reads { TellsReads (H.read_faults shelf.old) (H.read_faults shelf.new) result }
     ensures write_faults { H.write_faults shelf.new ≡ H.write_faults shelf.old }
 {
     let bench = match read_bench(rt, alloc, shelf, cell) {

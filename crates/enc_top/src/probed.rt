@@ -1,6 +1,7 @@
 //! The areas of a file's cell round a point.
 
 ghost use Rattle.std.specs.Prelude.{◌≡◌, ◌<◌, ◌≤◌, IfOk, map, string_bytes};
+ghost use Rattle.call_files.specs.Inputs.{TellsReads};
 ghost use Rattle.enc_top.specs.Outcome.{IsAskedBy, IsProbeIn};
 ghost use Rattle.call_files.specs.Task.{task_of};
 ghost use Rattle.enc_top.specs.Words.{probe_among, probe_form};
@@ -27,6 +28,7 @@ pub(crate) fn probe<R: Threads + Sync, H: Shelf>(
     ensures asked { IsAskedBy ⊥ (probe_among (map string_bytes others.now)) (H.files shelf.old) (H.read_faults shelf.old) (H.read_faults shelf.new) result }
     ensures files { H.files shelf.new ≡ H.files shelf.old }
     ensures read_faults { H.read_faults shelf.old ≤ H.read_faults shelf.new }
+    ensures told_reads { TellsReads (H.read_faults shelf.old) (H.read_faults shelf.new) result }
     ensures write_faults { H.write_faults shelf.new ≡ H.write_faults shelf.old }
 {
     let [cell, y, x] = others else {
@@ -53,6 +55,7 @@ fn probe_at<R: Threads + Sync, H: Shelf>(
     ensures asked { IsAskedBy ⊥ (probe_form cell.now (y, x)) (H.files shelf.old) (H.read_faults shelf.old) (H.read_faults shelf.new) result }
     ensures files { H.files shelf.new ≡ H.files shelf.old }
     ensures read_faults { H.read_faults shelf.old ≤ H.read_faults shelf.new }
+    ensures told_reads { TellsReads (H.read_faults shelf.old) (H.read_faults shelf.new) result }
     ensures write_faults { H.write_faults shelf.new ≡ H.write_faults shelf.old }
 {
     let bench = match read_bench(rt, alloc, shelf, cell) {

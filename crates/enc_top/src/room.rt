@@ -4,7 +4,7 @@ ghost use Rattle.std.specs.Prelude.{◌≡◌, ◌≤◌, true, All, IfErr, IfOk
 ghost use Rattle.enc_top.specs.Inputs.{IsRunInRoom};
 ghost use Rattle.enc_top.specs.Words.{begins_with_room, form_of, room_form};
 ghost use Rattle.enc_top.specs.Outcome.{IsAskedBy};
-ghost use Rattle.call_files.specs.Inputs.{IsCellOfFile};
+ghost use Rattle.call_files.specs.Inputs.{IsCellOfFile, TellsReads};
 ghost use Rattle.call_files.specs.Task.{task_of};
 ghost use Rattle.sessions.specs.Replays.{IsShortScript, session_limit};
 ghost use Rattle.export_laws.specs.ExportedCells.{IsScriptOfText};
@@ -39,6 +39,7 @@ pub(crate) fn asked_room<R: Threads + Wait + Sync, H: Shelf, M: Meet + Sync>(
     requires { begins_with_room (map string_bytes words.now) ≡ true }
     ensures files { H.files shelf.new ≡ H.files shelf.old }
     ensures read_faults { H.read_faults shelf.old ≤ H.read_faults shelf.new }
+    ensures told_reads { TellsReads (H.read_faults shelf.old) (H.read_faults shelf.new) result }
     ensures write_faults { H.write_faults shelf.new ≡ H.write_faults shelf.old }
     ensures asked { IsAskedBy (M.sticks meet.now) (form_of (map string_bytes words.now))
         (H.files shelf.old) (H.read_faults shelf.old) (H.read_faults shelf.new) result }
@@ -66,6 +67,7 @@ fn room_on<R: Threads + Wait + Sync, H: Shelf, M: Meet + Sync>(
     requires few { length names.now ≤ session_limit }
     ensures files { H.files shelf.new ≡ H.files shelf.old }
     ensures read_faults { H.read_faults shelf.old ≤ H.read_faults shelf.new }
+    ensures told_reads { TellsReads (H.read_faults shelf.old) (H.read_faults shelf.new) result }
     ensures write_faults { H.write_faults shelf.new ≡ H.write_faults shelf.old }
     ensures asked { IsAskedBy (M.sticks meet.now) (room_form cell.now out.now (map string_bytes names.now))
         (H.files shelf.old) (H.read_faults shelf.old) (H.read_faults shelf.new) result }

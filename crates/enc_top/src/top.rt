@@ -10,7 +10,7 @@ ghost use Rattle.enc_top.specs.Complete.{IsComplete};
 ghost use Rattle.call_files.specs.Inputs.{IsAmong, IsCellOfFile, IsFile, IsInputStatus};
 ghost use Rattle.enc_top.specs.Inputs.{IsOrderedRun, IsReachedInRun, IsRunOf};
 ghost use Rattle.enc_top.specs.Inputs.{OrderedRunIs, RunIs};
-ghost use Rattle.call_files.specs.Inputs.{Tells};
+ghost use Rattle.call_files.specs.Inputs.{EndTellsReads, Tells, TellsReads};
 ghost use Rattle.enc_top.specs.Outcome.{IsAskedBy, IsCause, IsExact, IsReadBackFrom};
 ghost use Rattle.call_files.specs.Outside.{outside};
 ghost use Rattle.enc_top.specs.Task.{run_task};
@@ -77,6 +77,7 @@ pub fn run<R: Threads + Wait + Sync, H: Shelf, O: Sink, M: Meet + Sync>(
     ensures untold { StaysUntold (H.files shelf.old) (H.files shelf.new) }
     ensures untold_put { StaysUntold (O.written out.old) (O.written out.new) }
     ensures read_faults { H.read_faults shelf.old ≤ H.read_faults shelf.new }
+    ensures told_reads { EndTellsReads (H.read_faults shelf.old) (H.read_faults shelf.new) result }
     ensures write_faults { H.write_faults shelf.old ≤ H.write_faults shelf.new }
     ensures put_faults { O.faults out.old ≤ O.faults out.new }
 {
@@ -112,6 +113,7 @@ pub fn run_room<R: Threads + Wait + Sync, H: Shelf, O: Sink, M: Meet + Sync>(
     ensures untold { StaysUntold (H.files shelf.old) (H.files shelf.new) }
     ensures untold_put { StaysUntold (O.written out.old) (O.written out.new) }
     ensures read_faults { H.read_faults shelf.old ≤ H.read_faults shelf.new }
+    ensures told_reads { EndTellsReads (H.read_faults shelf.old) (H.read_faults shelf.new) result }
     ensures write_faults { H.write_faults shelf.old ≤ H.write_faults shelf.new }
     ensures put_faults { O.faults out.old ≤ O.faults out.new }
 {
@@ -146,6 +148,7 @@ pub fn run_plain<R: Threads + Sync, H: Shelf, O: Sink>(
     ensures untold { StaysUntold (H.files shelf.old) (H.files shelf.new) }
     ensures untold_put { StaysUntold (O.written out.old) (O.written out.new) }
     ensures read_faults { H.read_faults shelf.old ≤ H.read_faults shelf.new }
+    ensures told_reads { EndTellsReads (H.read_faults shelf.old) (H.read_faults shelf.new) result }
     ensures write_faults { H.write_faults shelf.old ≤ H.write_faults shelf.new }
     ensures put_faults { O.faults out.old ≤ O.faults out.new }
 {
@@ -166,6 +169,7 @@ fn asked_work<R: Threads + Sync, H: Shelf>(
     ensures asked { IsAskedBy ⊥ (form_of (map string_bytes words.now)) (H.files shelf.old) (H.read_faults shelf.old) (H.read_faults shelf.new) result }
     ensures files { H.files shelf.new ≡ H.files shelf.old }
     ensures read_faults { H.read_faults shelf.old ≤ H.read_faults shelf.new }
+    ensures told_reads { TellsReads (H.read_faults shelf.old) (H.read_faults shelf.new) result }
     ensures write_faults { H.write_faults shelf.new ≡ H.write_faults shelf.old }
 {
     let [first, others @ ..] = words else {
@@ -209,6 +213,7 @@ fn check<R: Threads + Sync, H: Shelf>(
     ensures asked { IsAskedBy ⊥ (check_among (map string_bytes others.now)) (H.files shelf.old) (H.read_faults shelf.old) (H.read_faults shelf.new) result }
     ensures files { H.files shelf.new ≡ H.files shelf.old }
     ensures read_faults { H.read_faults shelf.old ≤ H.read_faults shelf.new }
+    ensures told_reads { TellsReads (H.read_faults shelf.old) (H.read_faults shelf.new) result }
     ensures write_faults { H.write_faults shelf.new ≡ H.write_faults shelf.old }
 {
     let [name] = others else {
@@ -233,6 +238,7 @@ fn run_scripts<R: Threads + Sync, H: Shelf>(
     ensures asked { IsAskedBy ⊥ (replay_among (map string_bytes others.now)) (H.files shelf.old) (H.read_faults shelf.old) (H.read_faults shelf.new) result }
     ensures files { H.files shelf.new ≡ H.files shelf.old }
     ensures read_faults { H.read_faults shelf.old ≤ H.read_faults shelf.new }
+    ensures told_reads { TellsReads (H.read_faults shelf.old) (H.read_faults shelf.new) result }
     ensures write_faults { H.write_faults shelf.new ≡ H.write_faults shelf.old }
 {
     let [cell, out, order, names @ ..] = others else {
@@ -267,6 +273,7 @@ fn run_on<R: Threads + Sync, H: Shelf>(
     ensures status { IfErr result (IsInputStatus (λ n. (n ≡ order.now) ⊎ IsAmong (map string_bytes names.now) n)) }
     ensures files { H.files shelf.new ≡ H.files shelf.old }
     ensures read_faults { H.read_faults shelf.old ≤ H.read_faults shelf.new }
+    ensures told_reads { TellsReads (H.read_faults shelf.old) (H.read_faults shelf.new) result }
     ensures write_faults { H.write_faults shelf.new ≡ H.write_faults shelf.old }
 {
     let scripts = match scripts_in_files(alloc, shelf, names) {
@@ -296,6 +303,7 @@ fn run_in_order_of<R: Threads + Sync, H: Shelf>(
     ensures status { IfErr result (IsInputStatus (λ n. n ≡ order.now)) }
     ensures files { H.files shelf.new ≡ H.files shelf.old }
     ensures read_faults { H.read_faults shelf.old ≤ H.read_faults shelf.new }
+    ensures told_reads { TellsReads (H.read_faults shelf.old) (H.read_faults shelf.new) result }
     ensures write_faults { H.write_faults shelf.new ≡ H.write_faults shelf.old }
 {
     exports_are_read_back();

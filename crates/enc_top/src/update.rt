@@ -3,7 +3,7 @@
 ghost use Rattle.std.specs.Prelude.{◌≡◌, ◌<◌, ◌≤◌, IfErr, IfOk, MatchResult, Ok, length, map, string_bytes};
 ghost use Rattle.update_apply.specs.Gives.{IsUpdate, IsUpdateRefusal};
 ghost use Rattle.update_spec.specs.UpdatedCell.{updated_cell};
-ghost use Rattle.call_files.specs.Inputs.{IsJudged};
+ghost use Rattle.call_files.specs.Inputs.{IsJudged, TellsReads};
 ghost use Rattle.enc_top.specs.Outcome.{IsAskedBy};
 ghost use Rattle.enc_top.specs.Updates.{IsUpdateEnd, updated};
 ghost use Rattle.enc_top.specs.Words.{apply_among, apply_form};
@@ -31,6 +31,7 @@ pub(crate) fn apply<R: Threads + Sync, H: Shelf>(
     ensures asked { IsAskedBy ⊥ (apply_among (map string_bytes others.now)) (H.files shelf.old) (H.read_faults shelf.old) (H.read_faults shelf.new) result }
     ensures files { H.files shelf.new ≡ H.files shelf.old }
     ensures read_faults { H.read_faults shelf.old ≤ H.read_faults shelf.new }
+    ensures told_reads { TellsReads (H.read_faults shelf.old) (H.read_faults shelf.new) result }
     ensures write_faults { H.write_faults shelf.new ≡ H.write_faults shelf.old }
 {
     let [cell, out, update] = others else {
@@ -58,6 +59,7 @@ fn apply_file<R: Threads + Sync, H: Shelf>(
     ensures asked { IsAskedBy ⊥ (apply_form cell.now out.now update.now) (H.files shelf.old) (H.read_faults shelf.old) (H.read_faults shelf.new) result }
     ensures files { H.files shelf.new ≡ H.files shelf.old }
     ensures read_faults { H.read_faults shelf.old ≤ H.read_faults shelf.new }
+    ensures told_reads { TellsReads (H.read_faults shelf.old) (H.read_faults shelf.new) result }
     ensures write_faults { H.write_faults shelf.new ≡ H.write_faults shelf.old }
 {
     let bench = match read_bench(rt, alloc, shelf, cell) {

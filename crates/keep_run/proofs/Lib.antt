@@ -9,3 +9,4 @@ pub mod Exact
 pub mod Whole
 pub mod Opened
 pub mod Ended
+mod Told

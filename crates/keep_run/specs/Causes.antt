@@ -89,6 +89,15 @@ pub record IsDiskEnd (form : KeepForm) (files : Option Files) (faults faults_now
   pub given : AreGiven form files start script
   pub rose : Rose faults faults_now
 
+-- the count of the disk's failed calls stays, unless the status tells of one
+abbrev pub EndTellsDisk : (faults faults_now : ℕ) → Status → Type 0
+EndTellsDisk faults faults_now DiskFault = Unit {0}
+EndTellsDisk faults faults_now status = faults_now ≡ faults
+
+abbrev pub TellsDisk : {A : Type 0} → (faults faults_now : ℕ) → Result A Status → Type 0
+TellsDisk faults faults_now (Ok a) = faults_now ≡ faults
+TellsDisk faults faults_now (Err status) = EndTellsDisk faults faults_now status
+
 -- the input files, and those to which a call comes: the script behind a good cell
 abbrev pub IsInputOf : KeepForm → List ℕ → Type 0
 IsInputOf form name = (name ≡ form.cell) ⊎ (name ≡ form.script)

@@ -2,8 +2,9 @@
 use Rattle.std.specs.Prelude.{◌≡◌, ◌↔◌, ℕ, List, Option, None}
 use Rattle.report_text.specs.declared.status.Status.{Status}
 use Rattle.report_text.specs.declared.status.Status.TheVariants.{Usage}
+use Rattle.call_files.specs.Inputs.{EndTellsReads}
 use Rattle.call_files.specs.Outside.{Outside}
-use Rattle.keep_run.specs.Causes.{IsCause, IsExact, IsReadBackFrom}
+use Rattle.keep_run.specs.Causes.{EndTellsDisk, IsCause, IsExact, IsReadBackFrom}
 use Rattle.keep_run.specs.Complete.{IsComplete}
 use Rattle.keep_run.specs.Words.{form_of}
 
@@ -14,4 +15,6 @@ pub record IsEnd (words : List (List ℕ)) (before after : Outside) (content now
   pub exact : IsExact words before after content faults faults_now status
   pub complete : IsComplete words before after content faults faults_now status
   pub read_back : IsReadBackFrom words before.files after.files content status
+  pub told_reads : EndTellsReads before.read_faults after.read_faults status
+  pub told_disk : EndTellsDisk faults faults_now status
   pub usage : (status ≡ Usage) ↔ (form_of words ≡ None)

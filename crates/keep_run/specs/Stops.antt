@@ -13,10 +13,10 @@ IsStopOf DiskFault = Unit {0}
 IsStopOf NoMemory = Unit {0}
 IsStopOf other = ⊥
 
--- the disk failed where its count of faults rose; out of memory is free
+-- the disk failed where its count of faults rose; where memory ran out, no call of it failed
 abbrev pub IsStop : ℕ → ℕ → KeepRefusal → Type 0
 IsStop before after DiskFault = Rose before after
-IsStop before after NoMemory = Unit {0}
+IsStop before after NoMemory = after ≡ before
 IsStop before after other = ⊥
 
 -- the answer of a log

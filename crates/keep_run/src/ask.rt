@@ -90,6 +90,7 @@ fn keep_set<R: Threads + Sync, L: Ledger, D: Disk>(
     ensures ok { IfOk result (IsEntered journal.old.book
         (commit_event (length (history_of journal.old.book).commits) set.edits set.guards) journal.new.book) }
     ensures err { IfErr result (IsStop (D.faults journal.old.disk.now) (D.faults journal.new.disk.now)) }
+    ensures counted { OnOk result (D.faults journal.new.disk.now ≡ D.faults journal.old.disk.now) }
     ensures moments { IfSome (D.content journal.old.disk.now)
         (λ _. LeavesOnly D.moment D.left_since journal.old.disk.now journal.new.disk.now
         (IsAround journal.old.book (commit_event (length (history_of journal.old.book).commits) set.edits set.guards))) }
@@ -123,6 +124,7 @@ impl Session {
         ensures stays_told { IsSome (D.content journal.new.disk.now) ↔ IsSome (D.content journal.old.disk.now) }
         ensures ok { IfOk result (IsEntered journal.old.book (offered journal.old.book self.now) journal.new.book) }
         ensures err { IfErr result (IsStop (D.faults journal.old.disk.now) (D.faults journal.new.disk.now)) }
+        ensures counted { OnOk result (D.faults journal.new.disk.now ≡ D.faults journal.old.disk.now) }
         ensures moments { IfSome (D.content journal.old.disk.now)
             (λ _. LeavesOnly D.moment D.left_since journal.old.disk.now journal.new.disk.now
             (IsAround journal.old.book (offered journal.old.book self.now))) }

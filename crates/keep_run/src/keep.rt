@@ -1,6 +1,6 @@
 //! A journal opened, a script run over it, and its text.
 
-ghost use Rattle.std.specs.Prelude.{◌≡◌, ◌≤◌, ◌<◌, ◌^◌, ◌↔◌, IfErr, IfOk, IfSome, IsSome, false, length};
+ghost use Rattle.std.specs.Prelude.{◌≡◌, ◌≤◌, ◌<◌, ◌^◌, ◌↔◌, IfErr, IfOk, IfSome, IsSome, OnOk, false, length};
 ghost use Rattle.book_journal.specs.Keeping.{IsStanding, commit_limit};
 ghost use Rattle.book_journal.specs.Standing.{IsStill};
 ghost use Rattle.cell_spec.specs.Writable.{IsWritable};
@@ -9,6 +9,7 @@ ghost use Rattle.crash_disk.specs.Disk.{LeavesOnly};
 ghost use Rattle.call_files.specs.Inputs.{IsScriptWithin};
 ghost use Rattle.history_spec.specs.Steps.{finding_limit};
 ghost use Rattle.rule_spec.specs.Findings.{finding_total};
+ghost use Rattle.keep_run.specs.Causes.{TellsDisk};
 ghost use Rattle.keep_run.specs.Keeps.{IsKeepEnd, IsKept, IsKeptImage, IsKeptOn, IsOpenEnd, status_of as status_of_lem, stop_status};
 ghost use Rattle.keep_run.specs.Runs.{IsKeptTo};
 ghost use Rattle.keep_run.specs.Stops.{IsStop, IsStopOf};
@@ -76,6 +77,7 @@ fn run_kept<R: Threads + Sync, L: Ledger, D: Disk>(
     ensures ok { IfOk result (IsKeptOn journal.old.book.opening (history_of journal.old.book).commits script.now
         (D.content journal.new.disk.now) (D.images journal.new.disk.now)) }
     ensures err { IfErr result (IsStop (D.faults journal.old.disk.now) (D.faults journal.new.disk.now)) }
+    ensures counted { OnOk result (D.faults journal.new.disk.now ≡ D.faults journal.old.disk.now) }
     ensures moments { IfSome (D.content journal.old.disk.now)
         (λ _. LeavesOnly D.moment D.left_since journal.old.disk.now journal.new.disk.now
         (IsKeptTo journal.old.book.opening (history_of journal.old.book).commits script.now)) }
@@ -108,6 +110,7 @@ fn run_over<R: Threads + Sync, L: Ledger, D: Disk>(
     ensures stays_told { IsSome (D.content disk.new) ↔ IsSome (D.content disk.old) }
     ensures ok { IfOk result (IsKeptOn book.opening (history_of book).commits script.now (D.content disk.new) (D.images disk.new)) }
     ensures err { IfErr result (IsStop (D.faults disk.old) (D.faults disk.new)) }
+    ensures counted { OnOk result (D.faults disk.new ≡ D.faults disk.old) }
     ensures moments { IfSome (D.content disk.old)
         (λ _. LeavesOnly D.moment D.left_since disk.old disk.new (IsKeptTo book.opening (history_of book).commits script.now)) }
     ensures no_fall { D.faults disk.old ≤ D.faults disk.new }
@@ -137,6 +140,7 @@ pub(crate) fn keep<R: Threads + Sync, L: Ledger, D: Disk>(
     requires some_part { 0 < L.parts }
     ensures ok { IfOk result (IsKept cell script.now (D.content disk.old) (D.content disk.new) (D.images disk.new)) }
     ensures err { IfErr result (IsKeepEnd cell (D.content disk.old) (D.content disk.new) (D.faults disk.old) (D.faults disk.new)) }
+    ensures told_disk { TellsDisk (D.faults disk.old) (D.faults disk.new) result }
     ensures stays_told { IsSome (D.content disk.new) ↔ IsSome (D.content disk.old) }
     ensures moments { IfSome (D.content disk.old)
         (λ file. LeavesOnly D.moment D.left_since disk.old disk.new (IsKeptImage cell script.now file (D.images disk.old))) }

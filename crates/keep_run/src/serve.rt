@@ -36,6 +36,7 @@ pub(crate) fn serve<R: Threads + Sync, L: Ledger, D: Disk>(
     ensures stays_told { IsSome (D.content journal.new.disk.now) ↔ IsSome (D.content journal.old.disk.now) }
     ensures ok { OnOk result (IsDone journal.old.book session.old command.now journal.new.book session.new) }
     ensures err { IfErr result (IsStop (D.faults journal.old.disk.now) (D.faults journal.new.disk.now)) }
+    ensures counted { OnOk result (D.faults journal.new.disk.now ≡ D.faults journal.old.disk.now) }
     ensures moments { IfSome (D.content journal.old.disk.now)
         (λ _. LeavesOnly D.moment D.left_since journal.old.disk.now journal.new.disk.now
         (IsAround journal.old.book (event_by journal.old.book session.old command.now))) }

@@ -3,8 +3,9 @@
 ghost use Rattle.std.specs.Prelude.{◌≡◌, ◌≤◌, ◌↔◌, IfErr, IfSome, IsSome, Some, map, string_bytes};
 ghost use Rattle.crash_disk.specs.Disk.{LeavesOnly};
 ghost use Rattle.enc_outside.specs.Files.{StaysUntold};
+ghost use Rattle.call_files.specs.Inputs.{TellsReads};
 ghost use Rattle.call_files.specs.Outside.{outside};
-ghost use Rattle.keep_run.specs.Causes.{IsAskedIn, IsAskedOf, IsImageIn, IsImageOf, IsUntouched, IsWorkOf, OnlyReads};
+ghost use Rattle.keep_run.specs.Causes.{IsAskedIn, IsAskedOf, IsImageIn, IsImageOf, IsUntouched, IsWorkOf, OnlyReads, TellsDisk};
 ghost use Rattle.keep_run.specs.Ends.{IsEnd};
 ghost use Rattle.keep_run.specs.Words.{form_of, keep_form};
 
@@ -76,6 +77,8 @@ fn asked_keep<R: Threads + Sync, H: Shelf, D: Disk>(
     ensures disk_faults { D.faults disk.old ≤ D.faults disk.new }
     ensures reads { OnlyReads (H.files shelf.old) (H.files shelf.new)
         (H.read_faults shelf.old) (H.read_faults shelf.new) (H.write_faults shelf.old) (H.write_faults shelf.new) }
+    ensures told_reads { TellsReads (H.read_faults shelf.old) (H.read_faults shelf.new) result }
+    ensures told_disk { TellsDisk (D.faults disk.old) (D.faults disk.new) result }
 {
     let [first, cell, out, _, script] = words else {
         return Err(Status::Usage);
@@ -113,6 +116,8 @@ fn kept_work<R: Threads + Sync, H: Shelf, D: Disk>(
     ensures disk_faults { D.faults disk.old ≤ D.faults disk.new }
     ensures reads { OnlyReads (H.files shelf.old) (H.files shelf.new)
         (H.read_faults shelf.old) (H.read_faults shelf.new) (H.write_faults shelf.old) (H.write_faults shelf.new) }
+    ensures told_reads { TellsReads (H.read_faults shelf.old) (H.read_faults shelf.new) result }
+    ensures told_disk { TellsDisk (D.faults disk.old) (D.faults disk.new) result }
 {
     let checked = match read_cell(rt, alloc, shelf, cell) {
         Ok(checked) => checked,

@@ -1,6 +1,6 @@
 -- How much of a session is left, where it goes on.
 use Rattle.std.proofs.Common.{◌≡◌, ℕ, suc, ◌-◌, ◌<◌, length, ap, sym, subst, arith}
-use Rattle.sessions.specs.SessionStates.{SessionState, Stops}
+use Rattle.sessions.specs.SessionStates.{IsAt, SessionState, Stops}
 use Rattle.sessions.specs.declared.session.Stop.{Stop}
 use Rattle.sessions.specs.declared.session.Stop.TheVariants.{Local, Shared, End}
 
@@ -17,3 +17,8 @@ less_by old new End same stops = omega arith
 pub less_is_left : (old new : SessionState) (before after : Stop) → before ≡ Local → new.script ≡ old.script → Stops old new after
     → left new after < left old before
 less_is_left old new before after is same stops = subst (λ stop. left new after < left old stop) (sym is) (less_by old new after same stops)
+
+pub stands_at : (old new : SessionState) (stop : Stop) → Stops old new stop → IsAt new stop
+stands_at old new Local stops = tt
+stands_at old new (Shared shared) stops = stops
+stands_at old new End stops = stops

@@ -1,3 +1,4 @@
+mod Alone
 pub mod Asks
 pub mod Editors
 pub mod Ends

@@ -1,13 +1,13 @@
 -- What a session is seen as, and how it goes on. This project's own rules.
 use mathlib.Core.List.{IsPrefix}
-use Rattle.std.specs.Prelude.{◌≡◌, ℕ, ◌≤◌, ◌<◌, List, ◌∷◌, ◌++◌, Option, None, Some, length}
+use Rattle.std.specs.Prelude.{◌≡◌, ℕ, ◌≤◌, ◌<◌, false, List, [], ◌∷◌, ◌++◌, All, Option, None, Some, length}
 use Rattle.s57_types.specs.declared.cell.Cell.{Cell}
 use Rattle.text_spec.specs.declared.command.Command.{Command}
 use Rattle.text_spec.specs.declared.command.Command.TheVariants as command
-use Rattle.text_spec.specs.ScriptLines.{command_limit}
+use Rattle.text_spec.specs.ScriptLines.{command_limit, is_shared}
 use Rattle.history_spec.specs.declared.entry.Entry.{Entry}
 use Rattle.history_spec.specs.EntriesReport.{cell_told}
-use Rattle.history_spec.specs.Served.{Draft, IsServed}
+use Rattle.history_spec.specs.Served.{Draft, IsServed, draft_after, drafted, local_lines}
 use Rattle.sessions.specs.declared.session.Shared.{Shared}
 use Rattle.sessions.specs.declared.session.Shared.TheVariants as shared
 use Rattle.sessions.specs.declared.session.Stop.{Stop}
@@ -46,6 +46,19 @@ abbrev pub StaysServed : ℕ → Cell → SessionState → SessionState → Type
 StaysServed base cell old new =
     (c : Cell) (seen entries : List Entry) → IsServed c seen entries base old.done old.draft old.lines
     → ((later : List Entry) → IsPrefix seen later → cell_told c later base ≡ cell) → IsServed c seen entries base new.done new.draft new.lines
+
+-- the lines of commands that no other session sees, on a cell, each beside the draft before it
+abbrev pub lines_beside : Cell → ℕ → Draft → List Command → List ℕ
+lines_beside cell base draft [] = []
+lines_beside cell base draft (command ∷ rest) = local_lines cell base draft command ++ lines_beside cell base (draft_after command draft) rest
+
+-- some commands more are done, none of which another session sees: each once, with the draft and the lines after it
+pub record DoesAlone (base : ℕ) (cell : Cell) (old new : SessionState) : Type 0 where
+  pub commands : List Command
+  pub alone : All (λ command. is_shared command ≡ false) commands
+  pub done : new.done ≡ old.done ++ commands
+  pub draft : new.draft ≡ drafted old.draft commands
+  pub lines : new.lines ≡ old.lines ++ lines_beside cell base old.draft commands
 
 -- more of the script is done
 pub record IsFurther (old new : SessionState) : Type 0 where

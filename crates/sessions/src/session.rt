@@ -5,7 +5,7 @@ ghost use Rattle.edit_sets.specs.FormFault.{IsFormRefusal, IsSetOf};
 ghost use Rattle.history_spec.specs.ReportText.{reply_line};
 ghost use Rattle.history_spec.specs.Served.{draft_after, no_draft};
 ghost use Rattle.text_spec.specs.ScriptLines.{is_shared};
-ghost use Rattle.sessions.specs.SessionStates.{IsNext, StaysServed, Stops, shared_command};
+ghost use Rattle.sessions.specs.SessionStates.{DoesAlone, IsNext, StaysServed, Stops, shared_command};
 
 use crate::draft::Draft;
 use crate::local::do_local;
@@ -106,6 +106,7 @@ impl Session {
     fn do_next(&mut self, alloc: Global, bench: &Bench, base: u32) -> Result<Stop, AllocError>
         ensures script { self.new.script ≡ self.old.script }
         ensures served { StaysServed base bench.now self.old self.new }
+        ensures further { DoesAlone base bench.now self.old self.new }
         ensures stops { IfOk result (Stops self.old self.new) }
     {
         a_session_goes_on();
@@ -139,6 +140,7 @@ impl Session {
     ) -> Result<Option<Shared>, AllocError>
         ensures script { self.new.script ≡ self.old.script }
         ensures served { StaysServed base bench.now self.old self.new }
+        ensures further { DoesAlone base bench.now self.old self.new }
         ensures next { IfOk result (IsNext self.new) }
     {
         let mut stop = self.do_next(alloc, bench, base)?;

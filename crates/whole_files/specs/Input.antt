@@ -15,9 +15,9 @@ IsInputCause limit file before after ReadFault = Rose before after
 IsInputCause limit file before after TooLarge = IsSomeAnd file (λ content. limit < length content)
 IsInputCause limit file before after NoMemory = Unit {0}
 
--- the same of an untold file
-abbrev pub IsUntoldCause : ℕ → ℕ → InputRefusal → Type 0
-IsUntoldCause before after ReadFault = Rose before after
-IsUntoldCause before after Absent = Unit {0}
-IsUntoldCause before after TooLarge = Unit {0}
-IsUntoldCause before after NoMemory = Unit {0}
+-- the count of failed reads rose where that is why the file was not read, and stayed with every other refusal
+abbrev pub CountsReads : ℕ → ℕ → InputRefusal → Type 0
+CountsReads before after ReadFault = Rose before after
+CountsReads before after Absent = after ≡ before
+CountsReads before after TooLarge = after ≡ before
+CountsReads before after NoMemory = after ≡ before

@@ -1,7 +1,7 @@
 //! Reading a file whole.
 
 ghost use Rattle.std.specs.Prelude.{◌≡◌, ◌≤◌, ◌<◌, ◌^◌, Some, length, IfOk, IfErr, IfSome, OnOk};
-ghost use Rattle.whole_files.specs.Input.{IsInputCause, IsUntoldCause};
+ghost use Rattle.whole_files.specs.Input.{CountsReads, IsInputCause};
 
 use enc_outside::{Got, Shelf};
 use std::alloc::Global;
@@ -35,7 +35,7 @@ pub fn read_file<H: Shelf>(
     ensures within { IfOk result (λ bytes. length bytes.items ≤ limit) }
     ensures told { IfErr result (λ e. IfSome (H.files shelf.old) (λ files.
         IsInputCause limit (files name.now) (H.read_faults shelf.old) (H.read_faults shelf.new) e)) }
-    ensures untold { IfErr result (IsUntoldCause (H.read_faults shelf.old) (H.read_faults shelf.new)) }
+    ensures counted { IfErr result (CountsReads (H.read_faults shelf.old) (H.read_faults shelf.new)) }
     ensures files { H.files shelf.new ≡ H.files shelf.old }
     ensures read_faults { H.read_faults shelf.old ≤ H.read_faults shelf.new }
     ensures kept { OnOk result (H.read_faults shelf.new ≡ H.read_faults shelf.old) }

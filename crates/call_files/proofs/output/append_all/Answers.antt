@@ -1,4 +1,4 @@
-use Rattle.std.proofs.Common.{arith, take, drop, ◌∙◌}
+use Rattle.std.proofs.Common.{arith, refl, take, drop, ◌∙◌}
 use Rattle.std.proofs.Math.Seq.{take-add}
 use Rattle.std.proofs.lemmas.List.{take_rest, length-take, length-drop}
 use Rattle.call_files.proofs.FileWrites.{appended_more}
@@ -15,6 +15,6 @@ loop-done-preserved g c = let bytes = c.args.bytes.now in let done = c.loop-done
           (files c.loop-done.shelf) (files c.append.new.self)
           c.loop-done.invariant.told c.append.ensures.untold appended);
       untold = λ none. c.append.ensures.untold (c.loop-done.invariant.untold none);
-      write_faults = omega (arith, c.append.ensures.write_faults.no_fall, c.loop-done.invariant.write_faults);
+      write_faults = c.in_ok-done.ensures.write_faults.kept refl ∙ c.loop-done.invariant.write_faults;
       read_faults = c.append.ensures.read_faults ∙ c.loop-done.invariant.read_faults;
     }

@@ -7,7 +7,7 @@ invariant-loop-done g l = record {
   in_range : l.done ≤ length l.bytes;
   told : Told (Writes l.name (take l.done l.bytes)) (g.H.Shelf.files l.initial.shelf) (g.H.Shelf.files l.shelf);
   untold : StaysUntold (g.H.Shelf.files l.initial.shelf) (g.H.Shelf.files l.shelf);
-  write_faults : g.H.Shelf.write_faults l.initial.shelf ≤ g.H.Shelf.write_faults l.shelf;
+  write_faults : g.H.Shelf.write_faults l.shelf ≡ g.H.Shelf.write_faults l.initial.shelf;
   read_faults : g.H.Shelf.read_faults l.shelf ≡ g.H.Shelf.read_faults l.initial.shelf;
 }
 

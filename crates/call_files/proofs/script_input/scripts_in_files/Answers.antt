@@ -6,7 +6,7 @@ use Rattle.std.proofs.lemmas.List.{length-map}
 use Rattle.std.proofs.lemmas.List.Elements.{All-push}
 use Rattle.export_laws.specs.ExportedCells.{IsScriptOfText}
 use Rattle.sessions.specs.Replays.{IsShortScript}
-use Rattle.call_files.specs.Inputs.{AreScripts, IsAmong, IsFile, IsReachedScript, ScriptIs, ScriptsAre, Tells}
+use Rattle.call_files.specs.Inputs.{AreScripts, EndTellsReads, IsAmong, IsFile, IsReachedScript, ScriptIs, ScriptsAre, Tells}
 use Rattle.call_files.proofs.Answered.{both_told, first_bad, name_there, reached_script, scripts_more, status_of_more, tells_later}
 use Rattle.call_files.proofs.script_input.scripts_in_files.Goals as goal
 
@@ -23,7 +23,7 @@ returns-in-Err-clause-tells g c =
     (ScriptsAre names) (IsFile c.as_str.result.now) (λ fs n. IsReachedScript names fs n) (λ fs. AreScripts names fs c.loop-k.scripts.items)
     (g.H.Shelf.files c.args.shelf.now) (g.H.Shelf.read_faults c.args.shelf.now) (g.H.Shelf.read_faults c.loop-k.shelf)
     (g.H.Shelf.read_faults c.script_in_file.new.shelf) c.in-Err.status
-    before.read_faults before.good (λ fs good bad. first_bad names fs c.loop-k.scripts.items c.as_str.result.now c.in-Err.status
+    (let none = before.read_faults in omega (arith, none)) before.good (λ fs good bad. first_bad names fs c.loop-k.scripts.items c.as_str.result.now c.in-Err.status
     inside there good (subst (λ n. ScriptIs (n + 1) c.as_str.result.now fs (Err c.in-Err.status)) (sym before.many) bad))
     (λ fs other good is. reached_script names fs c.loop-k.scripts.items c.as_str.result.now other inside there good is)
     (subst (λ files. Tells (λ script. script) (ScriptIs (c.loop-k.k + 1) c.as_str.result.now) (IsFile c.as_str.result.now) files
@@ -37,6 +37,10 @@ returns-in-Err-clause-status g c =
     let there = name_there c.args.names.now c.loop-k.k c.index-names-k.result within c.index-names-k.is ∙ sym c.as_str.ensures.value in
     let inside : c.loop-k.k < length names = (let all = length-map c.args.names.now string_bytes in omega (arith, within, all)) in
     status_of_more (λ n. n ≡ c.as_str.result.now) (IsAmong names) c.in-Err.status (λ n is. (c.loop-k.k, inside, is ∙ sym there)) c.in-Err.ensures.status
+
+pub returns-in-Err-clause-told_reads : goal.returns-in-Err-clause-told_reads
+returns-in-Err-clause-told_reads g c = subst (λ n. EndTellsReads n (g.H.Shelf.read_faults c.script_in_file.new.shelf) c.in-Err.status)
+    c.loop-k.invariant.read_faults c.in-Err.ensures.told_reads
 
 pub loop-k-preserved : goal.loop-k-preserved
 loop-k-preserved g c =
@@ -59,6 +63,6 @@ loop-k-preserved g c =
       short = subst (All IsShortScript) (sym pushed) (All-push IsShortScript scripts c.in-Ok.script before.short c.in-Ok.ensures.short);
       of_texts = subst (All IsScriptOfText) (sym pushed) (All-push IsScriptOfText scripts c.in-Ok.script before.of_texts c.in-Ok.ensures.of_text);
       files = c.in-Ok.ensures.files ∙ before.files;
-      read_faults = (let now = c.in-Ok.ensures.read_faults in let so_far = before.read_faults in omega (arith, now, so_far));
+      read_faults = c.in-Ok.ensures.told_reads ∙ before.read_faults;
       write_faults = c.in-Ok.ensures.write_faults ∙ before.write_faults;
     }

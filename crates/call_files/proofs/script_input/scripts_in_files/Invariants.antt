@@ -1,4 +1,4 @@
-use Rattle.std.proofs.Common.{◌≡◌, ◌≤◌, All, length, map, string_bytes, IfSome}
+use Rattle.std.proofs.Common.{◌≡◌, All, length, map, string_bytes, IfSome}
 use Rattle.export_laws.specs.ExportedCells.{IsScriptOfText}
 use Rattle.sessions.specs.Replays.{IsShortScript}
 use Rattle.call_files.specs.Inputs.{AreScripts}
@@ -11,6 +11,6 @@ invariant-loop-k g l = record {
   short : All IsShortScript l.scripts.items;
   of_texts : All IsScriptOfText l.scripts.items;
   files : g.H.Shelf.files l.shelf ≡ g.H.Shelf.files l.initial.shelf;
-  read_faults : g.H.Shelf.read_faults l.initial.shelf ≤ g.H.Shelf.read_faults l.shelf;
+  read_faults : g.H.Shelf.read_faults l.shelf ≡ g.H.Shelf.read_faults l.initial.shelf;
   write_faults : g.H.Shelf.write_faults l.shelf ≡ g.H.Shelf.write_faults l.initial.shelf;
 }

@@ -1,4 +1,5 @@
 use Rattle.std.proofs.Common.{◌-◌, length, take, drop, refl, sym, subst}
+use Rattle.call_files.proofs.Answered.{none_read}
 use Rattle.enc_top.specs.Outcome.{IsAskedBy}
 use Rattle.enc_top.proofs.FormWords.{applied_words, behind, check_words, drilled_words, join_words, made_words, no_words, other_words, probed_words}
 use Rattle.enc_top.proofs.FormWords.{run_words, split_words}
@@ -71,3 +72,9 @@ returns-clause-asked g c = (
       c.if-eq-3.ensures c.if-eq-4.ensures c.if-eq-5.ensures c.if-eq-6.ensures c.if-eq-7.ensures c.if-eq-8.ensures,
   refl,
 )
+
+pub returns-then-eq-3-clause-told_reads : goal.returns-then-eq-3-clause-told_reads
+returns-then-eq-3-clause-told_reads g c = none_read (g.H.Shelf.read_faults c.args.shelf.now) c.make.result
+
+pub returns-then-eq-4-clause-told_reads : goal.returns-then-eq-4-clause-told_reads
+returns-then-eq-4-clause-told_reads g c = none_read (g.H.Shelf.read_faults c.args.shelf.now) c.drill.result

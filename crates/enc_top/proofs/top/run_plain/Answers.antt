@@ -1,4 +1,5 @@
-use Rattle.std.proofs.Common.{map, string_bytes}
+use Rattle.std.proofs.Common.{◌∙◌, map, string_bytes}
+use Rattle.call_files.proofs.Answered.{none_failed}
 use Rattle.enc_top.proofs.Causes.{exact_from_cause}
 use Rattle.enc_top.proofs.Completed.{complete_from_exact, read_back_from_cause}
 use Rattle.enc_top.proofs.Ended.{refused_end, work_end}
@@ -31,3 +32,6 @@ returns-in-Ok-clause-complete g c = complete_from_exact ⊥ _ _ _ c.finish.resul
 
 pub returns-in-Ok-clause-read_back : goal.returns-in-Ok-clause-read_back
 returns-in-Ok-clause-read_back g c = read_back_from_cause ⊥ _ _ _ c.finish.result (returns-in-Ok-clause-cause g c)
+
+pub returns-in-Ok-clause-told_reads : goal.returns-in-Ok-clause-told_reads
+returns-in-Ok-clause-told_reads g c = none_failed _ _ c.finish.result (c.finish.ensures.read_faults ∙ c.in-Ok.ensures.told_reads)

@@ -5,9 +5,11 @@ use Rattle.commit_book.specs.Books.{history_of}
 use Rattle.crash_disk.specs.Disk.{LeavesOnly}
 use Rattle.book_journal.specs.Keeping.{IsStanding}
 use Rattle.report_text.specs.declared.status.Status.{Status}
+use Rattle.keep_run.specs.Causes.{EndTellsDisk}
 use Rattle.keep_run.specs.Keeps.{IsKeepEnd, IsKeptOn}
 use Rattle.keep_run.specs.Runs.{IsKeptTo}
 use Rattle.keep_run.proofs.Opened.{open_end, open_ends, while_opened, while_run}
+use Rattle.keep_run.proofs.Told.{open_told, stop_told}
 use Rattle.keep_run.proofs.keep.keep.Goals as goal
 
 pub status_of-requires : goal.status_of-requires
@@ -60,3 +62,17 @@ returns-in-Ok-run_over-clause-moments g c =
     (subst (λ (cell : Cell). IfSome (g.D.Disk.content mid)
     (λ _. LeavesOnly g.D.Disk.moment g.D.Disk.left_since mid new (IsKeptTo cell commits c.args.script.now))) c.in-Ok.ensures.book.opening
     c.in-Ok-run_over.ensures.moments)
+
+pub returns-in-Err-clause-told_disk : goal.returns-in-Err-clause-told_disk
+returns-in-Err-clause-told_disk g c =
+    let old = g.D.Disk.faults c.args.disk.now in
+    let mid = g.D.Disk.faults c.open_book.new.disk in
+    subst (EndTellsDisk old mid) (sym c.status_of.ensures) (open_told old mid c.in-Err.why c.in-Err.ensures.counted)
+
+pub returns-clause-told_disk : goal.returns-clause-told_disk
+returns-clause-told_disk g c =
+    let old = g.D.Disk.faults c.args.disk.now in
+    let mid = g.D.Disk.faults c.open_book.new.disk in
+    let new = g.D.Disk.faults c.run_over.new.disk in
+    subst (EndTellsDisk old new) (sym c.status_of_stop.ensures)
+    (stop_told old mid new c.in-Err-run_over.why c.in-Ok.ensures.counted c.in-Err-run_over.ensures.err)

@@ -1,4 +1,4 @@
-use Rattle.std.proofs.Common.{List, ℕ, length, refl, ap, subst, sym, ◌∙◌, arith}
+use Rattle.std.proofs.Common.{List, ℕ, length, refl, ap, subst, sym, ◌∙◌}
 use Rattle.text_spec.specs.declared.command.Command.{Command}
 use Rattle.history_spec.specs.Served.{Draft, no_draft}
 use Rattle.commit_book.specs.Books.{BookState, history_of}
@@ -28,7 +28,7 @@ loop-command-init g c =
           (sym c.commands-command-items.ensures) begun;
       moments = at_start g.D.Disk.content g.D.Disk.images g.D.Disk.moment g.D.Disk.left_since journal script (draft_of session) session.transcript
           begun c.requires.still c.requires.whole (g.met.D.Disk.only_now journal.disk.now);
-      no_fall = omega arith;
+      counted = refl;
     }
 
 pub serve-requires-clause-fit : goal.serve-requires-clause-fit
@@ -52,8 +52,6 @@ loop-command-preserved g c =
     let old = c.args.journal.now in
     let before = c.loop-command.invariant in
     let step = c.in_ok-serve.ensures in
-    let fell = before.no_fall in
-    let falls = step.no_fall in
     record {
       still = step.still;
       same_reference = step.same_reference ∙ before.same_reference;
@@ -66,7 +64,7 @@ loop-command-preserved g c =
           c.loop-command.command-index c.command-item.result c.loop-command-test.true c.command-item.is c.loop-command.journal.book
           c.loop-command.session before.run g.D.Disk.moment g.D.Disk.left_since g.D.Disk.content old.disk.now c.loop-command.journal.disk.now
           c.serve.new.journal.disk.now before.moments before.stays_told.1 step.moments;
-      no_fall = omega (arith, fell, falls);
+      counted = step.counted ∙ before.counted;
     }
 
 -- no command is left

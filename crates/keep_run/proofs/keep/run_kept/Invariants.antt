@@ -1,4 +1,4 @@
-use Rattle.std.proofs.Common.{◌≡◌, ◌≤◌, ◌↔◌, drop, false}
+use Rattle.std.proofs.Common.{◌≡◌, ◌↔◌, drop, false}
 use Rattle.std.specs.Prelude.{IfSome, IsSome}
 use Rattle.crash_disk.specs.Disk.{LeavesOnly}
 use Rattle.commit_book.specs.Books.{history_of}
@@ -18,5 +18,5 @@ invariant-loop-command g l = record {
       (draft_of l.session) l.session.transcript;
   moments : IfSome (g.D.Disk.content l.initial.journal.disk.now) (λ _. LeavesOnly g.D.Disk.moment g.D.Disk.left_since l.initial.journal.disk.now
       l.journal.disk.now (IsKeptTo l.initial.journal.book.opening (history_of l.initial.journal.book).commits l.script));
-  no_fall : g.D.Disk.faults l.initial.journal.disk.now ≤ g.D.Disk.faults l.journal.disk.now;
+  counted : g.D.Disk.faults l.journal.disk.now ≡ g.D.Disk.faults l.initial.journal.disk.now;
 }

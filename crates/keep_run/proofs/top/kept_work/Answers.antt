@@ -1,7 +1,8 @@
-use Rattle.std.proofs.Common.{Some, subst, sym}
+use Rattle.std.proofs.Common.{Some, refl, subst, sym}
 use Rattle.cell_spec.specs.Writable.{IsWritable}
 use Rattle.keep_run.specs.Words.{keep_form}
 use Rattle.keep_run.proofs.Answers.{cell_ends, given_of, kept_meanwhile, not_asked, script_ends, session_asked, untouched_by}
+use Rattle.keep_run.proofs.Told.{no_disk_fault, work_told}
 use Rattle.keep_run.proofs.top.kept_work.Goals as goal
 
 pub returns-in-Err-clause-asked : goal.returns-in-Err-clause-asked
@@ -58,3 +59,14 @@ pub returns-clause-untouched : goal.returns-clause-untouched
 returns-clause-untouched g c =
     untouched_by c.args.disk.now c.keep.new.disk c.into_cell.result (g.D.Disk.content c.args.disk.now) (g.D.Disk.content c.keep.new.disk)
     (g.D.Disk.faults c.args.disk.now) (g.D.Disk.faults c.keep.new.disk) c.args.out.now c.keep.result c.work_of.result c.keep.ensures.err c.work_of.ensures
+
+pub returns-in-Err-clause-told_disk : goal.returns-in-Err-clause-told_disk
+returns-in-Err-clause-told_disk g c = no_disk_fault _ _ c.in-Err.status refl
+
+pub returns-in-Err-script_in_file-clause-told_disk : goal.returns-in-Err-script_in_file-clause-told_disk
+returns-in-Err-script_in_file-clause-told_disk g c = no_disk_fault _ _ c.in-Err-script_in_file.status refl
+
+pub returns-clause-told_disk : goal.returns-clause-told_disk
+returns-clause-told_disk g c =
+    work_told (g.D.Disk.faults c.args.disk.now) (g.D.Disk.faults c.keep.new.disk) c.args.out.now c.keep.result c.work_of.result c.keep.ensures.told_disk
+    c.work_of.ensures
