@@ -12,7 +12,11 @@ unsafe extern "C" {
     fn getenv(name: *const c_char) -> *const c_char;
     fn atol(text: *const c_char) -> c_long;
     fn dprintf(file: c_int, form: *const c_char, ...) -> c_int;
+    fn __errno_location() -> *mut c_int;
 }
+
+/// The cause that the C library's callers expect of a refused allocation.
+const ENOMEM: c_int = 12;
 
 /// How many allocations there were.
 static COUNT: AtomicI64 = AtomicI64::new(0);
@@ -23,7 +27,10 @@ static REFUSED: AtomicI64 = AtomicI64::new(0);
 fn is_refused() -> bool {
     let is_it = COUNT.fetch_add(1, SeqCst) + 1 == REFUSED.load(SeqCst);
     if is_it {
-        unsafe { dprintf(2, c"refused\n".as_ptr()) };
+        unsafe {
+            dprintf(2, c"refused\n".as_ptr());
+            *__errno_location() = ENOMEM;
+        }
     }
     is_it
 }
