@@ -27,7 +27,7 @@ const CELL_LIMIT: usize = 16_777_216;
 /// How many findings a cell may have.
 const FINDING_LIMIT: usize = 262_144;
 
-/// The picture of a cell with all its findings, with the look-ups counted.
+/// The picture of a cell with all its findings. Its own look-ups are counted, and those of pairs that are judged.
 fn draw_counted<L: Ledger>(alloc: Global, cell: &Cell, blank: Blank) -> Result<Vec<u8>, Ending>
     requires writable { IsWritable cell.now }
     requires name { blank.name ≡ L.name }
