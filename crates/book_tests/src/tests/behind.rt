@@ -82,23 +82,6 @@ fn meet<L: Ledger>(
     Ok(())
 }
 
-/// Desk 2 meets the first commit above its base that deletes one of its nodes, wherever that stands among the others.
-fn meet_each<L: Ledger>(
-    rt: &(impl Threads + Abort + Sync),
-    alloc: Global,
-    book: &mut Book,
-    opening: &Bench,
-    steps: &mut Steps<L>,
-) -> Result<(), AllocError>
-    requires { opening.now ≡ book.old.opening }
-    ensures { IfOk result (λ _. book.new.opening ≡ book.old.opening) }
-{
-    meet(rt, alloc, book, opening, &[60, 17, 40], 17, steps)?;
-    meet(rt, alloc, book, opening, &[60], 60, steps)?;
-    meet(rt, alloc, book, opening, &[80, 33], 33, steps)?;
-    meet(rt, alloc, book, opening, &[1], 1, steps)
-}
-
 /// Nothing speaks against a node that no commit deleted, and a node that is gone is missing on the newest cell.
 fn check_others<L: Ledger>(
     rt: &(impl Threads + Abort + Sync),
@@ -139,7 +122,19 @@ fn check_behind<L: Ledger>(
     let mut book = open_squares(rt, alloc, 8, &mut steps)?;
     let opening = book.bench().copy(alloc)?;
     delete_each(rt, alloc, &mut book, &mut steps)?;
-    meet_each(rt, alloc, &mut book, &opening, &mut steps)?;
+    // It meets the first commit above its base that deletes one of its nodes, wherever that stands among the others.
+    meet(
+        rt,
+        alloc,
+        &mut book,
+        &opening,
+        &[60, 17, 40],
+        17,
+        &mut steps,
+    )?;
+    meet(rt, alloc, &mut book, &opening, &[60], 60, &mut steps)?;
+    meet(rt, alloc, &mut book, &opening, &[80, 33], 33, &mut steps)?;
+    meet(rt, alloc, &mut book, &opening, &[1], 1, &mut steps)?;
     check_others(rt, alloc, &mut book, &opening, &mut steps)
 }
 
