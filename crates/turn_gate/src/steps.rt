@@ -25,8 +25,8 @@ const SLEEP_WORDS: u64 = 16;
 pub(crate) const WORDS: usize = 19;
 /// The slot of the value.
 const VALUE: usize = 0;
-/// How often the next in line looks again before it sleeps, since a short turn costs less than a sleep.
-const LOOKS: u32 = 1_000;
+/// How often the next in line looks again before it sleeps: a turn costs less than to be woken, so it looks for about as long as a turn takes.
+const LOOKS: u32 = 100_000;
 
 fn take_ticket<V: Chronicle + Drop>(lock: &LockWords<V>, place: &mut Place<V>) -> u64
     requires lock { IsPlaceOf lock.now.table_id place.old }
@@ -118,6 +118,18 @@ fn pass_turn<V: Chronicle + Drop>(lock: &LockWords<V>, place: &mut Place<V>)
     let next = served.wrapping_add(1);
     if lock.peek(TICKETS) != next {
         wake_sleepers(lock, place, next);
+        wake_second(lock, place, next.wrapping_add(1));
+    }
+}
+
+// The one behind the next is woken too, so that it looks already when its turn comes.
+fn wake_second<V: Chronicle + Drop>(lock: &LockWords<V>, place: &mut Place<V>, ticket: u64)
+    requires lock { IsPlaceOf lock.now.table_id place.old }
+    ensures same { IsSamePlace place.old place.new }
+    ensures view { place.new.me ≡ place.old.me }
+{
+    if lock.peek(TICKETS) != ticket {
+        wake_sleepers(lock, place, ticket);
     }
 }
 
