@@ -24,7 +24,7 @@ fn with_values<B: Look, L: Ledger>(
     ensures steps { steps.new ≤ steps.old + 1 }
 {
     match base.get(RecName::of_head(), steps) {
-        Some(Rec::H(head)) => Ok(Some(Rec::H(head.edited(alloc, edit)?))),
+        Some(Rec::H(head)) => Ok(Some(Rec::of_head(alloc, head.edited(alloc, edit)?)?)),
         _ => Ok(None),
     }
 }

@@ -69,7 +69,7 @@ impl<'a> ListLook<'a> {
         let records = records_of(alloc, cell)?;
         let pointers = group_pointers(alloc, &records)?;
         let identities = group_identities(alloc, &records)?;
-        let head = Rec::H(cell.head.copy(alloc)?);
+        let head = Rec::of_head(alloc, cell.head.copy(alloc)?)?;
         Ok(ListLook {
             cell,
             head,

@@ -81,7 +81,8 @@ fn records_of_every_kind_fit_under_their_own_names(rt: HostRuntime) {
 fn a_head_is_no_record_of_a_list(rt: HostRuntime) -> Result<(), Fail> {
     let alloc = rt.alloc();
     let head = head(alloc, Text::make(alloc))?;
-    assert_eq!(rt; fits(&Rec::H(head), 2), Err(Unfit::BadName));
+    let rec = Rec::of_head(alloc, head)?;
+    assert_eq!(rt; fits(&rec, 2), Err(Unfit::BadName));
     Ok(())
 }
 

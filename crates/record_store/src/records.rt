@@ -67,7 +67,7 @@ impl Records {
     fn make(alloc: Global, head: Head) -> Result<Records, AllocError>
         ensures { IfOk result (λ records. records ≡ empty_of head) }
     {
-        let named_head = Rec::H(head.copy(alloc)?);
+        let named_head = Rec::of_head(alloc, head.copy(alloc)?)?;
         Ok(Records {
             head: Shared::make(alloc, head)?,
             named_head: Shared::make(alloc, named_head)?,
@@ -194,7 +194,7 @@ impl Records {
         ensures { IfOk result (λ records. records ≡ apply_edits (HeadValues values.now ∷ []) self) }
     {
         let head = self.head.edited(alloc, values)?;
-        let named_head = Rec::H(head.copy(alloc)?);
+        let named_head = Rec::of_head(alloc, head.copy(alloc)?)?;
         Ok(Records {
             head: Shared::make(alloc, head)?,
             named_head: Shared::make(alloc, named_head)?,

@@ -3,7 +3,7 @@
 ghost use Rattle.std.specs.Prelude.{◌≡◌, IfOk};
 
 use crate::cell::Cell;
-use crate::head::{Head, HeadEdit};
+use crate::head::{BoxedHead, Head, HeadEdit};
 use crate::items::Items;
 use crate::record::{Attr, Feature, Partner, Rec, Vector};
 use std::alloc::{AllocError, Global};
@@ -120,6 +120,13 @@ impl Duplicate for Head {
             somf: self.somf,
             dspm_comt: self.dspm_comt.copy(alloc)?,
         })
+    }
+}
+
+impl Duplicate for BoxedHead {
+    fn copy(&self, alloc: Global) -> Result<BoxedHead, AllocError> {
+        let head: &Head = self;
+        BoxedHead::make(alloc, head.copy(alloc)?)
     }
 }
 

@@ -1,10 +1,12 @@
 //! The head of a cell, and its new values in an edit.
 
-ghost use Rattle.std.specs.Prelude.{◌≡◌};
+ghost use Rattle.std.specs.Prelude.{◌≡◌, IfOk};
 
 use crate::duplicate::Duplicate;
 use crate::items::Text;
 use std::alloc::{AllocError, Global};
+use std::marker::Model;
+use std::ops::Deref;
 
 /// What the two head records of a cell say (S-57 Part 3, 7.3): the data set identification (DSID), the
 /// attribute levels of the data set structure information (DSSI) and the data set parameters (DSPM).
@@ -77,7 +79,6 @@ impl Drop for Head {
 
 impl Head {
     ghost use Rattle.s57_types.specs.Heads.{edited_head};
-    ghost use Rattle.std.specs.Prelude.{IfOk};
 
     /// The head with the six values of an edit. All else stays.
     ///
@@ -94,6 +95,43 @@ impl Head {
         head.aall = edit.aall.number();
         head.dsid_comt = edit.comt.copy(alloc)?;
         Ok(head)
+    }
+}
+
+/// A head on the heap, so that a record which may be a head takes no more room than its other sorts need. Contracts see it as the head.
+#[derive(Debug, Drop)]
+pub struct BoxedHead {
+    head: Box<Head>,
+}
+
+impl Model for BoxedHead {
+    ghost use Rattle.s57_types.specs.declared.head.Head.{Head};
+
+    ghost Value = { Head };
+
+    ghost view = { λ boxed. boxed.head.value };
+}
+
+impl BoxedHead {
+    /// The head, moved to the heap.
+    ///
+    /// An `Err` means out of memory.
+    pub(crate) fn make(alloc: Global, head: Head) -> Result<BoxedHead, AllocError>
+        ensures { IfOk result (λ boxed. boxed ≡ head) }
+    {
+        Ok(BoxedHead {
+            head: Box::new(alloc, head)?,
+        })
+    }
+}
+
+impl Deref for BoxedHead {
+    type Target = Head;
+
+    fn deref(&self) -> &Head
+        ensures { result.now ≡ self.now }
+    {
+        &self.head
     }
 }
 

@@ -1,10 +1,11 @@
 //! Vector and feature records, and the head where it stands for an answer to its name.
 
-ghost use Rattle.std.specs.Prelude.{◌≡◌};
+ghost use Rattle.std.specs.Prelude.{◌≡◌, IfOk};
 
-use crate::head::Head;
+use crate::head::{BoxedHead, Head};
 use crate::items::{Attrs, Deep, Ends, Partners, Places, Plane, Text};
 use crate::name::{Lnam, RecName};
+use std::alloc::{AllocError, Global};
 
 /// An attribute of ATTF, NATF or ATTV (S-57 Part 3, 7.6.3, 7.6.4 and 7.7.1.2): its code ATTL and its value ATVL.
 #[derive(Debug, Drop)]
@@ -107,11 +108,21 @@ impl Drop for Feature {
 pub enum Rec {
     V(Vector),
     F(Feature),
-    H(Head),
+    H(BoxedHead),
 }
 
 impl Rec {
     ghost use Rattle.s57_types.specs.RecordNames.{name_of};
+    ghost use Rattle.s57_types.specs.declared.record.Rec.TheVariants.{H};
+
+    /// The head as the answer to its name.
+    ///
+    /// An `Err` means out of memory.
+    pub fn of_head(alloc: Global, head: Head) -> Result<Rec, AllocError>
+        ensures { IfOk result (λ rec. rec ≡ H head) }
+    {
+        Ok(Rec::H(BoxedHead::make(alloc, head)?))
+    }
 
     /// The name of the record or of the head.
     pub fn name(&self) -> RecName
