@@ -1,6 +1,12 @@
 //! The names of records and of feature objects.
 
 ghost use Rattle.std.specs.Prelude.{◌≡◌};
+ghost use Rattle.std.proofs.Common.{rules};
+ghost use Rattle.std.specs.Cmp.{partial_order_from_own_ties};
+ghost use Rattle.std.specs.Cmp.Rules.{comparing};
+ghost use Rattle.std.specs.Ordering.{nat_cmp, on, then_cmp, as_partial_cmp};
+
+use std::cmp::Ordering;
 
 /// The kind of a record, in the order of names; its code is RCNM (S-57 Part 3, 2.2).
 #[derive(Clone, Copy, Debug, PartialEq, Eq, PartialOrd, Ord, Hash)]
@@ -19,7 +25,7 @@ pub enum Kind {
 
 /// The name of a record: its kind and its identification number RCID (S-57 Part 3, 2.2). Names are ordered by
 /// kind, then by number.
-#[derive(Clone, Copy, Debug, PartialEq, Eq, PartialOrd, Ord, Hash)]
+#[derive(Clone, Copy, Debug, PartialEq, Eq, Hash)]
 pub struct RecName {
     pub kind: Kind,
     pub id: u32,
@@ -36,6 +42,35 @@ impl RecName {
             kind: Kind::Head,
             id: 0,
         }
+    }
+}
+
+impl Ord for RecName {
+    ghost cmp = { then_cmp (on (λ n. n.kind) ⟦<Kind as Ord>⟧.cmp) (on (λ n. n.id) nat_cmp) };
+
+    ghost total = { Prim.search (comparing, rules) };
+
+    ghost matches_partial_cmp = { Prim.search (comparing, rules) };
+
+    ghost matches_eq = { Prim.search (comparing, rules) };
+
+    // Names that are compared are mostly of one kind, and whether kinds are equal is told sooner than their order.
+    fn cmp(&self, other: &RecName) -> Ordering {
+        if self.kind == other.kind {
+            self.id.cmp(&other.id)
+        } else {
+            self.kind.cmp(&other.kind)
+        }
+    }
+}
+
+impl PartialOrd for RecName {
+    ghost partial_cmp = { as_partial_cmp (then_cmp (on (λ n. n.kind) ⟦<Kind as Ord>⟧.cmp) (on (λ n. n.id) nat_cmp)) };
+
+    ghost laws = { partial_order_from_own_ties (Prim.search (comparing, rules)) (Prim.search (comparing, rules)) };
+
+    fn partial_cmp(&self, other: &RecName) -> Option<Ordering> {
+        Some(self.cmp(other))
     }
 }
 
