@@ -9,7 +9,7 @@ ghost use Rattle.cell_spec.specs.declared.key.Key.TheVariants.{Refs};
 ghost use Rattle.edit_answers.specs.Touched.{keys_touched_by};
 
 use cell_spec::{Edit, Key};
-use s57_types::{End, Rec, Spot};
+use s57_types::{End, Rec, Spot, cut_back};
 use std::alloc::AllocError;
 
 // Appends the key of the pointers to each of the ends' targets, or some of them where memory goes out.
@@ -48,22 +48,6 @@ fn push_some_answered(keys: &mut Vec<Key>, rec: &Rec) -> Result<(), AllocError>
         }
         Rec::H(_) => Ok(()),
     }
-}
-
-// Cuts keys back to their number before a call that failed.
-fn cut_back(
-    keys: &mut Vec<Key>,
-    count: usize,
-    pushed: Result<(), AllocError>,
-) -> Result<(), AllocError>
-    ensures same { result ≡ pushed }
-    ensures ok { OnOk result (keys.new.items ≡ keys.old.items) }
-    ensures err { OnErr result (keys.new.items ≡ take count keys.old.items) }
-{
-    if pushed.is_err() {
-        keys.truncate(count);
-    }
-    pushed
 }
 
 /// Appends the keys, beside its name, that a record is an answer to, all or none.

@@ -1,6 +1,6 @@
 //! The small lists that records are made of.
 
-ghost use Rattle.std.specs.Prelude.{◌≡◌, ◌<◌, ◌++◌, ◌==◌, [], ◌∷◌, length, slice_get, Some, OnOk, OnErr, IfOk};
+ghost use Rattle.std.specs.Prelude.{◌≡◌, ◌<◌, ◌++◌, ◌==◌, [], ◌∷◌, length, slice_get, take, Some, OnOk, OnErr, IfOk};
 
 use crate::duplicate::Duplicate;
 use crate::record::{Attr, End, Partner, Rec, Spot};
@@ -101,6 +101,22 @@ impl<T> Items<T> {
     {
         self.items.as_slice()
     }
+}
+
+/// Cuts a list back to its length before a call that failed.
+pub fn cut_back<T: Drop>(
+    list: &mut Vec<T>,
+    length: usize,
+    pushed: Result<(), AllocError>,
+) -> Result<(), AllocError>
+    ensures same { result ≡ pushed }
+    ensures ok { OnOk result (list.new.items ≡ list.old.items) }
+    ensures err { OnErr result (list.new.items ≡ take length list.old.items) }
+{
+    if pushed.is_err() {
+        list.truncate(length);
+    }
+    pushed
 }
 
 /// A text as its bytes, without its terminator.

@@ -15,6 +15,6 @@ pub use duplicate::Duplicate;
 pub use fault::{CellFault, Unfit};
 pub use field::{Dsid, Dspm, Dssi, Frid, Vrid};
 pub use head::{BoxedHead, Head, HeadEdit, Level};
-pub use items::{Attrs, Deep, Ends, Items, Partners, Places, Plane, Recs, Text};
+pub use items::{Attrs, Deep, Ends, Items, Partners, Places, Plane, Recs, Text, cut_back};
 pub use name::{Kind, Lnam, RecName};
 pub use record::{Attr, End, Feature, Partner, Rec, Spot, Vector};

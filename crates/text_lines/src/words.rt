@@ -1,11 +1,11 @@
 //! Words and numbers.
 
-ghost use Rattle.std.specs.Prelude.{◌≡◌, ◌++◌, ◌∷◌, [], decimal, take, OnErr, OnOk};
+ghost use Rattle.std.specs.Prelude.{◌≡◌, ◌++◌, ◌∷◌, [], decimal, OnErr, OnOk};
 ghost use Rattle.text_spec.specs.CellText.{identity_words, kind_word, name_words};
 ghost use Rattle.text_spec.specs.Lines.{spaced, spaced_words};
 
 use itoa::Buffer;
-use s57_types::{Kind, Lnam, RecName};
+use s57_types::{Kind, Lnam, RecName, cut_back};
 use std::alloc::AllocError;
 
 /// The word of a kind of record.
@@ -36,22 +36,6 @@ pub fn push_text(out: &mut Vec<u8>, text: &str) -> Result<(), AllocError>
     ensures err { OnErr result (out.new.items ≡ out.old.items) }
 {
     push_bytes(out, text.as_bytes())
-}
-
-/// Cuts a text back to its length before a call that failed.
-fn cut_back(
-    out: &mut Vec<u8>,
-    length: usize,
-    pushed: Result<(), AllocError>,
-) -> Result<(), AllocError>
-    ensures same { result ≡ pushed }
-    ensures ok { OnOk result (out.new.items ≡ out.old.items) }
-    ensures err { OnErr result (out.new.items ≡ take length out.old.items) }
-{
-    if pushed.is_err() {
-        out.truncate(length);
-    }
-    pushed
 }
 
 /// Appends a word behind a space, or nothing.
