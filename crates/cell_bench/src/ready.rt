@@ -11,7 +11,7 @@ ghost use Rattle.cell_spec.specs.Names.{key_order, same_subject, subject_order};
 ghost use Rattle.rule_spec.specs.Affected.{has_valid_row};
 ghost use Rattle.cell_bench.specs.Ready.{ArePlaces, HaveSameKeys, IsValidRowOf, is_in};
 
-use cell_spec::{Key, Keys, Row, Rows, Subject, ascending_keys, orders_are_by_parts};
+use cell_spec::{Key, Keys, Row, Rows, Subject, ascending_keys, has_key, orders_are_by_parts};
 use s57_types::Items;
 use std::alloc::{AllocError, Global};
 use std::collections::BTreeMap;
@@ -25,15 +25,6 @@ fn in_order(alloc: Global, keys: &[Key]) -> Result<Keys, AllocError>
     ensures { IfOk result (λ ordered. ordered ≡ ascending key_order keys.now) }
 {
     Ok(ascending_keys(Items::copy_of(alloc, keys)?.into_vec()))
-}
-
-// Whether a key is among keys in order.
-fn has_key(keys: &[Key], key: &Key) -> bool
-    requires { IsStrictlySortedBy key_order keys.now }
-    ensures { result ≡ is_in keys.now key.now }
-{
-    orders_are_by_parts();
-    keys.binary_search(key).is_ok()
 }
 
 // Whether a row holds none of the keys, which are in order.

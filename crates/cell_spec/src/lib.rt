@@ -11,4 +11,4 @@ pub use edit::Edit;
 pub use finding::{Finding, Findings, Row, Rows};
 pub use key::{Key, Keys, Names, Ref, Refs, Subject, Subjects};
 pub use law::{orders_are_by_parts, orders_are_exact, writable_cells_are_readable};
-pub use sorted::{ascending_keys, ascending_names, distinct};
+pub use sorted::{ascending_keys, ascending_names, distinct, has_key, keys_ascend};

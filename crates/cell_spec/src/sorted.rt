@@ -1,9 +1,12 @@
 //! Lists in ascending order, each item once.
 
-ghost use Rattle.std.specs.Prelude.{◌≡◌};
+ghost use Rattle.std.specs.Prelude.{◌≡◌, ◌↔◌, IsTrue};
+ghost use Rattle.std.specs.List.{list_any};
+ghost use Rattle.std.specs.List.Sorted.{IsStrictlySortedBy};
+ghost use Rattle.std.specs.Ordering.{is_lt};
 ghost use Rattle.std.specs.declared.cmp.Ordering.TheVariants.{Equal};
 ghost use Rattle.cell_spec.specs.Ascending.{ascending};
-ghost use Rattle.cell_spec.specs.Names.{key_order, name_order};
+ghost use Rattle.cell_spec.specs.Names.{key_order, name_order, same_key};
 
 use crate::key::{Key, Keys, Names};
 use crate::law::orders_are_by_parts;
@@ -34,4 +37,27 @@ pub fn ascending_names(names: Vec<RecName>) -> Names
 {
     orders_are_by_parts();
     Items::of_vec(distinct(names))
+}
+
+fn is_below(key: Key, other: Key) -> bool
+    ensures { result ≡ is_lt (key_order key other) }
+{
+    orders_are_by_parts();
+    key.cmp(&other).is_lt()
+}
+
+/// Whether keys ascend, each once, as those of a read set do.
+pub fn keys_ascend(keys: &[Key]) -> bool
+    ensures { IsTrue result ↔ IsStrictlySortedBy key_order keys.now }
+{
+    keys.is_sorted_by(|key, next| is_below(*key, *next))
+}
+
+/// Whether a key stands among keys in order.
+pub fn has_key(keys: &[Key], key: &Key) -> bool
+    requires { IsStrictlySortedBy key_order keys.now }
+    ensures { result ≡ list_any (same_key key.now) keys.now }
+{
+    orders_are_by_parts();
+    keys.binary_search(key).is_ok()
 }

@@ -1,6 +1,5 @@
 pub mod Changed
 pub mod Folded
-pub mod InOrder
 pub mod Pairs
 pub mod Range
 pub mod Steps

@@ -3,13 +3,14 @@
 ghost use Rattle.std.specs.Prelude.{◌≡◌, ◌&&◌, ◌||◌, IfOk, OnOk, not, true, if◌then◌else◌};
 ghost use Rattle.std.specs.List.{list_any};
 ghost use Rattle.std.specs.List.Sorted.{IsStrictlySortedBy};
-ghost use Rattle.std.specs.Ordering.{is_lt};
 ghost use Rattle.cell_spec.specs.declared.key.Key.{Key as SpecKey};
 ghost use Rattle.cell_spec.specs.declared.key.Subject.{Subject as SpecSubject};
 ghost use Rattle.cell_spec.specs.Names.{key_order, same_subject};
 ghost use Rattle.depend_map.specs.Readers.{has_pair, holds_key, is_lost, same_pair};
 
-use cell_spec::{Key, Subject, ascending_keys, distinct, orders_are_by_parts};
+use cell_spec::{
+    Key, Subject, ascending_keys, distinct, has_key, keys_ascend, orders_are_by_parts,
+};
 use s57_types::Items;
 use shared_table::SharedTable;
 use std::alloc::{AllocError, Global};
@@ -46,15 +47,6 @@ fn take(
     readers.take(alloc, &(key, subject))
 }
 
-// Whether a key stands among keys in order.
-fn holds(keys: &[Key], key: Key) -> bool
-    requires { IsStrictlySortedBy key_order keys.now }
-    ensures { result ≡ holds_key keys.now key }
-{
-    orders_are_by_parts();
-    keys.binary_search(&key).is_ok()
-}
-
 // Puts a subject's gained keys: those that aren't among its old ones, which stand there with it.
 fn put_gained(
     alloc: Global,
@@ -69,7 +61,7 @@ fn put_gained(
         has_pair readers.new k s ≡ ((same_subject subject s && holds_key new.now k) || has_pair readers.old k s)) }
 {
     for key in new {
-        if !holds(old, *key) {
+        if !has_key(old, key) {
             put(alloc, readers, *key, subject)?;
         }
     }
@@ -89,7 +81,7 @@ fn take_lost(
         has_pair readers.new k s ≡ (not (same_subject subject s && is_lost old.now new.now k) && has_pair readers.old k s)) }
 {
     for key in old {
-        if !holds(new, *key) {
+        if !has_key(new, key) {
             take(alloc, readers, *key, subject)?;
         }
     }
@@ -114,20 +106,6 @@ fn replace_ascending(
     take_lost(alloc, readers, subject, old, new)
 }
 
-fn is_below(key: Key, other: Key) -> bool
-    ensures { result ≡ is_lt (key_order key other) }
-{
-    orders_are_by_parts();
-    key.cmp(&other).is_lt()
-}
-
-// Whether keys ascend, each once, as those of a read set do.
-fn ascend(keys: &[Key]) -> bool
-    ensures { result ≡ true → IsStrictlySortedBy key_order keys.now }
-{
-    keys.is_sorted_by(|key, next| is_below(*key, *next))
-}
-
 /// Puts new keys of a subject in place of its old ones, each that is lost or gained by itself. Keys that don't ascend are put in order first.
 pub(crate) fn replace_keys(
     alloc: Global,
@@ -140,7 +118,7 @@ pub(crate) fn replace_keys(
     ensures { OnOk result ((k : SpecKey) (s : SpecSubject) →
         has_pair readers.new k s ≡ (if same_subject subject s then holds_key new.now k else has_pair readers.old k s)) }
 {
-    if ascend(old) && ascend(new) {
+    if keys_ascend(old) && keys_ascend(new) {
         return replace_ascending(alloc, readers, subject, old, new);
     }
     let old = ascending_keys(Items::copy_of(alloc, old)?.into_vec());

@@ -1,4 +1,3 @@
-pub mod InOrder
 pub mod NearAnswers
 pub mod ReadKeys
 pub mod AskedEnds

@@ -2,7 +2,6 @@
 
 ghost use Rattle.std.specs.Prelude.{◌≡◌, ◌+◌, ◌≤◌, IfOk, List, Some, length, map, option_map, true};
 ghost use Rattle.std.specs.Option.{option_copied};
-ghost use Rattle.std.specs.Ordering.{is_lt};
 ghost use Rattle.s57_types.specs.declared.cell.Cell.{Cell as SpecCell};
 ghost use Rattle.cell_spec.specs.declared.key.Key.{Key as SpecKey};
 ghost use Rattle.cell_spec.specs.Ascending.{ascending};
@@ -10,7 +9,7 @@ ghost use Rattle.cell_spec.specs.Names.{key_order};
 ghost use Rattle.near_records.specs.Near.{AreAnswers, IsNear, answer_held, answer_to as spec_answer, has_key};
 
 use crate::told::Near;
-use cell_spec::{Key, Keys, ascending_keys, orders_are_by_parts};
+use cell_spec::{Key, Keys, ascending_keys, keys_ascend, orders_are_by_parts};
 use chain_topo::{Look, Steps};
 use s57_types::{Lnam, Rec, RecName};
 use std::alloc::{AllocError, Global};
@@ -93,20 +92,6 @@ fn answers_to<'a, B: Look, L: Ledger>(
     Ok(answers)
 }
 
-fn is_below(key: Key, other: Key) -> bool
-    ensures { result ≡ is_lt (key_order key other) }
-{
-    orders_are_by_parts();
-    key.cmp(&other).is_lt()
-}
-
-/// Whether keys ascend, each once, as those of a read set do.
-fn ascend(keys: &[Key]) -> bool
-    ensures { result ≡ true → ascending key_order keys.now ≡ keys.now }
-{
-    keys.is_sorted_by(|key, next| is_below(*key, *next))
-}
-
 fn ascending_copy(alloc: Global, keys: &[Key]) -> Result<Keys, AllocError>
     ensures { IfOk result (λ held. held ≡ ascending key_order keys.now) }
 {
@@ -179,7 +164,7 @@ pub fn gather<'a, B: Look, L: Ledger>(
     ensures near { IfOk result (λ near. IsNear (B.cell look.now) keys.now near) }
     ensures steps { steps.new ≤ steps.old + length keys.now }
 {
-    if ascend(keys) {
+    if keys_ascend(keys) {
         return Ok(NearRecords {
             answers: answers_to(alloc, look, keys, steps)?,
         });
@@ -203,7 +188,7 @@ pub fn gather_beside<'a, B: Look, L: Ledger>(
     ensures near { IfOk result (λ near. IsNear (B.cell look.now) keys.now near) }
     ensures steps { steps.new ≤ steps.old + length keys.now }
 {
-    if !ascend(keys) {
+    if !keys_ascend(keys) {
         return gather(alloc, look, keys, steps);
     }
     Ok(NearRecords {

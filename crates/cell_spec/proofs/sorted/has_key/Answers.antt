@@ -5,7 +5,7 @@ use Rattle.cell_spec.specs.declared.key.Key.{Key}
 use Rattle.cell_spec.specs.Names.{key_order}
 use Rattle.cell_spec.proofs.Orders.{total_keys}
 use Rattle.row_spec.proofs.Sought.{found}
-use Rattle.cell_bench.proofs.ready.has_key.Goals as goal
+use Rattle.cell_spec.proofs.sorted.has_key.Goals as goal
 
 pub returns : goal.returns
 returns c =
