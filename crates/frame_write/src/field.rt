@@ -1,10 +1,5 @@
 //! What is written, and why it was not.
 
-ghost use Rattle.std.specs.Prelude.{◌≡◌};
-ghost use Rattle.frame_write.specs.declared.field.WriteRefusal.TheVariants.{NoMemory};
-
-use std::alloc::AllocError;
-
 /// A field to write: its tag, and its bytes with their terminator.
 #[derive(Debug, Drop)]
 pub struct OutField {
@@ -28,12 +23,4 @@ pub enum WriteRefusal {
     TooLong,
     /// Out of memory.
     NoMemory,
-}
-
-impl From<AllocError> for WriteRefusal {
-    ghost from_gives = { λ _ e. e ≡ NoMemory };
-
-    fn from(_error: AllocError) -> WriteRefusal {
-        WriteRefusal::NoMemory
-    }
 }

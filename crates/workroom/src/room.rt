@@ -98,8 +98,12 @@ impl Workroom {
         if self.root.given() >= DESK_LIMIT {
             return Err(DeskRefusal::NoDesk);
         }
-        let bench = self.bench.copy(alloc)?;
-        let seat = self.gate.seat(alloc, &mut self.root)?;
+        let Ok(bench) = self.bench.copy(alloc) else {
+            return Err(DeskRefusal::NoMemory);
+        };
+        let Ok(seat) = self.gate.seat(alloc, &mut self.root) else {
+            return Err(DeskRefusal::NoMemory);
+        };
         Ok(Desk::open(seat, bench))
     }
 
