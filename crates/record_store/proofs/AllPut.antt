@@ -1,11 +1,12 @@
 -- Lists of ascending keys that are put at once.
-use Rattle.std.proofs.Common.{◌≡◌, ◌||◌, Bool, true, false, List, [], ◌∷◌, Less, Option, Some, cond, refl, ap, ◌∙◌}
+use Rattle.std.proofs.Common.{◌≡◌, ◌||◌, Bool, true, false, List, [], ◌∷◌, Less, Option, Ordering, Some, cond, refl, ap, ◌∙◌}
 use Rattle.std.specs.Prelude.{flat_map}
-use Rattle.std.specs.Cmp.{Equal-is, eq_by_cmp_equiv}
+use Rattle.std.specs.Cmp.{Equal-is, IsTotalOrder, eq_by_cmp_equiv}
 use Rattle.std.specs.List.{AllByRecursion, list_any}
 use Rattle.std.specs.List.Sorted.{IsStrictlySortedBy}
 use Rattle.std.specs.Map.{keys_of}
 use Rattle.std.specs.Ordering.{is_eq}
+use Rattle.std.proofs.lemmas.Map.Lookups.{CmpEqualImpliesEq}
 use Rattle.s57_types.specs.declared.name.RecName.{RecName}
 use Rattle.s57_types.specs.declared.name.Lnam.{Lnam}
 use Rattle.cell_spec.specs.declared.key.Key.{Key}
@@ -26,6 +27,15 @@ here : {W : Type 0} (tie : Bool) (own : List W) (rest : Option (List W)) → lis
 here true own rest = refl
 here false own rest = refl
 
+-- what is found of a name once the list of one more stands first
+with_first : {N W : Type 0} (order : N → N → Ordering) → IsTotalOrder order → CmpEqualImpliesEq order → (lists : N → List W) (first n : N) (any : Bool)
+    (rest : Option (List W)) → list_in rest ≡ cond any (lists n) []
+    → list_in (cond (is_eq (order first n)) (Some (lists first)) rest) ≡ cond (is_eq (order n first) || any) (lists n) []
+with_first order total exact lists first n any rest is =
+    here (is_eq (order first n)) (lists first) rest
+    ∙ found (is_eq (order first n)) any (lists first) (lists n) _ (λ tie. ap lists (exact first n ((Equal-is (order first n)).0 tie))) is
+    ∙ ap (λ b. cond (b || any) (lists n) []) ((eq_by_cmp_equiv total).symm first n)
+
 module _ (refs : RecName → List Ref) where
   refs_each : (n : RecName) (keys : List Key) → AllByRecursion (λ k. key_order (Refs n) k ≡ Less) keys
       → AllByRecursion (λ m. name_order n m ≡ Less) (keys_of (flat_map (refs_row refs) keys))
@@ -45,11 +55,7 @@ module _ (refs : RecName → List Ref) where
       → list_in (value_of name_order (flat_map (refs_row refs) keys) n) ≡ cond (list_any (same_key (Refs n)) keys) (refs n) []
   refs_put [] n = refl
   refs_put (Name m ∷ keys) n = refs_put keys n
-  refs_put (Refs m ∷ keys) n =
-      here (is_eq (name_order m n)) (refs m) (value_of name_order (flat_map (refs_row refs) keys) n)
-      ∙ found (is_eq (name_order m n)) (list_any (same_key (Refs n)) keys) (refs m) (refs n) _
-      (λ tie. ap refs (exact_names m n ((Equal-is (name_order m n)).0 tie))) (refs_put keys n)
-      ∙ ap (λ b. cond (b || list_any (same_key (Refs n)) keys) (refs n) []) ((eq_by_cmp_equiv total_names).symm m n)
+  refs_put (Refs m ∷ keys) n = with_first name_order total_names exact_names refs m n _ _ (refs_put keys n)
   refs_put (Foid l ∷ keys) n = refs_put keys n
 
 module _ (names : Lnam → List RecName) where
@@ -72,11 +78,7 @@ module _ (names : Lnam → List RecName) where
   names_put [] l = refl
   names_put (Name m ∷ keys) l = names_put keys l
   names_put (Refs m ∷ keys) l = names_put keys l
-  names_put (Foid m ∷ keys) l =
-      here (is_eq (identity_order m l)) (names m) (value_of identity_order (flat_map (names_row names) keys) l)
-      ∙ found (is_eq (identity_order m l)) (list_any (same_key (Foid l)) keys) (names m) (names l) _
-      (λ tie. ap names (exact_identities m l ((Equal-is (identity_order m l)).0 tie))) (names_put keys l)
-      ∙ ap (λ b. cond (b || list_any (same_key (Foid l)) keys) (names l) []) ((eq_by_cmp_equiv total_identities).symm m l)
+  names_put (Foid m ∷ keys) l = with_first identity_order total_identities exact_identities names m l _ _ (names_put keys l)
 
 -- the lists of the keys are put, and there were no others
 pub all_put : (keys : List Key) (refs : RecName → List Ref) (names : Lnam → List RecName) (now : List (RecName × List Ref)) (held : List (Lnam × List RecName))
