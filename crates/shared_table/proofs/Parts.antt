@@ -1,8 +1,9 @@
 -- Parts of a table one after another: where a key goes, and what a change of one part makes of all rows.
 use Rattle.std.proofs.Common.{◌≡◌, ℕ, zero, suc, ◌+◌, ◌-◌, ◌<◌, ◌≤◌, List, [], ◌∷◌, ◌++◌, length, get_or, set, insert, remove, take, drop, refl, sym, ap}
-use Rattle.std.proofs.Common.{subst, ◌∙◌, arith, Ordering, Less, Equal, Greater, is_gt, is_le, Bool, true, false, cond, All, append_assoc, take-append-drop}
+use Rattle.std.proofs.Common.{subst, ◌∙◌, arith, Ordering, Less, Equal, Greater, is_gt, is_lt, is_le, Bool, true, false, cond, All, append_assoc, take-append-drop}
 use Rattle.std.proofs.Common.{length-take, length-append}
 use Rattle.std.specs.Cmp.{IsTotalOrder}
+use Rattle.std.specs.Ordering.{ordering_reverse}
 use Rattle.std.specs.List.{HoldsAt}
 use Rattle.std.proofs.Common.{take_all, length-drop, add-one, Some, None, is_some, slice_get, true≢false}
 use Rattle.std.proofs.lemmas.List.{get_or-map, get_or-take, length-map, map-set, map-append, take-map, drop-map}
@@ -50,6 +51,15 @@ not_le : (answer : Ordering) → is_gt answer ≡ true → is_le answer ≡ fals
 not_le Less is = absurd (true≢false (sym is))
 not_le Equal is = absurd (true≢false (sym is))
 not_le Greater is = refl
+
+turned : (answer : Ordering) → is_gt (ordering_reverse answer) ≡ is_lt answer
+turned Less = refl
+turned Equal = refl
+turned Greater = refl
+
+-- a start is above a key where the key is below it
+above_key : {K : Type 0} (cmp : K → K → Ordering) → IsTotalOrder cmp → (start key : K) → is_gt (cmp start key) ≡ is_lt (cmp key start)
+above_key cmp total start key = ap is_gt (total.antisymm start key) ∙ turned (cmp key start)
 
 module _ {K V : Type 0} where
   -- a part begins with its key
@@ -113,8 +123,8 @@ module _ {K V : Type 0} where
 
     -- the part before the first behind the front one that starts above the key has the key or a place for it
     pub place_counted : (parts : List (K × List (K × V))) (i : ℕ) → AreParts cmp parts → i < length parts
-        → (0 < i → HoldsAt (λ part. is_gt (cmp part.0 key) ≡ false) parts i)
-        → (suc i < length parts → HoldsAt (λ part. is_gt (cmp part.0 key) ≡ true) parts (suc i)) → IsBlockFor cmp (blocks_of parts) key i
+        → (0 < i → HoldsAt (λ part. is_lt (cmp key part.0) ≡ false) parts i)
+        → (suc i < length parts → HoldsAt (λ part. is_lt (cmp key part.0) ≡ true) parts (suc i)) → IsBlockFor cmp (blocks_of parts) key i
     place_counted [] i are lt from to = absurd (omega arith)
     place_counted (part ∷ parts) i are lt from to =
         let in_blocks : i < length (blocks_of (part ∷ parts)) = omega (arith, lt, length-blocks (part ∷ parts)) in
@@ -123,15 +133,15 @@ module _ {K V : Type 0} where
           below = before i in_blocks from;
           above = above_block cmp total key (blocks_of (part ∷ parts)) (suc i) (some_row (part ∷ parts) are.begin) are.ascending (λ next.
               let in_parts : suc i < length (part ∷ parts) = omega (arith, next, length-blocks (part ∷ parts)) in
-              begins_in (part ∷ parts) (suc i) part false are in_parts (not_le _ (to in_parts part)));
+              begins_in (part ∷ parts) (suc i) part false are in_parts (not_le _ (above_key cmp total _ key ∙ to in_parts part)));
         }
       where
-        before : (k : ℕ) → k < length (blocks_of (part ∷ parts)) → (0 < k → HoldsAt (λ p. is_gt (cmp p.0 key) ≡ false) (part ∷ parts) k)
+        before : (k : ℕ) → k < length (blocks_of (part ∷ parts)) → (0 < k → HoldsAt (λ p. is_lt (cmp key p.0) ≡ false) (part ∷ parts) k)
             → EachKeyIs cmp Less key (joined (take k (blocks_of (part ∷ parts))))
         before zero in_blocks starts = tt
         before (suc k) in_blocks starts = below_block cmp total key (blocks_of (part ∷ parts)) (suc k) in_blocks are.ascending
             (begins_in (part ∷ parts) (suc k) part true are (omega (arith, in_blocks, length-blocks (part ∷ parts)))
-            (is_le_of _ (starts (omega arith) part)))
+            (is_le_of _ (above_key cmp total _ key ∙ starts (omega arith) part)))
 
   -- ---- a change of one part
 

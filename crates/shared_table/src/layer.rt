@@ -37,7 +37,7 @@ impl<K: Ord + Drop, V: Drop, P: Piece<K, V>> Layer<K, V, P> {
         ensures { IsBlockFor K.cmp (blocks_of self.now) key.now result }
     {
         for (place, entry) in self.entries[1..].iter().enumerate() {
-            if entry.key().cmp(key).is_gt() {
+            if key.cmp(entry.key()).is_lt() {
                 return place;
             }
         }

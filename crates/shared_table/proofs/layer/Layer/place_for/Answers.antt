@@ -1,4 +1,4 @@
-use Rattle.std.proofs.Common.{◌≡◌, ◌-◌, ap, ◌∙◌, subst, true, is_gt, length, length-drop, arith}
+use Rattle.std.proofs.Common.{◌≡◌, ◌-◌, ap, ◌∙◌, subst, true, is_lt, length, length-drop, arith}
 use Rattle.row_spec.specs.Blocks.{IsBlockFor}
 use Rattle.shared_table.specs.Pieces.{blocks_of}
 use Rattle.shared_table.proofs.Counted.{holds_there}
@@ -6,14 +6,14 @@ use Rattle.shared_table.proofs.Parts.{behind_first, place_counted, rest_from}
 use Rattle.shared_table.proofs.layer.Layer.place_for.Goals as goal
 
 -- the next piece starts above the key
-pub returns-then-is_gt : goal.returns-then-is_gt
-returns-then-is_gt g c =
+pub returns-then-is_lt : goal.returns-then-is_lt
+returns-then-is_lt g c =
     let next = behind_first c.self.inside.entries.items c.deref.result.now c.loop-place.place c.entry-item.result c.deref.ensures.value
     c.loop-place-test.true c.entry-item.is in
-    let above : is_gt (g.K.Ord.cmp c.entry-item.result.0 c.args.key.now) ≡ true = rw (← c.key.ensures, ← c.cmp.ensures, ← c.is_gt.ensures) c.if-is_gt.true in
+    let above : is_lt (g.K.Ord.cmp c.args.key.now c.entry-item.result.0) ≡ true = rw (← c.key.ensures, ← c.cmp.ensures, ← c.is_lt.ensures) c.if-is_lt.true in
     rw (← c.self.view_is) (place_counted g.K.Ord.cmp g.met.K.Ord.total c.args.key.now c.self.inside.entries.items c.loop-place.place
     c.self.invariant.0 (omega (arith, next.0)) c.loop-place.invariant
-    (λ lt. holds_there (λ part. is_gt (g.K.Ord.cmp part.0 c.args.key.now) ≡ true) c.self.inside.entries.items _ c.entry-item.result
+    (λ lt. holds_there (λ part. is_lt (g.K.Ord.cmp c.args.key.now part.0) ≡ true) c.self.inside.entries.items _ c.entry-item.result
     lt next.1 above))
 
 -- the last piece starts by the key
