@@ -1,6 +1,7 @@
 pub mod AnswersAlike
 pub mod Ascending
 pub mod Edits
+pub mod KeyTies
 pub mod Lookup
 pub mod Names
 pub mod Orders
