@@ -3,7 +3,6 @@
 ghost use Rattle.std.specs.Prelude.{◌≡◌, ◌↔◌, IsTrue};
 ghost use Rattle.std.specs.List.{list_any};
 ghost use Rattle.std.specs.List.Sorted.{IsStrictlySortedBy};
-ghost use Rattle.std.specs.Ordering.{is_lt};
 ghost use Rattle.std.specs.declared.cmp.Ordering.TheVariants.{Equal};
 ghost use Rattle.cell_spec.specs.Ascending.{ascending};
 ghost use Rattle.cell_spec.specs.Names.{key_order, name_order, same_key};
@@ -12,11 +11,21 @@ use crate::key::{Key, Keys, Names};
 use crate::law::orders_are_by_parts;
 use s57_types::{Items, RecName};
 
-/// The items in ascending order, each once. It takes no memory.
+/// Whether items ascend, each once.
+fn ascends<T: Ord + Copy>(items: &[T]) -> bool
+    ensures { IsTrue result ↔ IsStrictlySortedBy T.cmp items.now }
+{
+    items.is_sorted_by(|item, next| item.cmp(next).is_lt())
+}
+
+/// The items in ascending order, each once. Most lists ascend as they are given, which takes less to see than to sort them. It takes no memory.
 pub fn distinct<T: Ord + Copy>(mut items: Vec<T>) -> Vec<T>
     requires exact { (a b : T) → T.cmp a b ≡ Equal → a ≡ b }
     ensures { result.items ≡ ascending T.cmp items.items }
 {
+    if ascends(&items) {
+        return items;
+    }
     items.sort_unstable();
     items.dedup();
     items
@@ -39,18 +48,11 @@ pub fn ascending_names(names: Vec<RecName>) -> Names
     Items::of_vec(distinct(names))
 }
 
-fn is_below(key: Key, other: Key) -> bool
-    ensures { result ≡ is_lt (key_order key other) }
-{
-    orders_are_by_parts();
-    key.cmp(&other).is_lt()
-}
-
 /// Whether keys ascend, each once, as those of a read set do.
 pub fn keys_ascend(keys: &[Key]) -> bool
     ensures { IsTrue result ↔ IsStrictlySortedBy key_order keys.now }
 {
-    keys.is_sorted_by(|key, next| is_below(*key, *next))
+    ascends(keys)
 }
 
 /// Whether a key stands among keys in order.

@@ -1,7 +1,14 @@
-use Rattle.std.proofs.Common.{◌∙◌}
+use Rattle.std.proofs.Common.{sym, subst, ◌∙◌}
+use Rattle.std.specs.List.Sorted.{IsStrictlySortedBy}
 use Rattle.std.proofs.lemmas.List.Filters.{dedup_is}
+use Rattle.cell_spec.proofs.Ascending.{already_ascending}
 use Rattle.cell_spec.proofs.Deduplicated.{dedup-ascending}
 use Rattle.cell_spec.proofs.sorted.distinct.Goals as goal
+
+pub returns-then-ascends : goal.returns-then-ascends
+returns-then-ascends g c =
+    sym (already_ascending g.T.Ord.cmp g.met.T.Ord.total c.requires.exact c.args.items.items
+    (subst (IsStrictlySortedBy g.T.Ord.cmp) c.deref.ensures.value (c.ascends.ensures.0 c.if-ascends.true)))
 
 pub returns : goal.returns
 returns g c =
