@@ -200,8 +200,7 @@ fn find_answer<'a, 'b>(answers: &'b [Answer<'a>], key: Key) -> Option<&'b Answer
     ensures { (c : SpecCell) (keys : List SpecKey) → map answer_held answers.now ≡ map (spec_answer c) (ascending key_order keys)
         → has_key keys key ≡ true → option_map answer_held (option_copied result) ≡ Some (spec_answer c key) }
 {
-    orders_are_by_parts();
-    match answers.binary_search_by_key(&key, |answer| answer.key) {
+    match answers.binary_search_by(|answer| answer.key.cmp(&key)) {
         Ok(k) => Some(&answers[k]),
         Err(_) => None,
     }
