@@ -1,17 +1,12 @@
 //! The bench of a whole cell.
 
 ghost use Rattle.std.specs.Prelude.{◌≡◌, ◌≤◌, ◌||◌, All, IfOk, IsTrue, MatchResult, map};
-ghost use Rattle.cell_spec.specs.Writable.{IsWritable};
+ghost use Rattle.cell_spec.specs.{Writable.{IsWritable}, Ascending.{ascending}, Names.{subject_order}};
 ghost use Rattle.history_spec.specs.Steps.{finding_limit};
 ghost use Rattle.finding_laws.specs.Tables.{IsReadsOf, IsVerdictTable};
 ghost use Rattle.cell_findings.specs.AllFindings.{IsAllOf};
-ghost use Rattle.cell_bench.specs.Benches.{IsLoadRefusal, IsLoaded};
-ghost use Rattle.rule_spec.specs.Affected.{is_single};
-ghost use Rattle.rule_spec.specs.Findings.{is_subject};
-ghost use Rattle.cell_bench.specs.Singles.{reads_row, singles_in};
-ghost use Rattle.cell_spec.specs.Ascending.{ascending};
-ghost use Rattle.cell_spec.specs.Names.{subject_order};
-ghost use Rattle.cell_bench.specs.Verdicts.{total_of};
+ghost use Rattle.cell_bench.specs.{Benches.{IsLoadRefusal, IsLoaded}, Singles.{reads_row, singles_in}, Verdicts.{total_of}};
+ghost use Rattle.rule_spec.specs.{Affected.{is_single}, Findings.{is_subject}};
 
 use crate::bench::Bench;
 use crate::indexed::IndexedCell;

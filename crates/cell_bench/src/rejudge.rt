@@ -2,16 +2,13 @@
 
 ghost use Rattle.std.specs.Prelude.{◌≡◌, ◌+◌, ◌*◌, ◌≤◌, All, IfErr, IsTrue, MatchResult, OnOk, length, map, sum_by};
 ghost use Rattle.cell_spec.specs.Edits.{apply_edits, touched_keys};
-ghost use Rattle.rule_spec.specs.Affected.{affected_list, change_by, exact_row};
-ghost use Rattle.rule_spec.specs.Findings.{findings_of_subject, is_subject};
+ghost use Rattle.rule_spec.specs.{Affected.{affected_list, change_by, exact_row}, Findings.{findings_of_subject, is_subject}};
 ghost use Rattle.history_spec.specs.Steps.{finding_limit};
 ghost use Rattle.affected_subjects.specs.Reached.{gone_list};
 ghost use Rattle.answer_laws.specs.EditedAnswers.{FindTheirRecords};
 ghost use Rattle.finding_laws.specs.Tables.{IsVerdictTable};
-ghost use Rattle.cell_bench.specs.Limits.{IsFull};
-ghost use Rattle.cell_bench.specs.Ready.{AreExact};
-ghost use Rattle.cell_bench.specs.Rejudging.{IsRejudgedBy, fresh_among, fresh_in, judged_in, reads_anew, with_row_of, with_rows};
-ghost use Rattle.cell_bench.specs.Verdicts.{total_of};
+ghost use Rattle.cell_bench.specs.{Limits.{IsFull}, Ready.{AreExact}};
+ghost use Rattle.cell_bench.specs.{Rejudging.{IsRejudgedBy, fresh_among, fresh_in, judged_in, reads_anew, with_row_of, with_rows}, Verdicts.{total_of}};
 
 use crate::ready::ReadyRows;
 use crate::refusal::PlanRefusal;

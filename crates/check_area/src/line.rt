@@ -3,15 +3,11 @@
 ghost use Rattle.std.specs.Prelude.{◌≡◌, IfOk, List, option_map, true};
 ghost use Rattle.std.specs.List.{All};
 ghost use Rattle.std.specs.Option.{option_copied};
-ghost use Rattle.s57_types.specs.declared.cell.Cell.{Cell as SpecCell};
-ghost use Rattle.s57_types.specs.declared.record.End.{End as SpecEnd};
-ghost use Rattle.cell_spec.specs.declared.key.Key.{Key as SpecKey};
-ghost use Rattle.cell_spec.specs.declared.key.Key.TheVariants.{Name as KeyName};
+ghost use Rattle.s57_types.specs.{declared.cell.Cell.{Cell as SpecCell}, declared.record.End.{End as SpecEnd}};
+ghost use Rattle.cell_spec.specs.{declared.key.Key.{Key as SpecKey}, declared.key.Key.TheVariants.{Name as KeyName}};
 ghost use Rattle.near_records.specs.Near.{has_key};
-ghost use Rattle.rule_spec.specs.EdgePoints.{line_of};
-ghost use Rattle.rule_spec.specs.Records.{edge_named as spec_edge};
-ghost use Rattle.check_area.specs.Lines.{AsksForLine, sweep_named as spec_sweep_named};
-ghost use Rattle.check_area.specs.Sweeps.{sweep_between as spec_sweep_between, sweep_of};
+ghost use Rattle.rule_spec.specs.{EdgePoints.{line_of}, Records.{edge_named as spec_edge}};
+ghost use Rattle.check_area.specs.{Lines.{AsksForLine, sweep_named as spec_sweep_named}, Sweeps.{sweep_between as spec_sweep_between, sweep_of}};
 
 use crate::sweep::{LineSweep, way_along, way_to};
 use chain_topo::edge_of;

@@ -2,14 +2,10 @@
 
 ghost use Rattle.std.specs.Prelude.{◌≡◌, ◌+◌, ◌*◌, ◌≤◌, IfOk, List, is_some, length, true};
 ghost use Rattle.s57_types.specs.declared.cell.Cell.{Cell as SpecCell};
-ghost use Rattle.cell_spec.specs.declared.key.Key.{Key as SpecKey};
-ghost use Rattle.cell_spec.specs.declared.key.Key.TheVariants.{Name as KeyName};
-ghost use Rattle.cell_spec.specs.declared.key.Subject.TheVariants.{Side as SubjectSide};
-ghost use Rattle.cell_spec.specs.Lookup.{lookup_pointers};
+ghost use Rattle.cell_spec.specs.{declared.key.Key.{Key as SpecKey}, declared.key.Key.TheVariants.{Name as KeyName}};
+ghost use Rattle.cell_spec.specs.{declared.key.Subject.TheVariants.{Side as SubjectSide}, Lookup.{lookup_pointers}};
 ghost use Rattle.near_records.specs.Near.{has_key};
-ghost use Rattle.rule_spec.specs.Findings.{findings_of_subject};
-ghost use Rattle.rule_spec.specs.Reads.{read_set};
-ghost use Rattle.rule_spec.specs.Records.{edge_named};
+ghost use Rattle.rule_spec.specs.{Findings.{findings_of_subject}, Reads.{read_set}, Records.{edge_named}};
 
 use crate::finding::side_findings;
 use crate::uses::uses_of;

@@ -3,11 +3,8 @@
 ghost use Rattle.std.specs.Prelude.{◌≡◌, ◌-◌, ◌++◌, IfOk, List, OnOk, filter_map, find, option_and_then, option_map, option_to_list, slice_get, true};
 ghost use Rattle.std.specs.List.{All};
 ghost use Rattle.std.specs.Option.{option_copied};
-ghost use Rattle.s57_types.specs.declared.cell.Cell.{Cell as SpecCell};
-ghost use Rattle.s57_types.specs.declared.record.Feature.{Feature as SpecFeature};
-ghost use Rattle.cell_spec.specs.declared.key.Key.{Key as SpecKey};
-ghost use Rattle.cell_spec.specs.declared.key.Key.TheVariants.{Name as KeyName};
-ghost use Rattle.cell_spec.specs.declared.key.Ref.{Ref as SpecRef};
+ghost use Rattle.s57_types.specs.{declared.cell.Cell.{Cell as SpecCell}, declared.record.Feature.{Feature as SpecFeature}};
+ghost use Rattle.cell_spec.specs.{declared.key.Key.{Key as SpecKey}, declared.key.Key.TheVariants.{Name as KeyName}, declared.key.Ref.{Ref as SpecRef}};
 ghost use Rattle.near_records.specs.Near.{has_key};
 ghost use Rattle.rule_spec.specs.Records.{feature_named as spec_feature};
 ghost use Rattle.rule_spec.specs.Sides.{is_truncated, side_count, side_counts as counts_of, use_by as spec_use_by, use_of_row as use_at_row};

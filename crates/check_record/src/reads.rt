@@ -1,13 +1,8 @@
 //! The read set of a record.
 
 ghost use Rattle.std.specs.Prelude.{◌≡◌, ◌==◌, ◌++◌, [], IfOk, OnOk, Some, flat_map, if◌then◌else◌};
-ghost use Rattle.s57_types.specs.declared.cell.Cell.{Cell as SpecCell};
-ghost use Rattle.s57_types.specs.declared.name.RecName.{RecName as SpecName};
-ghost use Rattle.s57_types.specs.declared.record.Rec.TheVariants.{F, V};
-ghost use Rattle.cell_spec.specs.declared.key.Subject.TheVariants.{Rec as SubjectRec};
-ghost use Rattle.cell_spec.specs.Ascending.{ascending};
-ghost use Rattle.cell_spec.specs.Lookup.{lookup_record};
-ghost use Rattle.cell_spec.specs.Names.{key_order};
+ghost use Rattle.s57_types.specs.{declared.cell.Cell.{Cell as SpecCell}, declared.name.RecName.{RecName as SpecName}, declared.record.Rec.TheVariants.{F, V}};
+ghost use Rattle.cell_spec.specs.{declared.key.Subject.TheVariants.{Rec as SubjectRec}, Ascending.{ascending}, Lookup.{lookup_record}, Names.{key_order}};
 ghost use Rattle.rule_spec.specs.Reads.{read_set};
 ghost use Rattle.near_records.specs.Near.{IsNear};
 ghost use Rattle.check_record.specs.EndKeys.{ends_of_answer, named_by, partner_keys};

@@ -2,18 +2,12 @@
 
 ghost use Rattle.std.specs.Prelude.{◌≡◌, IfOk, List, Some, false, true};
 ghost use Rattle.std.specs.List.{All};
-ghost use Rattle.s57_types.specs.declared.cell.Cell.{Cell as SpecCell};
-ghost use Rattle.s57_types.specs.declared.name.RecName.{RecName as SpecName};
-ghost use Rattle.s57_types.specs.declared.record.End.{End as SpecEnd};
+ghost use Rattle.s57_types.specs.{declared.cell.Cell.{Cell as SpecCell}, declared.name.RecName.{RecName as SpecName}, declared.record.End.{End as SpecEnd}};
 ghost use Rattle.s57_types.specs.declared.record.Rec.TheVariants.{V};
-ghost use Rattle.cell_spec.specs.declared.key.Key.{Key as SpecKey};
-ghost use Rattle.cell_spec.specs.declared.key.Key.TheVariants.{Name as KeyName};
-ghost use Rattle.cell_spec.specs.declared.key.Subject.TheVariants.{Rec as SubjectRec};
-ghost use Rattle.cell_spec.specs.Lookup.{lookup_record};
+ghost use Rattle.cell_spec.specs.{declared.key.Key.{Key as SpecKey}, declared.key.Key.TheVariants.{Name as KeyName}};
+ghost use Rattle.cell_spec.specs.{declared.key.Subject.TheVariants.{Rec as SubjectRec}, Lookup.{lookup_record}};
 ghost use Rattle.near_records.specs.Near.{has_key};
-ghost use Rattle.rule_spec.specs.Findings.{findings_of_record};
-ghost use Rattle.rule_spec.specs.Reads.{read_set};
-ghost use Rattle.rule_spec.specs.Records.{is_edge_name, is_node_name};
+ghost use Rattle.rule_spec.specs.{Findings.{findings_of_record}, Reads.{read_set}, Records.{is_edge_name, is_node_name}};
 
 use crate::ends::push_end_count;
 use crate::line::{line_of, push_line_findings};

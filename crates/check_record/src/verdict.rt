@@ -1,14 +1,9 @@
 //! The check of a record.
 
 ghost use Rattle.std.specs.Prelude.{◌≡◌, ◌+◌, ◌*◌, ◌≤◌, IfOk, None, Some, length, true};
-ghost use Rattle.s57_types.specs.declared.cell.Cell.{Cell as SpecCell};
-ghost use Rattle.s57_types.specs.declared.head.Head.{Head as SpecHead};
-ghost use Rattle.s57_types.specs.declared.record.Rec.TheVariants.{F, H, V};
-ghost use Rattle.cell_spec.specs.declared.key.Subject.TheVariants.{Rec as SubjectRec};
-ghost use Rattle.cell_spec.specs.Lookup.{lookup_record};
-ghost use Rattle.rule_spec.specs.Findings.{findings_of_subject};
-ghost use Rattle.rule_spec.specs.Reads.{read_set};
-ghost use Rattle.rule_spec.specs.Records.{is_edge_name};
+ghost use Rattle.s57_types.specs.{declared.cell.Cell.{Cell as SpecCell}, declared.head.Head.{Head as SpecHead}, declared.record.Rec.TheVariants.{F, H, V}};
+ghost use Rattle.cell_spec.specs.{declared.key.Subject.TheVariants.{Rec as SubjectRec}, Lookup.{lookup_record}};
+ghost use Rattle.rule_spec.specs.{Findings.{findings_of_subject}, Reads.{read_set}, Records.{is_edge_name}};
 ghost use Rattle.near_records.specs.Near.{IsNear};
 ghost use Rattle.check_record.specs.RecordRow.{IsRecordRow};
 

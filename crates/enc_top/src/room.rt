@@ -1,11 +1,8 @@
 //! Sessions in threads, as one call.
 
 ghost use Rattle.std.specs.Prelude.{◌≡◌, ◌≤◌, true, All, IfErr, IfOk, length, map, string_bytes};
-ghost use Rattle.enc_top.specs.Inputs.{IsRunInRoom};
-ghost use Rattle.enc_top.specs.Words.{begins_with_room, form_of, room_form};
-ghost use Rattle.enc_top.specs.Outcome.{IsAskedBy};
-ghost use Rattle.call_files.specs.Inputs.{IsCellOfFile, TellsReads};
-ghost use Rattle.call_files.specs.Task.{task_of};
+ghost use Rattle.enc_top.specs.{Inputs.{IsRunInRoom}, Words.{begins_with_room, form_of, room_form}, Outcome.{IsAskedBy}};
+ghost use Rattle.call_files.specs.{Inputs.{IsCellOfFile, TellsReads}, Task.{task_of}};
 ghost use Rattle.sessions.specs.Replays.{IsShortScript, session_limit};
 ghost use Rattle.export_laws.specs.ExportedCells.{IsScriptOfText};
 ghost use Rattle.room_run.specs.Rooms.{IsRunEnd};

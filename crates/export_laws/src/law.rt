@@ -1,8 +1,6 @@
 //! Each law is the contract of a function that does nothing.
 
-ghost use Rattle.export_laws.specs.DecodedTypes.{DecodedHasItsTypes};
-ghost use Rattle.export_laws.specs.ExportedCells.{ExportsAreReadBack};
-ghost use Rattle.export_laws.specs.ScriptTypes.{ScriptHasItsTypes};
+ghost use Rattle.export_laws.specs.{DecodedTypes.{DecodedHasItsTypes}, ExportedCells.{ExportsAreReadBack}, ScriptTypes.{ScriptHasItsTypes}};
 
 use decode_laws::decoded_cell_is_writable;
 use edit_laws::runs_are_read_back;

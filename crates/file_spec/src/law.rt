@@ -2,10 +2,7 @@
 
 ghost use Rattle.std.specs.Prelude.{◌≡◌, Ok};
 ghost use Rattle.cell_spec.specs.Writable.{IsWritable};
-ghost use Rattle.file_spec.specs.DecodedCell.{decoded_cell};
-ghost use Rattle.file_spec.specs.EncodedCell.{encoded_cell};
-ghost use Rattle.file_spec.specs.ReadBack.{CellIsReadBack};
-ghost use Rattle.file_spec.specs.RoundTrip.{RoundTrip};
+ghost use Rattle.file_spec.specs.{DecodedCell.{decoded_cell}, EncodedCell.{encoded_cell}, ReadBack.{CellIsReadBack}, RoundTrip.{RoundTrip}};
 ghost use Rattle.file_spec.specs.WrittenFile.{CellRecordsAreFound, WrittenRecordsAreFound};
 
 use crate::types::cell_has_its_types;

@@ -1,18 +1,15 @@
 //! A journal opened, a script run over it, and its text.
 
 ghost use Rattle.std.specs.Prelude.{◌≡◌, ◌≤◌, ◌<◌, ◌^◌, ◌↔◌, IfErr, IfOk, IfSome, IsSome, OnOk, false, length};
-ghost use Rattle.book_journal.specs.Keeping.{IsStanding, commit_limit};
-ghost use Rattle.book_journal.specs.Standing.{IsStill};
+ghost use Rattle.book_journal.specs.{Keeping.{IsStanding, commit_limit}, Standing.{IsStill}};
 ghost use Rattle.cell_spec.specs.Writable.{IsWritable};
 ghost use Rattle.commit_book.specs.Books.{history_of};
 ghost use Rattle.crash_disk.specs.Disk.{LeavesOnly};
 ghost use Rattle.call_files.specs.Inputs.{IsScriptWithin};
 ghost use Rattle.history_spec.specs.Steps.{finding_limit};
 ghost use Rattle.rule_spec.specs.Findings.{finding_total};
-ghost use Rattle.keep_run.specs.Causes.{TellsDisk};
-ghost use Rattle.keep_run.specs.Keeps.{IsKeepEnd, IsKept, IsKeptImage, IsKeptOn, IsOpenEnd, status_of as status_of_lem, stop_status};
-ghost use Rattle.keep_run.specs.Runs.{IsKeptTo};
-ghost use Rattle.keep_run.specs.Stops.{IsStop, IsStopOf};
+ghost use Rattle.keep_run.specs.{Causes.{TellsDisk}, Keeps.{IsKeepEnd, IsKept, IsKeptImage, IsKeptOn, IsOpenEnd, status_of as status_of_lem, stop_status}};
+ghost use Rattle.keep_run.specs.{Runs.{IsKeptTo}, Stops.{IsStop, IsStopOf}};
 
 use crate::report::{Kept, report};
 use crate::serve::serve;

@@ -3,9 +3,7 @@
 ghost use Rattle.std.specs.Prelude.{◌≡◌, ◌+◌, ◌≤◌, IfOk, List, Some, length, map, option_map, true};
 ghost use Rattle.std.specs.Option.{option_copied};
 ghost use Rattle.s57_types.specs.declared.cell.Cell.{Cell as SpecCell};
-ghost use Rattle.cell_spec.specs.declared.key.Key.{Key as SpecKey};
-ghost use Rattle.cell_spec.specs.Ascending.{ascending};
-ghost use Rattle.cell_spec.specs.Names.{key_order};
+ghost use Rattle.cell_spec.specs.{declared.key.Key.{Key as SpecKey}, Ascending.{ascending}, Names.{key_order}};
 ghost use Rattle.near_records.specs.Near.{AreAnswers, IsNear, answer_held, answer_to as spec_answer, has_key};
 
 use crate::told::Near;

@@ -1,7 +1,6 @@
 //! Each law is the contract of a function that does nothing.
 
-ghost use Rattle.read_laws.specs.FindingsAscend.{FindingsAscend};
-ghost use Rattle.read_laws.specs.FindingsFollowReads.{FindingsFollowReads};
+ghost use Rattle.read_laws.specs.{FindingsAscend.{FindingsAscend}, FindingsFollowReads.{FindingsFollowReads}};
 
 /// The findings of a subject ascend by the number of their kind, then by their numbers, and none stands twice. So the order of a
 /// cell's findings is that of their subjects, and within a subject this one.

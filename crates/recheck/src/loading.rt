@@ -1,13 +1,9 @@
 //! The bench of a whole cell, of which several threads judge all.
 
 ghost use Rattle.std.specs.Prelude.{◌≡◌, ◌||◌, ◌<◌, All, IfOk, IsTrue, MatchResult, map};
-ghost use Rattle.cell_bench.specs.Benches.{IsLoadRefusal, IsLoaded};
-ghost use Rattle.cell_bench.specs.Singles.{reads_row as spec_reads_row, singles_in};
-ghost use Rattle.cell_spec.specs.Ascending.{ascending};
-ghost use Rattle.cell_spec.specs.Names.{subject_order};
-ghost use Rattle.cell_spec.specs.Writable.{IsWritable};
-ghost use Rattle.rule_spec.specs.Affected.{is_single};
-ghost use Rattle.rule_spec.specs.Findings.{is_subject};
+ghost use Rattle.cell_bench.specs.{Benches.{IsLoadRefusal, IsLoaded}, Singles.{reads_row as spec_reads_row, singles_in}};
+ghost use Rattle.cell_spec.specs.{Ascending.{ascending}, Names.{subject_order}, Writable.{IsWritable}};
+ghost use Rattle.rule_spec.specs.{Affected.{is_single}, Findings.{is_subject}};
 
 use crate::judging::FEWEST;
 use cell_bench::{Bench, FINDING_LIMIT, LoadRefusal, reads_row, singles_of};

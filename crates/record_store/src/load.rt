@@ -3,11 +3,7 @@
 ghost use Rattle.std.specs.Prelude.{◌≡◌, IfOk, flat_map, map};
 ghost use Rattle.std.specs.Borrow.{Bor};
 ghost use Rattle.s57_types.specs.declared.record.Rec.{Rec as SpecRec};
-ghost use Rattle.cell_spec.specs.Ascending.{ascending};
-ghost use Rattle.cell_spec.specs.Edits.{keys_answered_by};
-ghost use Rattle.cell_spec.specs.Names.{key_order};
-ghost use Rattle.cell_spec.specs.Readable.{IsReadable};
-ghost use Rattle.cell_spec.specs.Writable.{IsWritable};
+ghost use Rattle.cell_spec.specs.{Ascending.{ascending}, Edits.{keys_answered_by}, Names.{key_order}, Readable.{IsReadable}, Writable.{IsWritable}};
 ghost use Rattle.record_store.specs.Stores.{AreAnswersOf};
 
 use crate::answers::Answers;

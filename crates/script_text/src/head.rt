@@ -1,15 +1,9 @@
 //! The words of a head's new values.
 
 ghost use Rattle.std.specs.Prelude.{◌≡◌, ◌++◌, ◌∷◌, ℕ, List, codes, decimal, false, length, IfOk};
-ghost use Rattle.s57_types.specs.Heads.{level_number};
-ghost use Rattle.s57_types.specs.Subfield.{holds};
-ghost use Rattle.s57_types.specs.declared.head.HeadEdit.{HeadEdit};
-ghost use Rattle.s57_types.specs.declared.head.Level.{Level};
-ghost use Rattle.text_spec.specs.EditLine.{head_words, text_word};
-ghost use Rattle.text_spec.specs.Lines.{spaced_words};
-ghost use Rattle.text_spec.specs.ScriptLines.{IsHeadEditOfWidth};
-ghost use Rattle.script_text.specs.Cuts.{IsFrom};
-ghost use Rattle.script_text.specs.Widths.{IsTextOfWidth};
+ghost use Rattle.s57_types.specs.{Heads.{level_number}, Subfield.{holds}, declared.head.HeadEdit.{HeadEdit}, declared.head.Level.{Level}};
+ghost use Rattle.text_spec.specs.{EditLine.{head_words, text_word}, Lines.{spaced_words}, ScriptLines.{IsHeadEditOfWidth}};
+ghost use Rattle.script_text.specs.{Cuts.{IsFrom}, Widths.{IsTextOfWidth}};
 
 use crate::cut::next_part;
 use crate::text::text_of;

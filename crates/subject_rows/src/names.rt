@@ -3,13 +3,9 @@
 ghost use Rattle.std.specs.Prelude.{◌≡◌, ◌||◌, All, IfOk, IfSome, IsTrue, OnOk, true};
 ghost use Rattle.std.specs.List.{flat_map};
 ghost use Rattle.std.specs.Ordering.{is_eq};
-ghost use Rattle.s57_types.specs.declared.cell.Cell.{Cell as SpecCell};
-ghost use Rattle.s57_types.specs.declared.name.RecName.{RecName as SpecRecName};
-ghost use Rattle.cell_spec.specs.Ascending.{ascending};
-ghost use Rattle.cell_spec.specs.Names.{name_order};
-ghost use Rattle.cell_spec.specs.declared.key.Subject.{Subject as SpecSubject};
-ghost use Rattle.rule_spec.specs.Findings.{is_subject};
-ghost use Rattle.rule_spec.specs.Records.{is_chain_part};
+ghost use Rattle.s57_types.specs.{declared.cell.Cell.{Cell as SpecCell}, declared.name.RecName.{RecName as SpecRecName}};
+ghost use Rattle.cell_spec.specs.{Ascending.{ascending}, Names.{name_order}, declared.key.Subject.{Subject as SpecSubject}};
+ghost use Rattle.rule_spec.specs.{Findings.{is_subject}, Records.{is_chain_part}};
 ghost use Rattle.subject_rows.specs.Names.{AreThere, is_among, names_of_pair};
 
 use cell_spec::{Names, Subject, ascending_names};

@@ -7,8 +7,7 @@ ghost use Rattle.field_spec.specs.declared.fault.FieldFault.{FieldFault};
 ghost use Rattle.file_spec.specs.RecordReading.{required, rows_of};
 ghost use Rattle.s57_fields.specs.Gives.{Gives};
 ghost use Rattle.update_spec.specs.UpdateFaults.{of_record};
-ghost use Rattle.update_apply.specs.Gives.{GivesUpdate};
-ghost use Rattle.update_apply.specs.Kept.{row_limit};
+ghost use Rattle.update_apply.specs.{Gives.{GivesUpdate}, Kept.{row_limit}};
 
 use crate::refusal::StepRefusal;
 use crate::tags::first_field;

@@ -2,16 +2,12 @@
 
 ghost use Rattle.std.specs.Prelude.{◌≡◌, ◌≤◌, ◌++◌, [], List, All, Contains, IfOk, IfErr, IfSome, length};
 ghost use mathlib.Core.List.{IsPrefix};
-ghost use Rattle.history_spec.specs.declared.entry.Entry.{Entry as SpecEntry};
-ghost use Rattle.history_spec.specs.Entries.{AreTold, base_told, brief_of, replayed};
-ghost use Rattle.history_spec.specs.EntriesReport.{cell_told};
+ghost use Rattle.history_spec.specs.{declared.entry.Entry.{Entry as SpecEntry}, Entries.{AreTold, base_told, brief_of, replayed}, EntriesReport.{cell_told}};
 ghost use Rattle.cell_bench.specs.Benches.{IsPlanned};
 ghost use Rattle.recheck.specs.Preparing.{prepared_rows};
-ghost use Rattle.rule_spec.specs.Affected.{RowsAreExact};
-ghost use Rattle.rule_spec.specs.Findings.{all_findings};
+ghost use Rattle.rule_spec.specs.{Affected.{RowsAreExact}, Findings.{all_findings}};
 ghost use Rattle.turn_gate.specs.Histories.{IsExact, numbers_of};
-ghost use Rattle.workroom.specs.Desks.{IsRoomRefusal, IsSameDesk, IsTurned, desk_of_handle, merged_desk};
-ghost use Rattle.workroom.specs.Turns.{CanAsk, asked_of, desk_of};
+ghost use Rattle.workroom.specs.{Desks.{IsRoomRefusal, IsSameDesk, IsTurned, desk_of_handle, merged_desk}, Turns.{CanAsk, asked_of, desk_of}};
 
 use crate::refusal::RoomRefusal;
 use crate::turn::{Ask, base_after, take_turn};

@@ -2,8 +2,7 @@
 
 ghost use Rattle.std.specs.Prelude.{◌≡◌, ◌+◌, ◌*◌, ◌<◌, ◌≤◌, ◌||◌, All, IfOk, IsTrue, length, map, true};
 ghost use Rattle.cell_spec.specs.Edits.{apply_edits, is_applicable, touched_keys};
-ghost use Rattle.rule_spec.specs.Affected.{exact_row, is_single, plan_budget};
-ghost use Rattle.rule_spec.specs.Findings.{is_subject};
+ghost use Rattle.rule_spec.specs.{Affected.{exact_row, is_single, plan_budget}, Findings.{is_subject}};
 ghost use Rattle.cell_bench.specs.Benches.{AreReady};
 ghost use Rattle.bench_tests.specs.ReadyRows.{AreRowsAfter};
 
