@@ -58,7 +58,8 @@ module _ (c : Cell) (f : Feature) (found : List Finding) (is : found ≡ pointer
   all_clean : ((f.prim == 3) && (length found == 0)) ≡ true → (is_clean (prim_refs c f) && is_clean (dangling_ref c f) && is_clean (bad_codes c f)) ≡ true
   all_clean h = sym clean ∙ (and_parts (f.prim == 3) (length found == 0) h).1
 
-  clean_parts : ((f.prim == 3) && (length found == 0)) ≡ true → ((is_clean (prim_refs c f) && is_clean (dangling_ref c f)) ≡ true) × (is_clean (bad_codes c f) ≡ true)
+  clean_parts : ((f.prim == 3) && (length found == 0)) ≡ true
+      → ((is_clean (prim_refs c f) && is_clean (dangling_ref c f)) ≡ true) × (is_clean (bad_codes c f) ≡ true)
   clean_parts h = and_parts (is_clean (prim_refs c f) && is_clean (dangling_ref c f)) (is_clean (bad_codes c f)) (all_clean h)
 
   pub judged_refs : ((f.prim == 3) && (length found == 0)) ≡ true → prim_refs c f ≡ []

@@ -22,7 +22,8 @@ some_is : (names : List RecName) → nat_lt 0 (length names) ≡ has_some names
 some_is [] = refl
 some_is (n ∷ names) = grind (arith, nat_tests)
 
-kept_by : (passes : Bool) (n : RecName) (names : List RecName) (rest : Bool) → has_some names ≡ rest → has_some (cond passes (n ∷ names) names) ≡ (passes || rest)
+kept_by : (passes : Bool) (n : RecName) (names : List RecName) (rest : Bool) → has_some names ≡ rest
+    → has_some (cond passes (n ∷ names) names) ≡ (passes || rest)
 kept_by true n names rest is = refl
 kept_by false n names rest is = is
 

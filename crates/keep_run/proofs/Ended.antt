@@ -45,7 +45,8 @@ module _ (words : List (List ℕ)) (content now : Option (List ℕ)) (faults fau
   -- work that was done as far as the devices let it
   pub work_end : (files files_mid files_now : Option Files) (reads reads_mid reads_now writes writes_mid writes_now : ℕ)
       (written written_now : Option (List ℕ)) (puts puts_now : ℕ) (work : Work) (status : Status) → files_mid ≡ files → writes_mid ≡ writes
-      → reads_now ≡ reads_mid → IsAskedIn (form_of words) files reads reads_mid content now faults faults_now images (Ok work) → reads_mid ≡ reads → faults_now ≡ faults
+      → reads_now ≡ reads_mid → IsAskedIn (form_of words) files reads reads_mid content now faults faults_now images (Ok work) → reads_mid ≡ reads
+      → faults_now ≡ faults
       → IsDoneWork (task_of work) (outside files_mid reads_mid writes_mid written puts) (outside files_now reads_now writes_now written_now puts_now)
       status
       → IsEnd words (outside files reads writes written puts) (outside files_now reads_now writes_now written_now puts_now) content now faults

@@ -177,7 +177,8 @@ told_by : (told : Covering → Bool) (row : RecName × Covering) (rows : CoverRo
     → option_map_or told (cond tie (Some row.1) (value_of name_order rows n)) false
     ≡ ((tie && told row.1) || list_any (λ (r : RecName × Covering). is_eq (name_order r.0 n) && told r.1) rows)
 told_by told row rows n true is above rest =
-    sym (or_false (told row.1)) ∙ ap (λ b. told row.1 || b) (sym (none_tied told row.0 n rows (exact_names row.0 n ((Equal-is (name_order row.0 n)).0 is)) above))
+    sym (or_false (told row.1))
+    ∙ ap (λ b. told row.1 || b) (sym (none_tied told row.0 n rows (exact_names row.0 n ((Equal-is (name_order row.0 n)).0 is)) above))
 told_by told row rows n false is above rest = rest
 
 value_told : (told : Covering → Bool) (rows : CoverRows) → IsAscending name_order rows → (n : RecName)

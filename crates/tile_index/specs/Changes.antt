@@ -1,5 +1,6 @@
 -- What changes leave of the coverings that are kept. This project's own rules.
-use Rattle.std.specs.Prelude.{◌≡◌, List, [], Option, None, Some, filter, flat_map, fold, length, map, nat_lt, option_and_then, option_map, option_to_list, if◌then◌else◌}
+use Rattle.std.specs.Prelude.{◌≡◌, List, [], Option, None, Some, filter, flat_map, fold, length, map, nat_lt, option_and_then, option_map}
+use Rattle.std.specs.Prelude.{option_to_list, if◌then◌else◌}
 use Rattle.std.specs.Option.{option_map_or}
 use Rattle.s57_types.specs.declared.name.Kind.TheVariants.{Vc}
 use Rattle.s57_types.specs.declared.name.RecName.{RecName}

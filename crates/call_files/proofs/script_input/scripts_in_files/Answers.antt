@@ -23,7 +23,8 @@ returns-in-Err-clause-tells g c =
     (ScriptsAre names) (IsFile c.as_str.result.now) (λ fs n. IsReachedScript names fs n) (λ fs. AreScripts names fs c.loop-k.scripts.items)
     (g.H.Shelf.files c.args.shelf.now) (g.H.Shelf.read_faults c.args.shelf.now) (g.H.Shelf.read_faults c.loop-k.shelf)
     (g.H.Shelf.read_faults c.script_in_file.new.shelf) c.in-Err.status
-    (let none = before.read_faults in omega (arith, none)) before.good (λ fs good bad. first_bad names fs c.loop-k.scripts.items c.as_str.result.now c.in-Err.status
+    (let none = before.read_faults in omega (arith, none)) before.good
+    (λ fs good bad. first_bad names fs c.loop-k.scripts.items c.as_str.result.now c.in-Err.status
     inside there good (subst (λ n. ScriptIs (n + 1) c.as_str.result.now fs (Err c.in-Err.status)) (sym before.many) bad))
     (λ fs other good is. reached_script names fs c.loop-k.scripts.items c.as_str.result.now other inside there good is)
     (subst (λ files. Tells (λ script. script) (ScriptIs (c.loop-k.k + 1) c.as_str.result.now) (IsFile c.as_str.result.now) files

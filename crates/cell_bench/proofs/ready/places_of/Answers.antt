@@ -19,7 +19,8 @@ loop-k-preserved c = λ keys is.
     subst (λ first. ArePlaces keys rows first c.if-is_valid.places) (sym more) (elim c.if-is_valid.branch [
       | then-is_valid+in_ok-put_place w ↦
           subst (ArePlaces keys rows (take k rows ++ row ∷ [])) (sym w.places-is)
-          (placed keys rows (take k rows) row k c.loop-k.places w.put_place.new.places c.at-row.ensures (known ∙ w.if-is_valid.true) w.in_ok-put_place.ensures before)
+          (placed keys rows (take k rows) row k c.loop-k.places w.put_place.new.places c.at-row.ensures (known ∙ w.if-is_valid.true)
+          w.in_ok-put_place.ensures before)
       | else-is_valid w ↦
           subst (ArePlaces keys rows (take k rows ++ row ∷ [])) (sym w.places-is)
           (passed_over keys rows (take k rows) row c.loop-k.places (known ∙ w.if-is_valid.false) before)

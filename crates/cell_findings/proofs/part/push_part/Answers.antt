@@ -17,6 +17,7 @@ returns-clause-parts g c =
     let is = IsPart c.args.look.now in
     let one = All-cons is c.in_ok-part.part [] c.in_ok-part.ensures.part (All-nil is) in
     record {
-      nodes = subst (All is) (sym c.in_ok-push-2.ensures.items) (All-append is c.args.placed.now.nodes.items (c.in_ok-part.part ∷ []) c.requires.parts.nodes one);
+      nodes = subst (All is) (sym c.in_ok-push-2.ensures.items)
+          (All-append is c.args.placed.now.nodes.items (c.in_ok-part.part ∷ []) c.requires.parts.nodes one);
       edges = c.requires.parts.edges;
     }

@@ -11,7 +11,8 @@ returns-in_err-frame-clause-next c =
 
 pub returns-in-Ok-clause-next : goal.returns-in-Ok-clause-next
 returns-in-Ok-clause-next c = let read = c.in-Ok in
-    next-said 2 (update_identification c.args.head.now) c.args.bytes.now c.args.at false c.in_ok-frame.frame read.general (sym c.in_ok-frame.ensures.exact) read.ensures
+    next-said 2 (update_identification c.args.head.now) c.args.bytes.now c.args.at false c.in_ok-frame.frame read.general
+    (sym c.in_ok-frame.ensures.exact) read.ensures
     ∙ ap (λ n. Ok (read.general, records_after c.args.bytes.now (c.args.at + n) false)) (sym c.length.ensures)
 
 pub returns-in-Err-clause-next : goal.returns-in-Err-clause-next
