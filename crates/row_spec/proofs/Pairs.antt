@@ -1,6 +1,6 @@
 -- Rows whose keys are pairs: what a put and a removal change, and that the rows of one first stand together.
 use Rattle.std.proofs.Common.{◌≡◌, ◌&&◌, ◌||◌, suc, ◌+◌, Bool, true, false, true≢false, not, List, [], ◌∷◌, Option, None, Some, cond, is_some, map, drop, refl}
-use Rattle.std.proofs.Common.{sym, ap, subst, ◌∙◌, arith, Ordering, Less, Equal, Greater, is_eq, is_lt}
+use Rattle.std.proofs.Common.{rules, sym, ap, subst, ◌∙◌, arith, Ordering, Less, Equal, Greater, is_eq, is_lt}
 use Rattle.std.specs.Cmp.{IsTotalOrder, eq_by_cmp_equiv}
 use Rattle.std.specs.List.{AllByRecursion, list_any, take_while}
 use Rattle.std.specs.List.Sorted.{IsStrictlySortedBy}
@@ -9,6 +9,7 @@ use Rattle.std.specs.Ordering.{ordering_reverse, ordering_then}
 use Rattle.std.proofs.lemmas.Cmp.{on_total, then_total}
 use Rattle.std.proofs.lemmas.List.Sums.{take_while-cons}
 use Rattle.std.proofs.lemmas.Map.Keys.{sorted_head, sorted_tail}
+use Rattle.std.proofs.lemmas.Map.Lookups.{CmpEqualImpliesEq, exact_pairs}
 use Rattle.row_spec.specs.Rows.{IsAscending, lower_bound, value_of, with_row, without_key}
 use Rattle.row_spec.proofs.Changes.{value_of-with_row, value_of-without_key}
 use Rattle.row_spec.proofs.Place.{above_greater, value_of-above}
@@ -207,3 +208,43 @@ module _ {A B V : Type 0} (firsts : A → A → Ordering) (seconds : B → B →
         from_by (λ those. IsStrictlySortedBy seconds (under those)) row rows (is_lt (pair_order firsts seconds row.0 (a, least))) refl
         (λ less. sorted-from rows (sorted_tail (pair_order firsts seconds) row.0 (keys_of rows) ascending))
         (λ reached. sorted-under (row ∷ rows) ascending)
+
+-- ---- keys alone as rows, in the order of the keys, since what has no value ties always
+then_equal : (o : Ordering) → ordering_then o Equal ≡ o
+then_equal Less = refl
+then_equal Equal = refl
+then_equal Greater = refl
+
+always_total : IsTotalOrder (λ (a b : Unit {0}). Equal)
+always_total = search rules
+
+module _ {K : Type 0} (order : K → K → Ordering) where
+  abbrev pub row_order : K × Unit {0} → K × Unit {0} → Ordering
+  row_order a b = ordering_then (order a.0 b.0) Equal
+
+  pub total_rows : IsTotalOrder order → IsTotalOrder row_order
+  total_rows total = then_total (on_total (λ (row : K × Unit {0}). row.0) total) (on_total (λ (row : K × Unit {0}). row.1) always_total)
+
+  pub exact_rows : CmpEqualImpliesEq order → CmpEqualImpliesEq row_order
+  exact_rows exact = exact_pairs order (λ (a b : Unit {0}). Equal) exact (λ a b e. refl)
+
+  later_keys : (first : K × Unit {0}) (rows : List (K × Unit {0})) → AllByRecursion (λ row. row_order first row ≡ Less) rows
+      → AllByRecursion (λ key. order first.0 key ≡ Less) (keys_of rows)
+  later_keys first [] later = tt
+  later_keys first (row ∷ rows) later = (sym (then_equal (order first.0 row.0)) ∙ later.0, later_keys first rows later.1)
+
+  -- the keys of rows in order are in order
+  pub rows_ascend : (rows : List (K × Unit {0})) → IsStrictlySortedBy row_order rows → IsAscending order rows
+  unfolding IsStrictlySortedBy
+  rows_ascend [] sorted = tt
+  rows_ascend (row ∷ rows) sorted = (later_keys row rows sorted.0, rows_ascend rows sorted.1)
+
+module _ {A B : Type 0} (firsts : A → A → Ordering) (seconds : B → B → Ordering) where
+  -- a pair stands among rows where one of them is of it
+  pub has-rows : (rows : List ((A × B) × Unit {0})) (a : A) (b : B)
+      → has_pair firsts seconds rows a b ≡ list_any (λ (row : (A × B) × Unit {0}). same_pair firsts seconds row.0.0 row.0.1 a b) rows
+  has-rows [] a b = refl
+  has-rows (row ∷ rows) a b =
+      put_some (is_eq (pair_order firsts seconds row.0 (a, b))) row.1 (value_of (pair_order firsts seconds) rows (a, b))
+      ∙ ap (λ t. t || has_pair firsts seconds rows a b) (both_tie (firsts row.0.0 a) (seconds row.0.1 b))
+      ∙ ap (λ t. same_pair firsts seconds row.0.0 row.0.1 a b || t) (has-rows rows a b)

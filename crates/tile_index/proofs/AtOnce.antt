@@ -1,31 +1,29 @@
 -- An index of many names at once.
 use Rattle.std.proofs.Common.{◌≡◌, ◌&&◌, ◌||◌, ℕ, ◌+◌, ◌<◌, Bool, true, false, List, [], ◌∷◌, ◌++◌, None, Some, cond, filter, get_or, is_some}
-use Rattle.std.proofs.Common.{length, map, refl, sym, ap, ◌∙◌, take, Ordering, Less, Equal, Greater, append-nil, append_assoc, is_eq, rules}
+use Rattle.std.proofs.Common.{length, map, refl, sym, ap, ◌∙◌, take, Less, append-nil, append_assoc, is_eq}
 use Rattle.std.specs.Prelude.{option_to_list}
-use Rattle.std.specs.Cmp.{Equal-is, IsTotalOrder, eq_by_cmp_equiv}
+use Rattle.std.specs.Cmp.{Equal-is, eq_by_cmp_equiv}
 use Rattle.std.specs.List.{AllByRecursion, list_all, list_any}
 use Rattle.std.specs.List.Sorted.{IsStrictlySortedBy}
 use Rattle.std.specs.Map.{keys_of}
 use Rattle.std.specs.Option.{option_map_or}
-use Rattle.std.specs.Ordering.{ordering_reverse, ordering_then}
+use Rattle.std.specs.Ordering.{ordering_reverse}
 use Rattle.std.proofs.lemmas.Bool.{and_parts}
-use Rattle.std.proofs.lemmas.Cmp.{on_total, then_total}
 use Rattle.std.proofs.lemmas.List.Folds.{list_all_more, list_any-append, list_any_more}
-use Rattle.std.proofs.lemmas.Map.Lookups.{CmpEqualImpliesEq, exact_pairs}
 use Rattle.s57_types.specs.declared.name.RecName.{RecName}
 use Rattle.cell_spec.specs.Names.{name_order}
 use Rattle.cell_spec.proofs.EachItem.{each_append}
-use Rattle.cell_spec.proofs.Orders.{both_tie, exact_names, total_names}
+use Rattle.cell_spec.proofs.Orders.{exact_names, total_names}
 use Rattle.row_spec.specs.Rows.{EachKeyIs, IsAscending, value_of, with_row, without_key}
-use Rattle.row_spec.proofs.Pairs.{put_some, total_pairs}
+use Rattle.row_spec.proofs.Pairs.{put_some}
 use Rattle.row_spec.proofs.Place.{with_row-append_below, without_key-append_below}
 use Rattle.finding_laws.specs.Tables.{Covering}
-use Rattle.pair_set.specs.Pairs.{has_pair, is_among, pair_order, same_pair}
+use Rattle.pair_set.specs.Pairs.{has_pair, is_among, same_pair}
 use Rattle.tile_index.specs.declared.change.TileChange.{TileChange}
 use Rattle.tile_index.specs.Changes.{after_changes, covering_given, coverings_given, oversized_in}
 use Rattle.tile_index.specs.Tilings.{IsTiling, Tile, covers, has_ranges, has_some_tile, is_oversized, is_paired, is_row_under, tile_order}
 use Rattle.tile_index.proofs.Folded.{all_ascend}
-use Rattle.tile_index.proofs.Meeting.{exact_tiles, total_tiles}
+use Rattle.tile_index.proofs.Meeting.{total_tiles}
 
 abbrev CoverRows : Type 0
 CoverRows = List (RecName × Covering)
@@ -88,45 +86,6 @@ pub row_ranged : (rows : CoverRows) (i : ℕ) (d : RecName × Covering) → i < 
     → list_all (λ (row : RecName × Covering). has_tiles row.1) (take (i + 1) rows) ≡ true
 row_ranged rows i d lt before here =
     list_all_more (λ (row : RecName × Covering). has_tiles row.1) rows i d lt ∙ (λ k. before k && here k)
-
--- ---- pairs alone as rows, in the order of their pairs, since what has no value ties always
-abbrev pub row_order : PairRow → PairRow → Ordering
-row_order a b = ordering_then (pair_order tile_order name_order a.0 b.0) Equal
-
-always_total : IsTotalOrder (λ (a b : Unit {0}). Equal)
-always_total = search rules
-
-pub total_rows : IsTotalOrder row_order
-total_rows =
-    then_total (on_total (λ (row : PairRow). row.0) (total_pairs tile_order name_order total_tiles total_names))
-    (on_total (λ (row : PairRow). row.1) always_total)
-
-pub exact_rows : CmpEqualImpliesEq row_order
-exact_rows =
-    exact_pairs (pair_order tile_order name_order) (λ (a b : Unit {0}). Equal) (exact_pairs tile_order name_order exact_tiles exact_names) (λ a b e. refl)
-
-pub paired_rows : (rows : List PairRow) (t : Tile) (n : RecName) → has_pair tile_order name_order rows t n ≡ is_paired rows t n
-paired_rows [] t n = refl
-paired_rows (row ∷ rows) t n =
-    put_some (is_eq (pair_order tile_order name_order row.0 (t, n))) row.1 (value_of (pair_order tile_order name_order) rows (t, n))
-    ∙ ap (λ b. b || has_pair tile_order name_order rows t n) (both_tie (tile_order row.0.0 t) (name_order row.0.1 n))
-    ∙ ap (λ b. same_pair tile_order name_order row.0.0 row.0.1 t n || b) (paired_rows rows t n)
-
-then_equal : (o : Ordering) → ordering_then o Equal ≡ o
-then_equal Less = refl
-then_equal Equal = refl
-then_equal Greater = refl
-
-later_pairs : (first : PairRow) (rows : List PairRow) → AllByRecursion (λ row. row_order first row ≡ Less) rows
-    → AllByRecursion (λ pair. pair_order tile_order name_order first.0 pair ≡ Less) (keys_of rows)
-later_pairs first [] later = tt
-later_pairs first (row ∷ rows) later = (sym (then_equal (pair_order tile_order name_order first.0 row.0)) ∙ later.0, later_pairs first rows later.1)
-
--- the pairs of rows in order are in order
-pub pairs_ascend : (rows : List PairRow) → IsStrictlySortedBy row_order rows → IsAscending (pair_order tile_order name_order) rows
-unfolding IsStrictlySortedBy
-pairs_ascend [] sorted = tt
-pairs_ascend (row ∷ rows) sorted = (later_pairs row rows sorted.0, pairs_ascend rows sorted.1)
 
 -- ---- oversized names
 oversized_each : (P : RecName → Type 0) (rows : CoverRows) → AllByRecursion P (keys_of rows) → AllByRecursion P (keys_of (oversized_in rows))
