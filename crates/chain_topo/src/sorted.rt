@@ -1,11 +1,10 @@
 //! A look over a cell with sorted lists.
 
-ghost use Rattle.std.specs.Prelude.{◌≡◌, ◌+◌, All, IfOk, map, find};
+ghost use Rattle.std.specs.Prelude.{◌≡◌, All, IfOk, map, find};
 ghost use Rattle.std.specs.Borrow.{Bor};
 ghost use Rattle.std.specs.Option.{option_copied};
 ghost use Rattle.std.specs.List.Sorted.{IsPermutation, IsSortedByKey};
 ghost use Rattle.s57_types.specs.declared.record.Rec.{Rec as SpecRec};
-ghost use Rattle.s57_types.specs.declared.cell.Cell.{Cell as SpecCell};
 ghost use Rattle.cell_spec.specs.Ascending.{order_by};
 ghost use Rattle.cell_spec.specs.Lookup.{is_named, name_of as spec_name, lookup_record, lookup_pointers, lookup_identity};
 ghost use Rattle.cell_spec.specs.Names.{name_order, identity_parts};
