@@ -1,6 +1,6 @@
 //! Pointers and bearers after edits, for the keys that they touch.
 
-ghost use Rattle.std.specs.Prelude.{◌≡◌, ◌+◌, ◌≤◌, [], ◌∷◌, ◌++◌, IfOk, List, OnOk, count_by};
+ghost use Rattle.std.specs.Prelude.{◌+◌, ◌≤◌, [], ◌∷◌, ◌++◌, IfOk, List, OnOk, count_by};
 ghost use Rattle.cell_spec.specs.declared.key.Key.{Key as SpecKey};
 ghost use Rattle.cell_overlay.specs.Laid.{AreMerged, has_a_list};
 

@@ -3,7 +3,7 @@
 ghost use Rattle.std.specs.Prelude.{◌≡◌, ◌+◌, ◌≤◌, IfOk, length, true};
 ghost use Rattle.std.specs.Option.{option_copied};
 ghost use Rattle.cell_spec.specs.Edits.{apply_edits, find_their_records, touched_keys};
-ghost use Rattle.cell_spec.specs.Lookup.{all_records, lookup_identity, lookup_pointers, lookup_record};
+ghost use Rattle.cell_spec.specs.Lookup.{all_records};
 ghost use Rattle.cell_spec.specs.Writable.{record_limit};
 ghost use Rattle.cell_overlay.specs.Laid.{left_under};
 

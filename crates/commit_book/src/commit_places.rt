@@ -1,6 +1,6 @@
 //! The places of commits by the names that they edit.
 
-ghost use Rattle.std.specs.Prelude.{◌≡◌, ◌≤◌, ◌∷◌, [], ℕ, IfOk, OnOk, false, true};
+ghost use Rattle.std.specs.Prelude.{◌≡◌, ◌≤◌, ◌∷◌, [], ℕ, OnOk, false, true};
 ghost use Rattle.std.specs.List.{list_any};
 ghost use Rattle.s57_types.specs.declared.name.RecName.{RecName as SpecName};
 ghost use Rattle.cell_spec.specs.Names.{same_name};

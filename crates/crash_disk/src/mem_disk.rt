@@ -196,7 +196,7 @@ impl Disk for MemDisk {
     ghost use Rattle.std.specs.Prelude.{◌≡◌, ◌+◌, ◌<◌, ◌≤◌, ◌∷◌, IfOk, IsErr, OnErr, OnOk, Some, length, slice_range};
     ghost use Rattle.enc_outside.specs.Count.{Counts};
     ghost use Rattle.crash_disk.specs.Calls.{Goes, IsImage, LeftSince, newest_first};
-    ghost use Rattle.crash_disk.specs.Disk.{Follows, NoMore, Only, SameImages, Torn};
+    ghost use Rattle.crash_disk.specs.Disk.{Follows, NoMore, Only, Torn};
     ghost use Rattle.crash_disk.specs.MemDisk.{failed_calls, failing_call, image_is_left, kept_is_image, left_is_image, mem_bytes, mem_calls};
     ghost use Rattle.crash_disk.specs.MemDisk.{IsFailing, IsIdle, IsPassed, IsWritten};
 

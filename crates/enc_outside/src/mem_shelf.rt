@@ -1,6 +1,6 @@
 //! A file store in memory.
 
-ghost use Rattle.std.specs.Prelude.{◌≡◌, ◌+◌, ◌<◌, ◌≤◌, [], Some, None, length, take, IsSome, IfOk, OnOk, OnErr};
+ghost use Rattle.std.specs.Prelude.{◌≡◌, ◌+◌, ◌<◌, [], Some, None, length, take, IsSome, IfOk, OnOk, OnErr};
 ghost use Rattle.enc_outside.specs.Files.{Writes, AppendsTo, SameFiles};
 ghost use Rattle.enc_outside.specs.MemFiles.{files_of};
 ghost use Rattle.enc_outside.specs.Shelf.{TellsFile, FitsGot};
@@ -139,10 +139,10 @@ impl MemShelf {
 
 impl Shelf for MemShelf {
     ghost use Rattle.std.specs.Prelude.{◌≡◌, Some, None, [], take};
-    ghost use Rattle.std.specs.Prelude.{◌<◌, ◌↔◌, IfOk, IfSome, OnOk, OnErr, IsErr, IsSome, length};
+    ghost use Rattle.std.specs.Prelude.{◌<◌, ◌↔◌, IfOk, OnOk, OnErr, IsErr, IsSome, length};
     ghost use Rattle.enc_outside.specs.Calls.{IsFailing, IsNext};
     ghost use Rattle.enc_outside.specs.Count.{Counts};
-    ghost use Rattle.enc_outside.specs.Files.{Writes, AppendsTo, MayEmpty, SameFiles};
+    ghost use Rattle.enc_outside.specs.Files.{Writes, AppendsTo, SameFiles};
     ghost use Rattle.enc_outside.specs.MemShelf.{mem_files};
     ghost use Rattle.enc_outside.specs.Shelf.{TellsFile, FitsGot};
     ghost use Rattle.enc_outside.specs.Sink.{Took};

@@ -1,6 +1,6 @@
 //! An output sink in memory.
 
-ghost use Rattle.std.specs.Prelude.{◌≡◌, ◌+◌, ◌<◌, ◌++◌, [], Some, length, take, OnOk, OnErr};
+ghost use Rattle.std.specs.Prelude.{◌≡◌, ◌+◌, ◌<◌, ◌++◌, [], Some, length, take, OnErr};
 
 use crate::calls::Calls;
 use crate::shelf::Failed;
@@ -56,9 +56,8 @@ impl MemSink {
 }
 
 impl Sink for MemSink {
-    ghost use Rattle.std.specs.Prelude.{◌≡◌, ◌<◌, ◌++◌, List, ℕ, Option, Some, length, take, IfOk, OnErr, IsErr};
+    ghost use Rattle.std.specs.Prelude.{◌≡◌, ◌<◌, ◌++◌, Some, length, take, IfOk, OnErr, IsErr};
     ghost use Rattle.enc_outside.specs.Count.{Counts};
-    ghost use Rattle.enc_outside.specs.Files.{Told, StaysUntold};
     ghost use Rattle.enc_outside.specs.Sink.{Took};
     ghost use Rattle.enc_outside.specs.Calls.{IsFailing, IsNext};
     ghost use Rattle.enc_outside.specs.MemSink.{sink_bytes};

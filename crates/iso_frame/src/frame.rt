@@ -1,6 +1,6 @@
 //! A record frame.
 
-ghost use Rattle.std.specs.Prelude.{◌≡◌, ◌+◌, ◌<◌, ◌≤◌, length, List, ℕ, MatchResult, slice_get};
+ghost use Rattle.std.specs.Prelude.{◌≡◌, ◌+◌, ◌<◌, ◌≤◌, length, MatchResult, slice_get};
 ghost use Rattle.std.specs.Option.{option_map};
 ghost use Rattle.frame_spec.specs.RecordFrame.{Field, FrameView, RecordFrame};
 ghost use Rattle.frame_spec.specs.FrameFaults.{HasFrameFault};

@@ -3,7 +3,6 @@
 use crate::held::hold;
 use crate::table::{Values, ascending_rows, next_number, random_key, sum_of_gets};
 use row_table::is_ascending;
-use s57_types::Duplicate;
 use shared_table::{Shared, SharedTable};
 use std::alloc::{AllocError, Global};
 

@@ -1,10 +1,9 @@
 //! Pieces one after another, each with its first key.
 
-ghost use Rattle.std.specs.Prelude.{◌≡◌, ◌+◌, ◌^◌, ◌<◌, ◌≤◌, [], List, length, IfOk, IfSome, OnOk, OnErr, MatchOption, false};
-ghost use Rattle.std.specs.Option.{option_copied};
-ghost use Rattle.row_spec.specs.Rows.{IsAscending, value_of, with_row, without_key, lower_bound};
+ghost use Rattle.std.specs.Prelude.{◌≡◌, ◌+◌, ◌^◌, ◌<◌, ◌≤◌, [], List, length, IfOk, OnOk, OnErr, false};
+ghost use Rattle.row_spec.specs.Rows.{with_row, without_key};
 ghost use Rattle.row_spec.specs.Blocks.{IsBlockFor, IsBlockAt, rows_before};
-ghost use Rattle.shared_table.specs.Pieces.{BeginsWith, AreHalves, AreParts, IsRunAt, blocks_of, rows_of};
+ghost use Rattle.shared_table.specs.Pieces.{AreParts, blocks_of, rows_of};
 
 use crate::entry::Entry;
 use crate::piece::{ChangingPiece, PIECE_ROWS, Piece};

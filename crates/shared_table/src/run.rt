@@ -1,9 +1,7 @@
 //! Rows in one vector.
 
-ghost use Rattle.std.specs.Prelude.{◌≡◌, ◌<◌, [], List, IfOk, IfSome, OnOk, OnErr, MatchOption, MatchResult, length};
-ghost use Rattle.std.specs.Option.{option_copied};
-ghost use Rattle.row_spec.specs.Rows.{IsAscending, value_of, with_row, without_key, lower_bound, IsRowAt, IsGapAt};
-ghost use Rattle.shared_table.specs.Pieces.{IsRunAt, BeginsWith, AreHalves};
+ghost use Rattle.std.specs.Prelude.{◌≡◌, ◌<◌, List, IfOk, MatchResult};
+ghost use Rattle.row_spec.specs.Rows.{IsAscending, IsRowAt, IsGapAt};
 
 use crate::piece::{ChangingPiece, PIECE_ROWS, Piece};
 use s57_types::Duplicate;

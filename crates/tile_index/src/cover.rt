@@ -7,7 +7,6 @@ ghost use Rattle.cell_spec.specs.Ascending.{ascending};
 ghost use Rattle.geometry_spec.specs.Points.{Point as SpecPoint};
 ghost use Rattle.rule_spec.specs.Candidates.{tiles_under};
 ghost use Rattle.rule_spec.specs.Records.{the_only};
-ghost use Rattle.finding_laws.specs.Pairs.{box_around};
 ghost use Rattle.finding_laws.specs.Tables.{covering_of, range_order};
 ghost use Rattle.pair_set.specs.Pairs.{is_among};
 ghost use Rattle.tile_index.specs.Extents.{box_of_all, box_with as spec_box_with};

@@ -1,5 +1,5 @@
 //! The lock.
-ghost use Rattle.std.specs.Prelude.{◌≡◌, ℕ, ◌+◌, ◌++◌, ◌<◌, ◌≤◌, All, IfOk, IsOk, OnOk, OnErr, IfErr, []};
+ghost use Rattle.std.specs.Prelude.{◌≡◌, ◌+◌, ◌++◌, ◌<◌, ◌≤◌, All, IfOk, IsOk, OnOk, OnErr, IfErr, []};
 ghost use mathlib.Core.List.{IsPrefix};
 ghost use Rattle.turn_gate.specs.Histories.{IsExact, longer};
 ghost use Rattle.turn_gate.specs.Handles.{first_handle, new_handle, TakesTurn};

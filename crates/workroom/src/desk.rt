@@ -1,6 +1,6 @@
 //! A desk: its handle at the log, and its copy of the cell.
 
-ghost use Rattle.std.specs.Prelude.{◌≡◌, ◌≤◌, ◌++◌, [], List, All, Contains, IfOk, IfErr, IfSome, length};
+ghost use Rattle.std.specs.Prelude.{◌≡◌, ◌≤◌, [], List, All, Contains, IfOk, IfErr, IfSome, length};
 ghost use mathlib.Core.List.{IsPrefix};
 ghost use Rattle.history_spec.specs.{declared.entry.Entry.{Entry as SpecEntry}, Entries.{AreTold, base_told, brief_of, replayed}, EntriesReport.{cell_told}};
 ghost use Rattle.cell_bench.specs.Benches.{IsPlanned};

@@ -1,6 +1,6 @@
 //! What a desk asks, and its turn at the log.
 
-ghost use Rattle.std.specs.Prelude.{◌≡◌, ◌≤◌, ◌<◌, IfOk, IfErr, IfSome};
+ghost use Rattle.std.specs.Prelude.{◌≡◌, ◌<◌, IfOk, IfErr, IfSome};
 ghost use Rattle.history_spec.specs.Entries.{AreTold, base_told, brief_of};
 ghost use Rattle.turn_gate.specs.Handles.{TakesTurn};
 ghost use Rattle.commit_book.specs.Books.{IsBookRefusal, IsEntered, history_of};

@@ -1,6 +1,6 @@
 //! A session that stays on the opening cell, behind 60 commits of another. Each of these deletes one node, the commit with the number n the node n.
 
-ghost use Rattle.std.specs.Prelude.{◌≡◌, ◌<◌, [], IfOk};
+ghost use Rattle.std.specs.Prelude.{◌≡◌, ◌<◌, IfOk};
 
 use super::books::{open_squares, prepared_early, prepared_late};
 use super::edits::node_name;

@@ -1,4 +1,4 @@
-use Rattle.std.proofs.Common.{◌++◌, [], ◌∙◌, ap, sym, arith, append-nil}
+use Rattle.std.proofs.Common.{◌++◌, ◌∙◌, ap, sym, arith, append-nil}
 use Rattle.row_spec.proofs.Runs.{nil_from_length}
 use Rattle.shared_table.specs.Pieces.{rows_of}
 use Rattle.shared_table.proofs.Gathered.{moved_parts, moved_begin, begun_parts, begun_begin, layer_parts}

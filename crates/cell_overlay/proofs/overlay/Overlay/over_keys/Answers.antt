@@ -1,6 +1,6 @@
-use Rattle.std.proofs.Common.{◌+◌, ◌≤◌, arith, count_by, length, subst, sym, ap, ◌∙◌}
+use Rattle.std.proofs.Common.{arith, length, subst, ap}
 use Rattle.edit_sets.specs.FormFault.{IsFormed}
-use Rattle.cell_overlay.specs.Laid.{AreMerged, has_a_list}
+use Rattle.cell_overlay.specs.Laid.{AreMerged}
 use Rattle.cell_overlay.proofs.Laid.{fewer_lists}
 use Rattle.cell_overlay.proofs.overlay.Overlay.over_keys.Goals as goal
 
