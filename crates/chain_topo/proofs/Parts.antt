@@ -53,6 +53,22 @@ at_most_earlier Greater Less h e = absurd (omega arith)
 at_most_earlier Greater Equal h e = absurd (omega arith)
 at_most_earlier Greater Greater h e = e
 
+not_less_later : (a b : Ordering) → ordering_index a ≤ ordering_index b → is_lt a ≡ false → is_lt b ≡ false
+not_less_later Less b h e = cc
+not_less_later Equal Less h e = absurd (omega arith)
+not_less_later Equal Equal h e = refl
+not_less_later Equal Greater h e = refl
+not_less_later Greater Less h e = absurd (omega arith)
+not_less_later Greater Equal h e = absurd (omega arith)
+not_less_later Greater Greater h e = refl
+
+above_later : (a b : Ordering) → ordering_index a ≤ ordering_index b → is_le a ≡ false → is_le b ≡ false
+above_later Less b h e = cc
+above_later Equal b h e = cc
+above_later Greater Less h e = absurd (omega arith)
+above_later Greater Equal h e = absurd (omega arith)
+above_later Greater Greater h e = refl
+
 cut_nothing : (V : Type 0) (n from : ℕ) → take {A = V} n (drop from []) ≡ []
 cut_nothing V zero zero = refl
 cut_nothing V zero (suc from) = refl
@@ -106,6 +122,24 @@ module _ {K : Type 0} (by_key : K → K → Ordering) (key : K) where
         not_below = λ i d h l. lower.1 i d h l;
         not_above = λ i d h. upper.0 i d (omega arith) h;
         above = λ i d h l. upper.1 i d h l;
+      }
+
+  -- where the keys beside two places are as they are at the ends of a span, these are its ends
+  pub span-from_ends : IsTotalOrder by_key → (keys : List K) (from to : ℕ) → IsSorted by_key keys → from ≤ length keys → to ≤ length keys
+      → (0 < from → (d : K) → is_lt (by_key (get_or keys (from - 1) d) key) ≡ true)
+      → (from < length keys → (d : K) → is_lt (by_key (get_or keys from d) key) ≡ false)
+      → (0 < to → (d : K) → is_le (by_key (get_or keys (to - 1) d) key) ≡ true)
+      → (to < length keys → (d : K) → is_le (by_key (get_or keys to d) key) ≡ false)
+      → IsSpan by_key key keys from to
+  span-from_ends total keys from to rising first_in last_in lower not_lower not_upper upper =
+      let rises = searchable_from_sorted total (λ (k : K). k) keys key rising in
+      record {
+        below = λ i d h. less_earlier (by_key (get_or keys i d) key) (by_key (get_or keys (from - 1) d) key)
+            (rises i (from - 1) d (omega arith) (omega arith)) (lower (omega arith) d);
+        not_below = λ i d h l. not_less_later (by_key (get_or keys from d) key) (by_key (get_or keys i d) key) (rises from i d h l) (not_lower (omega arith) d);
+        not_above = λ i d h. at_most_earlier (by_key (get_or keys i d) key) (by_key (get_or keys (to - 1) d) key)
+            (rises i (to - 1) d (omega arith) (omega arith)) (not_upper (omega arith) d);
+        above = λ i d h l. above_later (by_key (get_or keys to d) key) (by_key (get_or keys i d) key) (rises to i d h l) (upper (omega arith) d);
       }
 
 module _ {K V : Type 0} (by_key : K → K → Ordering) (key : K) where

@@ -1,12 +1,15 @@
 //! Values in groups by key.
 
-ghost use Rattle.std.specs.Prelude.{◌≡◌, ◌≤◌, IfOk, length, map};
+ghost use Rattle.std.specs.Prelude.{◌≡◌, ◌≤◌, ◌<◌, ◌-◌, IfOk, IsTrue, false, length, map, slice_index_or, true};
+ghost use Rattle.std.specs.Ordering.{is_le, is_lt};
 ghost use Rattle.std.specs.declared.cmp.Ordering.TheVariants.{Equal};
-ghost use Rattle.std.specs.List.Sorted.{IsPermutation, IsSorted};
+ghost use Rattle.std.specs.List.Sorted.{IsSorted};
 ghost use Rattle.cell_spec.specs.Ascending.{ascending};
 ghost use Rattle.chain_topo.specs.Listed.{pair_order, values_at};
 ghost use Rattle.chain_topo.specs.Span.{IsSpan};
 
+use crate::counted::distinct_by_keys;
+use cell_spec::Key;
 use std::alloc::{AllocError, Global};
 use std::marker::Model;
 
@@ -29,18 +32,37 @@ impl<K: Ord, V> Model for Groups<K, V> {
 }
 
 impl<K: Ord + Copy, V: Ord + Copy> Groups<K, V> {
-    /// The pairs in ascending order, each once.
+    /// The pairs in ascending order, each once. `places` has for each pair the key of a cell that its own key is.
     ///
     /// An `Err` means out of memory.
-    pub(crate) fn make(alloc: Global, pairs: Vec<(K, V)>) -> Result<Groups<K, V>, AllocError>
+    pub(crate) fn make(
+        alloc: Global,
+        pairs: Vec<(K, V)>,
+        places: &[Key],
+    ) -> Result<Groups<K, V>, AllocError>
         requires exact_keys { (a b : K) → K.cmp a b ≡ Equal → a ≡ b }
         requires exact_values { (a b : V) → V.cmp a b ≡ Equal → a ≡ b }
         ensures { IfOk result (λ groups. groups ≡ ascending (pair_order K.cmp V.cmp) pairs.items) }
     {
-        let pairs = once(pairs);
+        let pairs = distinct_by_keys(alloc, pairs, places)?;
         let keys = keys_of(alloc, &pairs)?;
         let values = values_of(alloc, &pairs)?;
         Ok(Groups { keys, values })
+    }
+
+    /// The keys of the pairs, in their order.
+    pub(crate) fn keys(&self) -> &[K] {
+        &self.keys
+    }
+
+    /// The values of a key, which are looked for from one place up to another first.
+    pub(crate) fn values_near(&self, key: &K, from: usize, to: usize) -> &[V]
+        ensures { result.now ≡ values_at K.cmp self.now key.now }
+    {
+        if is_span(&self.keys, key, from, to) {
+            return &self.values[from..to];
+        }
+        self.values_of(key)
     }
 
     /// The values of a key.
@@ -50,6 +72,46 @@ impl<K: Ord + Copy, V: Ord + Copy> Groups<K, V> {
         let (from, to) = span_of(&self.keys, key);
         &self.values[from..to]
     }
+}
+
+// Whether the key before a place is below a key, and the one at the place isn't.
+fn begins_at<K: Ord>(keys: &[K], key: &K, place: usize) -> bool
+    requires { place ≤ length keys.now }
+    ensures before { IsTrue result → 0 < place → (d : _) → is_lt (K.cmp (slice_index_or keys.now (place - 1) d) key.now) ≡ true }
+    ensures there { IsTrue result → place < length keys.now → (d : _) → is_lt (K.cmp (slice_index_or keys.now place d) key.now) ≡ false }
+{
+    (place == 0 || keys[place - 1].cmp(key).is_lt())
+        && (place == keys.len() || !keys[place].cmp(key).is_lt())
+}
+
+// Whether the key before a place isn't above a key, and the one at the place is.
+fn ends_at<K: Ord>(keys: &[K], key: &K, place: usize) -> bool
+    requires { place ≤ length keys.now }
+    ensures before { IsTrue result → 0 < place → (d : _) → is_le (K.cmp (slice_index_or keys.now (place - 1) d) key.now) ≡ true }
+    ensures there { IsTrue result → place < length keys.now → (d : _) → is_le (K.cmp (slice_index_or keys.now place d) key.now) ≡ false }
+{
+    (place == 0 || keys[place - 1].cmp(key).is_le())
+        && (place == keys.len() || !keys[place].cmp(key).is_le())
+}
+
+// Whether a key stands among sorted keys from one of two places up to the other, which are places of them.
+fn has_ends<K: Ord>(keys: &[K], key: &K, from: usize, to: usize) -> bool
+    requires sorted { IsSorted K.cmp keys.now }
+    requires from { from ≤ length keys.now }
+    requires to { to ≤ length keys.now }
+    ensures { IsTrue result → IsSpan K.cmp key.now keys.now from to }
+{
+    begins_at(keys, key, from) && ends_at(keys, key, to)
+}
+
+// Whether a key stands among sorted keys from one place up to another.
+fn is_span<K: Ord>(keys: &[K], key: &K, from: usize, to: usize) -> bool
+    requires { IsSorted K.cmp keys.now }
+    ensures span { IsTrue result → IsSpan K.cmp key.now keys.now from to }
+    ensures ordered { IsTrue result → from ≤ to }
+    ensures within { IsTrue result → to ≤ length keys.now }
+{
+    from <= to && to <= keys.len() && has_ends(keys, key, from, to)
 }
 
 // The places of a key among sorted keys: the first, and the one after the last.
@@ -62,26 +124,6 @@ fn span_of<K: Ord>(keys: &[K], key: &K) -> (usize, usize)
     let from = keys.partition_point(|k| k.cmp(key).is_lt());
     let to = keys.partition_point(|k| k.cmp(key).is_le());
     (from, to)
-}
-
-// The items in ascending order.
-fn sorted<T: Ord>(mut items: Vec<T>) -> Vec<T>
-    ensures same { IsPermutation items.items result.items }
-    ensures rises { IsSorted T.cmp result.items }
-{
-    items.sort_unstable();
-    items
-}
-
-// The pairs in ascending order, each once.
-fn once<K: Ord + Copy, V: Ord + Copy>(pairs: Vec<(K, V)>) -> Vec<(K, V)>
-    requires exact_keys { (a b : K) → K.cmp a b ≡ Equal → a ≡ b }
-    requires exact_values { (a b : V) → V.cmp a b ≡ Equal → a ≡ b }
-    ensures { result.items ≡ ascending (pair_order K.cmp V.cmp) pairs.items }
-{
-    let mut pairs = sorted(pairs);
-    pairs.dedup();
-    pairs
 }
 
 // The keys of pairs.

@@ -2,14 +2,19 @@
 #![tactic(auto)]
 
 mod answers;
+mod counted;
 mod edge;
 mod groups;
+mod key_places;
 mod listed;
 mod sorted;
+mod starts;
 
 pub use answers::Look;
+pub use counted::{by_number, distinct_by_keys};
 pub use edge::{edge_line, edge_of, edge_points, node_at, points_between, position_of};
 pub use groups::Groups;
+pub use key_places::KeyPlaces;
 pub use listed::records_of;
 pub use look_counter::Steps;
 pub use sorted::{ListLook, group_identities, group_pointers};

@@ -15,7 +15,8 @@ ghost use Rattle.chain_topo.specs.Readable.{IsReadable};
 use crate::answers::Look;
 use crate::groups::Groups;
 use crate::listed::{list_identities, list_pointers, records_of};
-use cell_spec::{Ref, orders_are_by_parts};
+use crate::starts::Starts;
+use cell_spec::{Key, Ref, orders_are_by_parts};
 use look_counter::Steps;
 use s57_types::{Cell, Duplicate, Kind, Lnam, Rec, RecName};
 use std::alloc::{AllocError, Global};
@@ -23,12 +24,13 @@ use std::marker::Model;
 use std::sync::ledger::Ledger;
 
 /// A cell with its records sorted by name, its pointers by target and its features by identifier: each look-up is a
-/// binary search, but that of a record where the numbers of its kind have no gaps.
+/// binary search, but that of a record where the numbers of its kind have no gaps, and that of the pointers to it where they have few.
 pub struct ListLook<'a> {
     cell: &'a Cell,
     head: Rec,
     records: Vec<&'a Rec>,
     pointers: Groups<RecName, Ref>,
+    starts: Starts,
     identities: Groups<Lnam, RecName>,
 }
 
@@ -39,6 +41,7 @@ impl<'a> Drop for ListLook<'a> {
             head: _,
             records: _,
             pointers: _,
+            starts: _,
             identities: _,
         } = self;
     }
@@ -67,6 +70,7 @@ impl<'a> ListLook<'a> {
     {
         let records = records_of(alloc, cell)?;
         let pointers = group_pointers(alloc, &records)?;
+        let starts = Starts::of(alloc, pointers.keys())?;
         let identities = group_identities(alloc, &records)?;
         let head = Rec::of_head(alloc, cell.head.copy(alloc)?)?;
         Ok(ListLook {
@@ -74,6 +78,7 @@ impl<'a> ListLook<'a> {
             head,
             records: sorted_by_name(records),
             pointers,
+            starts,
             identities,
         })
     }
@@ -117,7 +122,7 @@ impl<'a> ListLook<'a> {
     pub fn find_pointers(&self, name: RecName) -> &[Ref]
         ensures { result.now ≡ lookup_pointers self.now name }
     {
-        pointers_to(&self.pointers, name)
+        pointers_to(&self.pointers, &self.starts, name)
     }
 
     /// The features that bear a feature object identifier, ascending.
@@ -199,14 +204,17 @@ pub fn group_pointers(alloc: Global, records: &[&Rec]) -> Result<Groups<RecName,
 {
     orders_are_by_parts();
     let list = list_pointers(alloc, records)?;
-    Groups::make(alloc, list)
+    let keys: Vec<Key> = list.iter().map(|row| Key::Name(row.0)).collect(alloc)?;
+    Groups::make(alloc, list, &keys)
 }
 
-fn pointers_to(pointers: &Groups<RecName, Ref>, name: RecName) -> &[Ref]
+/// The pointers to a name, which are looked for first where they are likely to start.
+fn pointers_to<'a>(pointers: &'a Groups<RecName, Ref>, starts: &Starts, name: RecName) -> &'a [Ref]
     ensures { result.now ≡ values_at name_order pointers.now name }
 {
     orders_are_by_parts();
-    pointers.values_of(&name)
+    let (from, to) = starts.span(name);
+    pointers.values_near(&name, from, to)
 }
 
 /// The names of features in groups by the identifier that they bear.
@@ -220,7 +228,8 @@ pub fn group_identities(
 {
     orders_are_by_parts();
     let list = list_identities(alloc, records)?;
-    Groups::make(alloc, list)
+    let keys: Vec<Key> = list.iter().map(|row| Key::Foid(row.0)).collect(alloc)?;
+    Groups::make(alloc, list, &keys)
 }
 
 fn bearers_of(identities: &Groups<Lnam, RecName>, foid: Lnam) -> &[RecName]
