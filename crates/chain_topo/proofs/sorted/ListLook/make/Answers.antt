@@ -50,5 +50,5 @@ invariant_of-result c =
           c.in_ok-records.ensures c.sorted_by_name.ensures.same c.sorted_by_name.ensures.rises
           (λ n. c.in_ok-pointers.ensures n ∙ ap (λ rs. ascending ref_order (flat_map (pointers_in n) (map (λ (r : Bor Rec). r.now) rs))) held)
           (λ l. c.in_ok-identities.ensures l ∙ ap (λ rs. ascending name_order (map name_of (filter (bears l) (map (λ (r : Bor Rec). r.now) rs)))) again),
-      ap H c.in_ok-copy.ensures,
+      c.in_ok-head.ensures ∙ ap H c.in_ok-copy.ensures,
     )

@@ -18,5 +18,5 @@ pub invariant_of-result : goal.invariant_of-result
 invariant_of-result c =
     let inside = c.self.inside in (
       records_headed inside.head c.in_ok-make.field-0 inside.names inside.lists c.self.invariant.0,
-      c.in_ok-make-2.ensures ∙ ap H (c.in_ok-copy.ensures ∙ sym c.in_ok-make.ensures),
+      c.in_ok-make-2.ensures ∙ c.in_ok-named_head.ensures ∙ ap H (c.in_ok-copy.ensures ∙ sym c.in_ok-make.ensures),
     )
