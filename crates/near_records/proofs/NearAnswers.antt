@@ -14,7 +14,7 @@ use Rattle.s57_types.specs.declared.cell.Cell.{Cell}
 use Rattle.cell_spec.specs.declared.key.Key.{Key}
 use Rattle.cell_spec.specs.Ascending.{put_in_order, ascending}
 use Rattle.cell_spec.specs.Names.{key_order}
-use Rattle.cell_spec.proofs.Ascending.{holds-ascending, sorted-ascending}
+use Rattle.cell_spec.proofs.Ascending.{already_ascending, holds-ascending, sorted-ascending}
 use Rattle.cell_spec.proofs.Orders.{exact_keys, total_keys}
 use Rattle.near_records.specs.Near.{AreAnswers, IsNear, KeyAnswer, answer_held, answer_to, has_key}
 use Rattle.near_records.specs.declared.near.Answer.{Answer}
@@ -105,3 +105,9 @@ module _ (c : Cell) (keys : List Key) (answers : List Answer) (all : map answer_
         | inr h ↦ ap is_eq (turned ∙ ap ordering_reverse (parts.1 k d h within))
       ])) in
       true≢false (sym asked ∙ sym (holds-ascending key_order exact_keys key keys) ∙ ap (λ ks. has_key ks key) (sym same_keys) ∙ none)
+
+-- the answers to keys in order are those to the keys, ascending
+pub near_in_order : (c : Cell) (keys : List Key) (near : NearRecords) → IsStrictlySortedBy key_order keys
+    → map answer_held near.answers.items ≡ map (answer_to c) keys → IsNear c keys near
+near_in_order c keys near rises answers =
+    record { answers = answers ∙ ap (map (answer_to c)) (sym (already_ascending key_order total_keys exact_keys keys rises)) }
