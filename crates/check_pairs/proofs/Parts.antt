@@ -38,6 +38,10 @@ pub no_line : (c : Cell) (n : RecName) → edge_named c n ≡ None → edge_line
 unfolding edge_line_of
 no_line c n h = ap (option_and_then (line_of c)) h
 
+pub has_line : (c : Cell) (n : RecName) (v : Vector) → edge_named c n ≡ Some v → edge_line_of c n ≡ line_of c v
+unfolding edge_line_of
+has_line c n v h = ap (option_and_then (line_of c)) h
+
 pub no_place : (c : Cell) (n : RecName) → node_named c n ≡ None → node_position c n ≡ None
 no_place c n h = ap (option_and_then (λ (node : Vector). the_only node.plane)) h
 

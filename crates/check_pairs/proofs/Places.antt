@@ -27,7 +27,7 @@ last_of : (points : List Point) (q : Point) → slice_get (points ++ q ∷ []) (
 last_of [] q = refl
 last_of (p ∷ points) q = last_of points q
 
-last_between : (p : Point) (plane : List Point) (q : Point) → slice_get (p ∷ (plane ++ q ∷ [])) (length (p ∷ (plane ++ q ∷ [])) - 1) ≡ Some q
+pub last_between : (p : Point) (plane : List Point) (q : Point) → slice_get (p ∷ (plane ++ q ∷ [])) (length (p ∷ (plane ++ q ∷ [])) - 1) ≡ Some q
 last_between p plane q =
     let at_last : length (p ∷ (plane ++ q ∷ [])) - 1 ≡ length (p ∷ plane) = omega (arith, length_push plane q) in
     ap (slice_get (p ∷ (plane ++ q ∷ []))) at_last ∙ last_of (p ∷ plane) q

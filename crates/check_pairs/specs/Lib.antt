@@ -1,3 +1,4 @@
 pub mod Contacts
 pub mod SharedPlaces
+pub mod SegmentedLines
 pub mod Parts

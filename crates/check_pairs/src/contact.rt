@@ -1,7 +1,6 @@
 //! The first illegal contact of two lines.
 
 ghost use Rattle.std.specs.Prelude.{◌≡◌, Some, find, map, option_to_list};
-ghost use Rattle.std.specs.Option.{option_copied};
 ghost use Rattle.rule_spec.specs.Vectors.{each_with_each, meeting_of_segments as spec_meeting};
 ghost use Rattle.rule_spec.specs.Contacts.{is_on as spec_is_on, meet_at_one_of as spec_meet_at, is_illegal as spec_illegal};
 ghost use Rattle.rule_spec.specs.Contacts.{have_illegal_contact as spec_have_illegal};
@@ -14,7 +13,7 @@ use check_words::{Numbered, Segment};
 use geo_exact::{meeting, on_segment};
 use geometry_spec::{Box4, MeetCase, Point};
 use line_boxes::{are_disjoint, box_of_segment};
-use rule_spec::EdgeLine;
+use near_records::LineEnd;
 use s57_types::RecName;
 
 /// Whether a point lies on a segment.
@@ -128,18 +127,18 @@ fn first_contact_at(
     first_contact_by_rows(places, first.segments(), second.segments(), second_box)
 }
 
-fn is_end_of(line: &EdgeLine, name: RecName) -> bool
+fn is_end_of(line: &SegmentedLine, name: RecName) -> bool
     ensures { result ≡ spec_is_end_of line.now name }
 {
-    name == line.begins || name == line.ends
+    name == line.begins().node || name == line.ends().node
 }
 
-/// A place, if two lines share the node that is there.
-fn shared_place(is_shared: bool, place: Option<&Point>) -> Option<Point>
-    ensures { option_to_list result ≡ place_if is_shared (option_copied place.entry) }
+/// The place of a node at an end of a line, if another line begins or ends at that node too.
+fn shared_place(end: LineEnd, other: &SegmentedLine) -> Option<Point>
+    ensures { option_to_list result ≡ place_if (spec_is_end_of other.now end.node) (Some end.at) }
 {
-    if is_shared {
-        return place.copied();
+    if is_end_of(other, end.node) {
+        return Some(end.at);
     }
     None
 }
@@ -152,10 +151,8 @@ pub(crate) fn first_contact(
 ) -> Option<(Numbered, Numbered)>
     ensures { result ≡ spec_first_contact (spec_shared_places first.now second.now) first.now second.now }
 {
-    let (a, b) = (first.line(), second.line());
-    let points = a.points.as_slice();
-    let begins = shared_place(is_end_of(b, a.begins), points.first());
-    let ends = shared_place(is_end_of(b, a.ends), points.last());
+    let begins = shared_place(first.begins(), second);
+    let ends = shared_place(first.ends(), second);
     match (begins, ends) {
         (Some(p), Some(q)) => first_contact_at(&[p, q], first, second),
         (Some(p), None) => first_contact_at(&[p], first, second),

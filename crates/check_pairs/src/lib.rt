@@ -2,6 +2,7 @@
 #![tactic(auto)]
 
 mod contact;
+mod ends;
 mod finding;
 mod line;
 mod part;

@@ -9,15 +9,16 @@ ghost use Rattle.s57_types.specs.declared.name.RecName.{RecName as SpecRecName};
 ghost use Rattle.s57_types.specs.declared.record.Rec.TheVariants.{V as SpecV};
 ghost use Rattle.cell_spec.specs.declared.key.Subject.TheVariants.{Pair as SpecPair};
 ghost use Rattle.cell_spec.specs.Lookup.{lookup_record};
-ghost use Rattle.rule_spec.specs.EdgePoints.{edge_line_of, node_position};
+ghost use Rattle.rule_spec.specs.EdgePoints.{edge_line_of, line_of as spec_line_of, node_position};
 ghost use Rattle.rule_spec.specs.Records.{is_chain_part, is_edge_name};
 ghost use Rattle.rule_spec.specs.Contacts.{names_node as spec_names_node};
 ghost use Rattle.rule_spec.specs.Reads.{read_set};
 ghost use Rattle.check_pairs.specs.Parts.{IsPart, extent_at};
 
+use crate::ends::line_end;
 use crate::line::SegmentedLine;
 use cell_spec::{Keys, ascending_keys};
-use chain_topo::{Look, Steps, edge_line};
+use chain_topo::{Look, Steps};
 use geometry_spec::{Box4, Point};
 use line_boxes::box_of_line;
 use read_sets::push_vector_keys;
@@ -54,26 +55,44 @@ fn record_of<'a, B: Look, L: Ledger>(look: &'a B, name: RecName, steps: &mut Ste
     }
 }
 
-/// The line of the edge of a name with its segments, if it has one. `part` is the record of the name; where it is a node, nothing is looked up.
+/// The line of an edge of a cell with its segments, if it has one.
 fn line_of<B: Look, L: Ledger>(
     alloc: Global,
     look: &B,
-    name: RecName,
+    edge: &Vector,
+    steps: &mut Steps<L>,
+) -> Result<Option<SegmentedLine>, AllocError>
+    ensures line { IfOk result (λ line. line ≡ spec_line_of (B.cell look.now) edge.now) }
+    ensures steps { steps.new ≤ steps.old + 2 }
+    ensures counted { steps.old ≤ steps.new }
+{
+    let begins = line_end(look, 1, edge, steps);
+    let ends = line_end(look, 2, edge, steps);
+    match (begins, ends) {
+        (Some(begins), Some(ends)) => {
+            let line = SegmentedLine::between(alloc, begins, edge.plane.as_slice(), ends)?;
+            Ok(Some(line))
+        }
+        _ => Ok(None),
+    }
+}
+
+/// The line of the name whose record is `part`, if that is an edge and has one.
+fn line_of_part<B: Look, L: Ledger>(
+    alloc: Global,
+    look: &B,
     part: &Vector,
     steps: &mut Steps<L>,
 ) -> Result<Option<SegmentedLine>, AllocError>
-    requires { lookup_record (B.cell look.now) name ≡ Some (SpecV part.now) }
-    ensures line { IfOk result (λ line. line ≡ edge_line_of (B.cell look.now) name) }
-    ensures steps { steps.new ≤ steps.old + 3 }
+    ensures line { (n : SpecRecName) → lookup_record (B.cell look.now) n ≡ Some (SpecV part.now)
+        → IfOk result (λ line. line ≡ edge_line_of (B.cell look.now) n) }
+    ensures steps { steps.new ≤ steps.old + 2 }
     ensures counted { steps.old ≤ steps.new }
 {
     if !is_edge(part) {
         return Ok(None);
     }
-    match edge_line(alloc, look, name, steps)? {
-        Some(line) => Ok(Some(SegmentedLine::of_line(alloc, line)?)),
-        None => Ok(None),
-    }
+    line_of(alloc, look, part, steps)
 }
 
 /// The least box around a position, if there is one.
@@ -89,7 +108,7 @@ fn box_of_place(place: Option<Point>) -> Option<Box4>
 impl<'a> ChainPart<'a> {
     /// The connected node or the edge of a name.
     ///
-    /// It makes at most four look-ups. An `Err` means out of memory.
+    /// It makes at most three look-ups: the name's, and those of an edge's two ends. An `Err` means out of memory.
     pub fn find<B: Look, L: Ledger>(
         alloc: Global,
         look: &'a B,
@@ -99,11 +118,11 @@ impl<'a> ChainPart<'a> {
         requires { IsTrue (is_chain_part (B.cell look.now) name) }
         ensures part { IfOk result (IsPart (B.cell look.now)) }
         ensures named { IfOk result (λ part. part.name ≡ name) }
-        ensures steps { steps.new ≤ steps.old + 4 }
+        ensures steps { steps.new ≤ steps.old + 3 }
         ensures counted { steps.old ≤ steps.new }
     {
         let record = record_of(look, name, steps);
-        let line = line_of(alloc, look, name, record, steps)?;
+        let line = line_of_part(alloc, look, record, steps)?;
         Ok(ChainPart { name, record, line })
     }
 
