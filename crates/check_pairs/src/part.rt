@@ -21,10 +21,13 @@ use cell_spec::{Keys, ascending_keys};
 use chain_topo::{Look, Steps};
 use geometry_spec::{Box4, Point};
 use line_boxes::box_of_line;
-use read_sets::push_vector_keys;
-use s57_types::{Kind, Rec, RecName, Vector};
+use read_sets::{push_vector_keys, put_vector_keys};
+use s57_types::{Items, Kind, Rec, RecName, Vector};
 use std::alloc::{AllocError, Global};
 use std::sync::ledger::Ledger;
+
+/// How many keys are put in order one by one: far more than two edges with two ends each have.
+const FEW_KEYS: usize = 32;
 
 /// A connected node or an edge of a cell, with all that the rules on two of them ask of each: its record, and the line of an edge.
 pub struct ChainPart<'a> {
@@ -180,15 +183,20 @@ fn key_count(part: &Vector) -> usize {
     part.ends.len().saturating_add(1)
 }
 
-/// The read set of two connected nodes or edges.
+/// The read set of two connected nodes or edges. A few keys are put in order one by one, many are sorted at last.
 pub(crate) fn pair_keys(alloc: Global, a: &ChainPart, b: &ChainPart) -> Result<Keys, AllocError>
     ensures { (c : SpecCell) → IsPart c a.now → IsPart c b.now → IfOk result (λ keys. keys ≡ read_set c (SpecPair a.now.name b.now.name)) }
 {
     let room = key_count(a.record).saturating_add(key_count(b.record));
     let mut keys = Vec::with_capacity(alloc, room)?;
-    push_vector_keys(&mut keys, a.name, a.record)?;
-    push_vector_keys(&mut keys, b.name, b.record)?;
-    Ok(ascending_keys(keys))
+    if room > FEW_KEYS {
+        push_vector_keys(&mut keys, a.name, a.record)?;
+        push_vector_keys(&mut keys, b.name, b.record)?;
+        return Ok(ascending_keys(keys));
+    }
+    put_vector_keys(&mut keys, a.name, a.record)?;
+    put_vector_keys(&mut keys, b.name, b.record)?;
+    Ok(Items::of_vec(keys))
 }
 
 /// The part of a name at a place.

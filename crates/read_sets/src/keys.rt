@@ -82,8 +82,8 @@ pub fn put_vector_keys(
         → OnOk result (keys.new.items ≡ ascending key_order (those ++ record_keys c name)) }
 {
     put_key(keys, Key::Name(name))?;
-    if vector.name.kind == Kind::Ve {
-        put_end_keys(keys, vector)?;
+    if vector.name.kind != Kind::Ve {
+        return Ok(());
     }
-    Ok(())
+    put_end_keys(keys, vector)
 }
