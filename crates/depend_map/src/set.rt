@@ -8,9 +8,8 @@ ghost use Rattle.cell_spec.specs.declared.key.Subject.{Subject as SpecSubject};
 ghost use Rattle.cell_spec.specs.Names.{key_order, same_subject};
 ghost use Rattle.depend_map.specs.Readers.{has_pair, holds_key, is_lost, same_pair};
 
-use cell_spec::{
-    Key, Subject, ascending_keys, distinct, has_key, keys_ascend, orders_are_by_parts,
-};
+use cell_spec::{Key, Subject, ascending_keys, has_key, keys_ascend, orders_are_by_parts};
+use chain_topo::distinct_by_keys;
 use s57_types::Items;
 use shared_table::SharedTable;
 use std::alloc::{AllocError, Global};
@@ -126,12 +125,14 @@ pub(crate) fn replace_keys(
     replace_ascending(alloc, readers, subject, old.as_slice(), new.as_slice())
 }
 
-/// The set of these pairs.
+/// The set of these pairs, which are put in likely order of their keys before they are sorted.
 pub(crate) fn set_of(alloc: Global, rows: Vec<ReaderRow>) -> Result<ReaderSet, AllocError>
     ensures { IfOk result (λ set. (k : SpecKey) (s : SpecSubject) →
         has_pair set k s ≡ list_any (λ row. same_pair row.0.0 row.0.1 k s) rows.items) }
 {
     orders_are_by_parts();
-    let set = SharedTable::from_ascending(alloc, distinct(rows))?;
+    let keys: Vec<Key> = rows.iter().map(|row| row.0.0).collect(alloc)?;
+    let rows = distinct_by_keys(alloc, rows, &keys)?;
+    let set = SharedTable::from_ascending(alloc, rows)?;
     Ok(set)
 }

@@ -9,8 +9,8 @@ ghost use Rattle.record_store.specs.Stores.{AreAnswersOf};
 use crate::answers::Answers;
 use crate::records::Records;
 use crate::store::RecordStore;
-use cell_spec::{Keys, ascending_keys, writable_cells_are_readable};
-use chain_topo::{group_identities, group_pointers, records_of};
+use cell_spec::{Key, Keys, orders_are_by_parts, writable_cells_are_readable};
+use chain_topo::{distinct_by_keys, group_identities, group_pointers, records_of};
 use edit_answers::push_answered;
 use s57_types::{Cell, Rec};
 use std::alloc::{AllocError, Global};
@@ -42,6 +42,16 @@ fn answers_of(alloc: Global, cell: &Cell) -> Result<Answers, AllocError>
     Answers::filled(alloc, &pointers, &bearers, keys.as_slice())
 }
 
+// Keys in ascending order, each once.
+fn in_order(alloc: Global, keys: Vec<Key>) -> Result<Keys, AllocError>
+    ensures { IfOk result (λ ordered. ordered ≡ ascending key_order keys.items) }
+{
+    orders_are_by_parts();
+    let places = keys.to_vec(alloc)?;
+    let keys = distinct_by_keys(alloc, keys, &places)?;
+    Ok(Keys::of_vec(keys))
+}
+
 // The keys that records answer, ascending, each once.
 fn keys_of(alloc: Global, records: &[&Rec]) -> Result<Keys, AllocError>
     ensures { IfOk result (λ keys. keys ≡ ascending key_order (flat_map keys_answered_by (map (λ (r : Bor SpecRec). r.now) records.now))) }
@@ -50,5 +60,5 @@ fn keys_of(alloc: Global, records: &[&Rec]) -> Result<Keys, AllocError>
     for rec in records {
         push_answered(&mut keys, rec)?;
     }
-    Ok(ascending_keys(keys))
+    in_order(alloc, keys)
 }

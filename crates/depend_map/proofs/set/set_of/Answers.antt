@@ -16,8 +16,8 @@ use Rattle.depend_map.proofs.set.set_of.Goals as goal
 abbrev Row : Type 0
 Row = (Key × Subject) × Unit {0}
 
-pub distinct-requires : goal.distinct-requires
-distinct-requires c = record {
+pub distinct_by_keys-requires : goal.distinct_by_keys-requires
+distinct_by_keys-requires c = record {
   exact = subst (λ (order : Row → Row → Ordering). (a b : Row) → order a b ≡ Equal → a ≡ b)
       (λ i a b. sym (λ j. ordering_then (ordering_then (c.orders_are_by_parts.ensures.keys a.0.0 b.0.0 j)
       (c.orders_are_by_parts.ensures.subjects a.0.1 b.0.1 j)) Equal) i)
@@ -26,19 +26,19 @@ distinct-requires c = record {
 
 pub from_ascending-requires : goal.from_ascending-requires
 from_ascending-requires c =
-    let those = subst (λ (order : Row → Row → Ordering). c.distinct.result.items ≡ ascending order c.args.rows.items)
+    let those = subst (λ (order : Row → Row → Ordering). c.in_ok-rows.rows.items ≡ ascending order c.args.rows.items)
     (λ i a b. ordering_then (ordering_then (c.orders_are_by_parts.ensures.keys a.0.0 b.0.0 i) (c.orders_are_by_parts.ensures.subjects a.0.1 b.0.1 i)) Equal)
-    c.distinct.ensures in
+    c.in_ok-rows.ensures in
     let rises = subst (IsAscending reader_order) (sym those) (rows_ascend reader_order (ascending (row_order reader_order) c.args.rows.items)
     (sorted-ascending (row_order reader_order) (total_rows reader_order total_readers) c.args.rows.items)) in
-    subst (λ (order : Key × Subject → Key × Subject → Ordering). IsAscending order c.distinct.result.items)
+    subst (λ (order : Key × Subject → Key × Subject → Ordering). IsAscending order c.in_ok-rows.rows.items)
     (λ i a b. sym (λ j. ordering_then (c.orders_are_by_parts.ensures.keys a.0 b.0 j) (c.orders_are_by_parts.ensures.subjects a.1 b.1 j)) i) rises
 
 pub returns : goal.returns
 returns c = λ k s.
-    let those = subst (λ (order : Row → Row → Ordering). c.distinct.result.items ≡ ascending order c.args.rows.items)
+    let those = subst (λ (order : Row → Row → Ordering). c.in_ok-rows.rows.items ≡ ascending order c.args.rows.items)
     (λ i a b. ordering_then (ordering_then (c.orders_are_by_parts.ensures.keys a.0.0 b.0.0 i) (c.orders_are_by_parts.ensures.subjects a.0.1 b.0.1 i)) Equal)
-    c.distinct.ensures in
+    c.in_ok-rows.ensures in
     ap (λ rows. has_pair rows k s) (c.in_ok-set.ensures ∙ those)
     ∙ has-rows key_order subject_order (ascending (row_order reader_order) c.args.rows.items) k s
     ∙ any-ascending (row_order reader_order) (exact_rows reader_order exact_readers) (λ row. same_pair row.0.0 row.0.1 k s) c.args.rows.items
