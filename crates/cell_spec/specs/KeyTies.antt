@@ -1,8 +1,6 @@
 -- Keys tie where they are equal.
 use Rattle.std.proofs.Common.{◌≡◌, refl, rules}
 use Rattle.std.specs.Ordering.{is_eq}
-use Rattle.s57_types.specs.declared.name.RecName.{RecName}
-use Rattle.s57_types.specs.declared.name.Lnam.{Lnam}
 use Rattle.cell_spec.specs.declared.key.Key.{Key}
 use Rattle.cell_spec.specs.declared.key.Key.TheVariants.{Name, Refs, Foid}
 use Rattle.cell_spec.specs.contracts.key.KeyPartialEq.TheImpl.{eq-value}
