@@ -13,7 +13,7 @@ use Rattle.cell_spec.specs.declared.key.Key.{Key}
 use Rattle.cell_spec.specs.declared.key.Key.TheVariants.{Name}
 use Rattle.near_records.specs.Near.{has_key}
 use Rattle.rule_spec.specs.Boundary.{has_points}
-use Rattle.rule_spec.specs.EdgePoints.{edge_line_of}
+use Rattle.rule_spec.specs.EdgePoints.{edge_line_of, line_of}
 use Rattle.rule_spec.specs.Features.{target}
 use Rattle.rule_spec.specs.Records.{edge_named}
 use Rattle.check_area.specs.declared.part.Part.{Part}
@@ -42,6 +42,11 @@ parts_of c places = if list_all (has_points c) places then Some (filter_map (par
 pub record AsksForLine (c : Cell) (keys : List Key) (n : RecName) : Type 0 where
   pub name : has_key keys (Name n) ≡ true
   pub ends : (edge : Vector) → edge_named c n ≡ Some edge → All (λ (e : End). has_key keys (Name e.to) ≡ true) edge.ends
+
+-- an edge is the record of a name, and keys ask for the records that its ends name
+pub record IsAskedEdge (c : Cell) (keys : List Key) (n : RecName) (edge : Vector) : Type 0 where
+  pub swept : sweep_named c n ≡ option_map sweep_of (line_of c edge)
+  pub ends : All (λ (e : End). has_key keys (Name e.to) ≡ true) edge.ends
 
 -- what is kept by the number of an edge is what it sweeps
 pub record HoldsSweeps (c : Cell) (known : BTreeMap ℕ LineSweep) : Type 0 where

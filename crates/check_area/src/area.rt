@@ -11,20 +11,23 @@ ghost use Rattle.rule_spec.specs.declared.kind.TheConstants.{MIXED_RING, OPEN_RI
 ghost use Rattle.rule_spec.specs.Boundary.{mixed_ring, open_ring, outer_count, wrong_turn};
 ghost use Rattle.rule_spec.specs.Features.{bad_codes, dangling_ref, prim_refs};
 ghost use Rattle.rule_spec.specs.Findings.{finding};
-ghost use Rattle.check_area.specs.Lines.{AsksForLine, HoldsSweeps, edge_name, part_along as spec_part_along, part_at as spec_part_at};
+ghost use Rattle.check_area.specs.Lines.{AsksForLine, HoldsSweeps, IsAskedEdge, edge_name, part_along as spec_part_along, part_at as spec_part_at};
 ghost use Rattle.check_area.specs.Lines.{parts_of as spec_parts_of, sweep_named as spec_sweep_named};
 ghost use Rattle.check_area.specs.NearFeature.{WhereNear};
 
-use crate::line::sweep_named;
+use crate::line::{edge_named, sweep_of_edge};
 use crate::part::Part;
 use crate::ring::ring_findings;
 use crate::sweep::{LineSweep, sweep_along};
 use cell_spec::Finding;
 use check_words::number;
 use near_records::Near;
-use s57_types::{Feature, Kind, RecName, Spot};
+use s57_types::{Feature, Kind, RecName, Spot, Vector};
 use std::alloc::{AllocError, Global};
 use std::collections::BTreeMap;
+
+/// The most inner points of an edge whose sum isn't kept: to sum so few again costs less.
+const FEW_POINTS: usize = 8;
 
 fn keep_sweep(
     known: &mut BTreeMap<u32, LineSweep>,
@@ -42,24 +45,26 @@ fn kept_sweep<N: Near>(
     near: &N,
     known: &mut BTreeMap<u32, LineSweep>,
     id: u32,
+    edge: &Vector,
 ) -> Result<Option<LineSweep>, AllocError>
-    ensures sweep { (c : SpecCell) (keys : List SpecKey) → N.tells near.now c keys → AsksForLine c keys (edge_name id) → HoldsSweeps c known.old
+    ensures sweep { (c : SpecCell) (keys : List SpecKey) → N.tells near.now c keys → IsAskedEdge c keys (edge_name id) edge.now → HoldsSweeps c known.old
         → IfOk result (λ sweep. sweep ≡ spec_sweep_named c (edge_name id)) }
-    ensures known { (c : SpecCell) (keys : List SpecKey) → N.tells near.now c keys → AsksForLine c keys (edge_name id) → HoldsSweeps c known.old
+    ensures known { (c : SpecCell) (keys : List SpecKey) → N.tells near.now c keys → IsAskedEdge c keys (edge_name id) edge.now → HoldsSweeps c known.old
         → OnOk result (HoldsSweeps c known.new) }
 {
     if let Some(sweep) = known.get(&id) {
         return Ok(Some(*sweep));
     }
-    let name = RecName { kind: Kind::Ve, id };
-    let Some(sweep) = sweep_named(near, name)? else {
+    let Some(sweep) = sweep_of_edge(near, edge)? else {
         return Ok(None);
     };
     keep_sweep(known, id, sweep)?;
     Ok(Some(sweep))
 }
 
-/// What the edge of a name sweeps.
+/// What the edge of a name sweeps. There is nothing where the name isn't an edge's, where the edge hasn't exactly one
+/// beginning node and one end node, or where one of these isn't a connected node with exactly one position (S-57 Part 2,
+/// 2.2.1.2; Part 3, 7.7.1.4).
 fn sweep_at<N: Near>(
     near: &N,
     known: &mut BTreeMap<u32, LineSweep>,
@@ -70,9 +75,12 @@ fn sweep_at<N: Near>(
     ensures known { (c : SpecCell) (keys : List SpecKey) → N.tells near.now c keys → AsksForLine c keys name → HoldsSweeps c known.old
         → OnOk result (HoldsSweeps c known.new) }
 {
+    let Some(edge) = edge_named(near, name) else {
+        return Ok(None);
+    };
     match name.kind {
-        Kind::Ve => kept_sweep(near, known, name.id),
-        _ => sweep_named(near, name),
+        Kind::Ve if edge.plane.len() > FEW_POINTS => kept_sweep(near, known, name.id, edge),
+        _ => sweep_of_edge(near, edge),
     }
 }
 
@@ -106,7 +114,7 @@ fn part_at<N: Near>(
     Ok(Some(part))
 }
 
-/// The parts of a boundary in the order of its spatial pointers, if each of these names an edge with points. An edge
+/// The parts of a boundary in the order of its spatial pointers, if each of these names an edge with points. A long edge
 /// that is named more than once is summed once.
 fn parts_of<N: Near>(
     alloc: Global,

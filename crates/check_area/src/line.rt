@@ -7,7 +7,7 @@ ghost use Rattle.s57_types.specs.{declared.cell.Cell.{Cell as SpecCell}, declare
 ghost use Rattle.cell_spec.specs.{declared.key.Key.{Key as SpecKey}, declared.key.Key.TheVariants.{Name as KeyName}};
 ghost use Rattle.near_records.specs.Near.{has_key};
 ghost use Rattle.rule_spec.specs.{EdgePoints.{line_of}, Records.{edge_named as spec_edge}};
-ghost use Rattle.check_area.specs.{Lines.{AsksForLine, sweep_named as spec_sweep_named}, Sweeps.{sweep_between as spec_sweep_between, sweep_of}};
+ghost use Rattle.check_area.specs.Sweeps.{sweep_between as spec_sweep_between, sweep_of};
 
 use crate::sweep::{LineSweep, way_along, way_to};
 use chain_topo::edge_of;
@@ -32,7 +32,10 @@ fn sweep_between(begins: LineEnd, points: &[Point], ends: LineEnd) -> Result<Lin
 }
 
 /// What the line of an edge sweeps, if the edge has one.
-fn sweep_of_edge<N: Near>(near: &N, edge: &Vector) -> Result<Option<LineSweep>, AllocError>
+pub(crate) fn sweep_of_edge<N: Near>(
+    near: &N,
+    edge: &Vector,
+) -> Result<Option<LineSweep>, AllocError>
     ensures { (c : SpecCell) (keys : List SpecKey) → N.tells near.now c keys
         → All (λ (e : SpecEnd). has_key keys (KeyName e.to) ≡ true) edge.now.ends
         → IfOk result (λ sweep. sweep ≡ option_map sweep_of (line_of c edge.now)) }
@@ -48,21 +51,9 @@ fn sweep_of_edge<N: Near>(near: &N, edge: &Vector) -> Result<Option<LineSweep>, 
     }
 }
 
-fn edge_named<N: Near>(near: &N, name: RecName) -> Option<&Vector>
+/// The edge of a name, if it is one's.
+pub(crate) fn edge_named<N: Near>(near: &N, name: RecName) -> Option<&Vector>
     ensures { (c : SpecCell) (keys : List SpecKey) → N.tells near.now c keys → has_key keys (KeyName name) ≡ true → option_copied result ≡ spec_edge c name }
 {
     edge_of(near.record(name)?)
-}
-
-/// What the edge of a name sweeps. There is nothing where the name isn't an edge's, where the edge hasn't exactly one
-/// beginning node and one end node, or where one of these isn't a connected node with exactly one position (S-57 Part 2,
-/// 2.2.1.2; Part 3, 7.7.1.4).
-pub(crate) fn sweep_named<N: Near>(near: &N, name: RecName) -> Result<Option<LineSweep>, AllocError>
-    ensures { (c : SpecCell) (keys : List SpecKey) → N.tells near.now c keys → AsksForLine c keys name
-        → IfOk result (λ sweep. sweep ≡ spec_sweep_named c name) }
-{
-    match edge_named(near, name) {
-        Some(edge) => sweep_of_edge(near, edge),
-        None => Ok(None),
-    }
 }
