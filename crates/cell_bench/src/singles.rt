@@ -8,8 +8,8 @@ ghost use Rattle.rule_spec.specs.Findings.{is_subject};
 ghost use Rattle.rule_spec.specs.Reads.{read_set};
 ghost use Rattle.cell_bench.specs.Singles.{reads_row as spec_reads_row, singles_among, singles_in, singles_of as spec_singles};
 
-use cell_spec::{Keys, Subject, distinct, orders_are_by_parts};
-use chain_topo::{Look, Steps, edge_of};
+use cell_spec::{Key, Keys, Subject, orders_are_by_parts};
+use chain_topo::{Look, Steps, distinct_by_keys, edge_of};
 use s57_types::{Cell, Duplicate, Rec};
 use std::alloc::{AllocError, Global};
 use std::sync::ledger::Ledger;
@@ -40,7 +40,17 @@ fn push_all(subjects: &mut Vec<Subject>, recs: &[Rec]) -> Result<(), AllocError>
     Ok(())
 }
 
-/// The records of a cell, the sides of its edges and the identifiers of its features, ascending, each once.
+// The key that stands among keys where a subject stands among those that aren't pairs.
+fn key_of(subject: Subject) -> Key {
+    match subject {
+        Subject::Rec(name) => Key::Name(name),
+        Subject::Side(name) | Subject::Pair(name, _) => Key::Refs(name),
+        Subject::Ident(foid) => Key::Foid(foid),
+    }
+}
+
+/// The records of a cell, the sides of its edges and the identifiers of its features, ascending, each once. They are put in likely order
+/// before they are sorted.
 ///
 /// An `Err` means out of memory.
 pub fn singles_of(alloc: Global, cell: &Cell) -> Result<Vec<Subject>, AllocError>
@@ -52,7 +62,12 @@ pub fn singles_of(alloc: Global, cell: &Cell) -> Result<Vec<Subject>, AllocError
     push_all(&mut subjects, cell.vc.as_slice())?;
     push_all(&mut subjects, cell.ve.as_slice())?;
     push_all(&mut subjects, cell.fe.as_slice())?;
-    Ok(distinct(subjects))
+    let keys: Vec<Key> = subjects
+        .iter()
+        .map(|subject| key_of(*subject))
+        .collect(alloc)?;
+    let subjects = distinct_by_keys(alloc, subjects, &keys)?;
+    Ok(subjects)
 }
 
 /// A record, a side, an identifier, or a pair of the cell, with its read set. It looks up at most four times as often as that has keys.
