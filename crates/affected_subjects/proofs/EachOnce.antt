@@ -1,5 +1,5 @@
 -- A list with each subject once, made by putting one after the other behind those that are there.
-use Rattle.std.proofs.Common.{◌≡◌, inl, inr, ◌&&◌, ◌||◌, Bool, true, false, List, [], ◌∷◌, ◌++◌, cond, filter, map, refl, sym, ap, ◌∙◌, subst, append_assoc}
+use Rattle.std.proofs.Common.{◌≡◌, inl, inr, ◌&&◌, ◌||◌, Bool, true, false, List, [], ◌∷◌, ◌++◌, cond, filter, refl, sym, ap, ◌∙◌, subst, append_assoc}
 use Rattle.std.specs.Prelude.{not, flat_map}
 use Rattle.std.specs.List.{list_any}
 use Rattle.std.specs.Cmp.{Equal-is, eq_by_cmp_equiv}
@@ -7,14 +7,13 @@ use Rattle.std.proofs.lemmas.Bool.{or_left, or_right}
 use Rattle.std.proofs.lemmas.List.{append-nil}
 use Rattle.std.proofs.lemmas.List.Elements.{filter_agree}
 use Rattle.std.proofs.lemmas.List.Folds.{list_any-append}
-use Rattle.s57_types.specs.declared.name.RecName.{RecName}
 use Rattle.cell_spec.specs.declared.key.Subject.{Subject}
 use Rattle.cell_spec.specs.Names.{same_subject, subject_order}
 use Rattle.cell_spec.proofs.SubjectOrder.{exact_subjects, total_subjects}
-use Rattle.rule_spec.specs.Affected.{each_once, pair_of}
+use Rattle.rule_spec.specs.Affected.{each_once}
 use Rattle.answer_laws.proofs.Among.{Among}
 use Rattle.finding_laws.proofs.Lists.{among_held}
-use Rattle.affected_subjects.specs.Rounds.{add_all, add_each, add_one, add_pairs}
+use Rattle.affected_subjects.specs.Rounds.{add_all, add_each, add_one}
 
 -- ---- filters one after the other
 both_by : {X : Type 0} (x : X) (p : X → Bool) (rest : List X) (first : Bool) → cond (first && p x) (x ∷ filter p rest) (filter p rest) ≡
@@ -46,7 +45,7 @@ is_there s there = list_any (same_subject s) there
 flip : (s t : Subject) → same_subject s t ≡ same_subject t s
 flip s t = (eq_by_cmp_equiv total_subjects).symm s t
 
-itself : (s : Subject) → same_subject s s ≡ true
+pub itself : (s : Subject) → same_subject s s ≡ true
 itself s = (eq_by_cmp_equiv total_subjects).refl s
 
 -- what is one with a subject that is there is there
@@ -136,16 +135,12 @@ each_in_turn gives there [] = refl
 each_in_turn gives there (x ∷ items) =
     each_in_turn gives (add_all there (gives x)) items ∙ sym (add-append there (gives x) (flat_map gives items))
 
-pub pairs_in_turn : (n : RecName) (there : List Subject) (others : List RecName) → add_pairs n there others ≡ add_all there (map (pair_of n) others)
-pairs_in_turn n there [] = refl
-pairs_in_turn n there (m ∷ others) = pairs_in_turn n (add_one there (pair_of n m)) others
-
 -- ---- what is there stays, and what is added is there
 kept_by : (s x : Subject) (there : List Subject) (at : Bool) → is_there s there ≡ true → is_there s (cond at there (there ++ x ∷ [])) ≡ true
 kept_by s x there true is = is
 kept_by s x there false is = list_any-append (same_subject s) there (x ∷ []) ∙ or_left (is_there s there) (is_there s (x ∷ [])) is
 
-kept : (s : Subject) (there xs : List Subject) → is_there s there ≡ true → is_there s (add_all there xs) ≡ true
+pub kept : (s : Subject) (there xs : List Subject) → is_there s there ≡ true → is_there s (add_all there xs) ≡ true
 kept s there [] is = is
 kept s there (x ∷ xs) is = kept s (add_one there x) xs (kept_by s x there (is_there x there) is)
 
@@ -162,22 +157,10 @@ put s there (x ∷ xs) (inl is) =
 put s there (x ∷ xs) (inr at) = put s (add_one there x) xs at
 
 -- what is there already adds nothing
-nothing_new : (there xs : List Subject) → ((s : Subject) → Among s xs → is_there s there ≡ true) → add_all there xs ≡ there
+pub nothing_new : (there xs : List Subject) → ((s : Subject) → Among s xs → is_there s there ≡ true) → add_all there xs ≡ there
 nothing_new there [] known = refl
 nothing_new there (x ∷ xs) known =
     ap (λ at. add_all (cond at there (there ++ x ∷ [])) xs) (known x (inl refl)) ∙ nothing_new there xs (λ s at. known s (inr at))
-
--- what is added twice is added once
-pub added_again : (there xs : List Subject) → add_all (add_all there xs) xs ≡ add_all there xs
-added_again there xs = nothing_new (add_all there xs) xs (λ s at. put s there xs at)
-
--- pairs with the same others, added once
-pub twice_added : (n : RecName) (there : List Subject) (before after : List RecName) → after ≡ before
-    → add_pairs n there before ≡ add_all there (map (pair_of n) before ++ map (pair_of n) after)
-twice_added n there before after same =
-    let pairs = map (pair_of n) before in
-    pairs_in_turn n there before
-    ∙ sym (add-append there pairs (map (pair_of n) after) ∙ ap (λ names. add_all (add_all there pairs) (map (pair_of n) names)) same ∙ added_again there pairs)
 
 -- ---- lists of subjects that are looked at once
 module _ (gives : Subject → List Subject) where

@@ -1,6 +1,6 @@
--- Pairs of mates are subjects of the cell whose tiles tell the mates, so that a second round by tiles that keep all mates adds subjects of the edited cell.
-use Rattle.std.proofs.Common.{◌≡◌, ◌≤◌, ◌&&◌, ◌||◌, inl, inr, Bool, true, false, not, List, [], ◌∷◌, ◌++◌, Option, None, Some, cond}
-use Rattle.std.proofs.Common.{drop, filter, length, map, is_some, is_eq, is_lt, refl, sym, ap, subst, ◌∙◌, arith, Ordering, Less, Equal, Greater, length-append}
+-- Pairs of mates are subjects of the cell whose tiles tell the mates, so that a second round by tiles that keep all mates finds subjects of the edited cell.
+use Rattle.std.proofs.Common.{◌≡◌, ◌&&◌, ◌||◌, inl, inr, Bool, true, false, not, List, [], ◌∷◌, ◌++◌, Option, None, Some, cond}
+use Rattle.std.proofs.Common.{filter, fold, length, map, is_some, is_eq, is_lt, refl, sym, ap, subst, ◌∙◌, Ordering, Less, Equal, Greater}
 use Rattle.std.specs.Prelude.{flat_map, nat_lt, option_and_then, option_map, option_to_list}
 use Rattle.std.specs.List.{list_all}
 use Rattle.std.specs.Option.{option_map_or}
@@ -15,17 +15,16 @@ use Rattle.cell_spec.specs.Names.{name_order, same_name, same_subject}
 use Rattle.cell_spec.proofs.Orders.{names_tie, same_from_either, total_names}
 use Rattle.geometry_spec.specs.Points.{Point}
 use Rattle.rule_spec.specs.Affected.{each_once, pair_of}
-use Rattle.rule_spec.specs.Candidates.{are_candidates, candidates_of, has_oversized, may_touch, segments_named, share_a_tile}
+use Rattle.rule_spec.specs.Candidates.{are_candidates, has_oversized, may_touch, segments_named, share_a_tile}
 use Rattle.rule_spec.specs.declared.line.EdgeLine.{EdgeLine}
 use Rattle.rule_spec.specs.EdgePoints.{edge_line_of, line_of, segments_of}
 use Rattle.rule_spec.specs.Findings.{is_below, is_subject}
 use Rattle.rule_spec.specs.Records.{edge_named, is_chain_part, node_named, the_only}
-use Rattle.answer_laws.proofs.Among.{Among}
+use Rattle.answer_laws.proofs.Among.{Among, picked}
 use Rattle.finding_laws.specs.Tables.{Covering, IsCoveringsOf, mates_in}
 use Rattle.finding_laws.proofs.Listed.{candidate_unlisted}
 use Rattle.finding_laws.proofs.Mates.{mates_are_candidates}
-use Rattle.affected_subjects.specs.Rounds.{add_each, mated}
-use Rattle.affected_subjects.proofs.EachOnce.{added, each_in_turn, is_there, new_ones}
+use Rattle.affected_subjects.specs.NewPairs.{Walked, is_new, new_pairs, pairs_brought, noted, walk_past, with_pairs, with_passed}
 
 -- ---- all of a list
 module _ {X : Type 0} (p : X → Bool) where
@@ -48,7 +47,7 @@ module _ {X : Type 0} (p : X → Bool) where
       let parts = and_parts (p x) (list_all p xs) e in
       kept_by x (filter q xs) (q x) parts.0 (all_filter q xs parts.1)
 
-  all_flat : {Y : Type 0} (gives : Y → List X) → ((y : Y) → list_all p (gives y) ≡ true) → (ys : List Y) → list_all p (flat_map gives ys) ≡ true
+  pub all_flat : {Y : Type 0} (gives : Y → List X) → ((y : Y) → list_all p (gives y) ≡ true) → (ys : List Y) → list_all p (flat_map gives ys) ≡ true
   all_flat gives each [] = refl
   all_flat gives each (y ∷ ys) = all_append (gives y) (flat_map gives ys) (each y) (all_flat gives each ys)
 
@@ -81,7 +80,7 @@ module _ {X : Type 0} (p : X → Bool) where
       failing_end [] back parts.1 ∙ sym (none_left (p x) x (filter (λ y. not (p y)) back) parts.0)
   failing_end (x ∷ front) back all = ap (λ rest. cond (not (p x)) (x ∷ rest) rest) (failing_end front back all)
 
-all_once : (p : Subject → Bool) (ss : List Subject) → list_all p ss ≡ true → list_all p (each_once ss) ≡ true
+pub all_once : (p : Subject → Bool) (ss : List Subject) → list_all p ss ≡ true → list_all p (each_once ss) ≡ true
 all_once p [] e = refl
 all_once p (s ∷ ss) e =
     let parts = and_parts (p s) (list_all p ss) e in
@@ -108,7 +107,7 @@ module _ (a b : RecName) where
   other_by Equal is below apart = cc
   other_by Greater is below apart = ap is_lt (total_names.antisymm b a ∙ ap ordering_reverse is)
 
-  other_below : is_below a b ≡ false → not (same_name a b) ≡ true → is_below b a ≡ true
+  pub other_below : is_below a b ≡ false → not (same_name a b) ≡ true → is_below b a ≡ true
   other_below below apart = other_by (name_order a b) refl below (ap not (names_tie a b ∙ same_from_either b a) ∙ apart)
 
   module _ (c : Cell) where
@@ -131,41 +130,31 @@ module _ (a b : RecName) where
 -- ---- a second round that keeps all mates
 module _ (c : Cell) (before after : List (RecName × Covering)) (covers : IsCoveringsOf c after)
     (kept : (n : RecName) → mates_in after n ≡ mates_in before n) where
-  pairs_known : (n : RecName) → list_all (is_subject c) (map (pair_of n) (mates_in after n)) ≡ true
-  pairs_known n =
-      subst (λ names. list_all (is_subject c) (map (pair_of n) names) ≡ true) (sym (mates_are_candidates c after covers n))
-      (all_map (is_subject c) (pair_of n) (candidates_of c n) (λ m at. candidates_pair n m c (candidate_unlisted c n m at)))
+  pairs_known : (n : RecName) (q : RecName → Bool) (mates : List RecName) → mates_in after n ≡ mates
+      → list_all (is_subject c) (map (pair_of n) (filter q mates)) ≡ true
+  pairs_known n q mates is =
+      all_map (is_subject c) (pair_of n) (filter q mates) (λ m at.
+      candidates_pair n m c (candidate_unlisted c n m
+      (subst (Among m) (sym is ∙ mates_are_candidates c after covers n) (picked q m mates at).among)))
 
-  mated_known : (s : Subject) → list_all (is_subject c) (mated before after s) ≡ true
-  mated_known (Rec n) =
-      all_append (is_subject c) (map (pair_of n) (mates_in before n)) (map (pair_of n) (mates_in after n))
-      (subst (λ names. list_all (is_subject c) (map (pair_of n) names) ≡ true) (kept n) (pairs_known n)) (pairs_known n)
-  mated_known (Side n) = refl
-  mated_known (Pair a b) = refl
-  mated_known (Ident l) = refl
+  past_by : (n : RecName) (w : Walked) (b : Bool) → list_all (is_subject c) w.pairs ≡ true → list_all (is_subject c)
+      (cond b w (with_pairs (noted n w) (pairs_brought (mates_in before n) (mates_in after n) (with_passed n w.passed) n))).pairs ≡ true
+  past_by n w true all = all
+  past_by n w false all =
+      let first = new_pairs (with_passed n w.passed) n [] (mates_in before n) in
+      let then_ = new_pairs (with_passed n w.passed) n (mates_in before n) (mates_in after n) in
+      all_append (is_subject c) w.pairs (first ++ then_) all
+      (all_append (is_subject c) first then_ (pairs_known n (is_new (with_passed n w.passed) []) (mates_in before n) (kept n))
+      (pairs_known n (is_new (with_passed n w.passed) (mates_in before n)) (mates_in after n) refl))
 
-  -- what it adds are subjects of the cell
-  pub added_known : (first there : List Subject)
-      → list_all (is_subject c) (drop (length there) (add_each (mated before after) there first)) ≡ true
-  added_known first there =
-      let more = flat_map (mated before after) first in
-      subst (λ list. list_all (is_subject c) list ≡ true)
-      (sym (ap (drop (length there)) (each_in_turn (mated before after) there first ∙ added there more) ∙ behind there (new_ones there (each_once more))))
-      (all_filter (is_subject c) (λ t. not (is_there t there)) (each_once more)
-      (all_once (is_subject c) more (all_flat (is_subject c) (mated before after) mated_known first)))
-    where
-      behind : (xs ys : List Subject) → drop (length xs) (xs ++ ys) ≡ ys
-      behind [] ys = refl
-      behind (x ∷ xs) ys = behind xs ys
+  past : (w : Walked) (s : Subject) → list_all (is_subject c) w.pairs ≡ true → list_all (is_subject c) (walk_past before after w s).pairs ≡ true
+  past w (Rec n) all = past_by n w (w.passed n) all
+  past w (Side n) all = all
+  past w (Pair a b) all = all
+  past w (Ident l) all = all
 
--- a round adds behind what is there
-pub no_fewer : {Y : Type 0} (gives : Y → List Subject) (there : List Subject) (items : List Y) → length there ≤ length (add_each gives there items)
-no_fewer gives there items =
-    let list = each_in_turn gives there items ∙ added there (flat_map gives items) in
-    let long = length-append there (new_ones there (each_once (flat_map gives items))) in
-    subst (λ xs. length there ≤ length xs) (sym list) (omega (arith, long))
-
--- behind its end a list has nothing
-pub none_behind : (p : Subject → Bool) (xs : List Subject) → list_all p (drop (length xs) xs) ≡ true
-none_behind p [] = refl
-none_behind p (x ∷ xs) = none_behind p xs
+  -- the pairs that a walk finds are subjects of the cell
+  pub found_known : (ss : List Subject) (w : Walked) → list_all (is_subject c) w.pairs ≡ true
+      → list_all (is_subject c) (fold (walk_past before after) w ss).pairs ≡ true
+  found_known [] w all = all
+  found_known (s ∷ ss) w all = found_known ss (walk_past before after w s) (past w s all)

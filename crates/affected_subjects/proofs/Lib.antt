@@ -1,4 +1,8 @@
 pub mod EachOnce
+pub mod Mutual
+pub mod FirstRound
+pub mod NewPairs
+pub mod Passed
 pub mod Considered
 pub mod Vectors
 pub mod Tiles

@@ -1,5 +1,5 @@
 -- What the rounds over an edited cell come to, from what each step says of what it was handed.
-use Rattle.std.proofs.Common.{◌≡◌, List, filter, subst, sym, ◌∙◌}
+use Rattle.std.proofs.Common.{◌≡◌, ◌++◌, List, filter, subst, sym, ◌∙◌}
 use Rattle.std.specs.Prelude.{flat_map, not}
 use Rattle.s57_types.specs.declared.name.RecName.{RecName}
 use Rattle.s57_types.specs.declared.cell.Cell.{Cell}
@@ -14,8 +14,9 @@ use Rattle.answer_laws.specs.EditedAnswers.{FindTheirRecords}
 use Rattle.tile_index.specs.Changes.{after_changes}
 use Rattle.affected_subjects.specs.EditedCells.{changes_to}
 use Rattle.affected_subjects.specs.Laws.{ChangesGiveTheTiles, RoundsAreConsidered}
+use Rattle.affected_subjects.specs.NewPairs.{pairs_found}
 use Rattle.affected_subjects.specs.Reached.{gone_list}
-use Rattle.affected_subjects.specs.Rounds.{add_each, first_of, mated}
+use Rattle.affected_subjects.specs.Rounds.{first_of}
 
 module _ (edits : List Edit) (c d : Cell) (edited : d ≡ apply_edits edits c) (keys : List Key) (touched : keys ≡ touched_keys edits c)
     (reads : List (Subject × List Key)) (tiles after : List (RecName × Covering)) (are : IsReadsOf c reads) (covers : IsCoveringsOf c tiles)
@@ -27,10 +28,10 @@ module _ (edits : List Edit) (c d : Cell) (edited : d ≡ apply_edits edits c) (
       (changes edits c reads tiles found are covers)
 
   pub list_is : ChangesGiveTheTiles → RoundsAreConsidered → FindTheirRecords edits c → (list : List Subject)
-      → list ≡ add_each (mated tiles after) (first_of reads keys) (first_of reads keys) → list ≡ each_once (considered (change_by edits c))
+      → list ≡ first_of reads keys ++ pairs_found tiles after (first_of reads keys) → list ≡ each_once (considered (change_by edits c))
   list_is changes rounds found list looked_at =
       looked_at
-      ∙ (λ i. add_each (mated tiles after) (first_of reads (touched i)) (first_of reads (touched i)))
+      ∙ (λ i. first_of reads (touched i) ++ pairs_found tiles after (first_of reads (touched i)))
       ∙ rounds edits c reads tiles after are covers (tiles_are changes found)
 
 -- what is looked at is put apart by what the edited cell has

@@ -1,5 +1,5 @@
 -- What the two rounds and the changes of tiles come to. This project's own rules.
-use Rattle.std.specs.Prelude.{◌≡◌, List, flat_map}
+use Rattle.std.specs.Prelude.{◌≡◌, ◌++◌, List, flat_map}
 use Rattle.s57_types.specs.declared.name.RecName.{RecName}
 use Rattle.s57_types.specs.declared.cell.Cell.{Cell}
 use Rattle.cell_spec.specs.declared.edit.Edit.{Edit}
@@ -11,7 +11,8 @@ use Rattle.finding_laws.specs.Tables.{Covering, IsCoveringsOf, IsReadsOf}
 use Rattle.answer_laws.specs.EditedAnswers.{FindTheirRecords}
 use Rattle.tile_index.specs.Changes.{after_changes}
 use Rattle.affected_subjects.specs.EditedCells.{changes_to}
-use Rattle.affected_subjects.specs.Rounds.{add_each, first_of, mated}
+use Rattle.affected_subjects.specs.NewPairs.{pairs_found}
+use Rattle.affected_subjects.specs.Rounds.{first_of}
 
 -- the changes of the nodes and edges of the first round make of a cell's tiles those of the edited cell
 abbrev pub ChangesGiveTheTiles : Type 0
@@ -23,5 +24,5 @@ ChangesGiveTheTiles = (edits : List Edit) (c : Cell) (reads : List (Subject × L
 abbrev pub RoundsAreConsidered : Type 0
 RoundsAreConsidered = (edits : List Edit) (c : Cell) (reads : List (Subject × List Key)) (before after : List (RecName × Covering))
     → IsReadsOf c reads → IsCoveringsOf c before → IsCoveringsOf (apply_edits edits c) after
-    → add_each (mated before after) (first_of reads (touched_keys edits c)) (first_of reads (touched_keys edits c))
+    → first_of reads (touched_keys edits c) ++ pairs_found before after (first_of reads (touched_keys edits c))
     ≡ each_once (considered (change_by edits c))

@@ -1,4 +1,5 @@
 pub mod Reached
 pub mod Rounds
+pub mod NewPairs
 pub mod EditedCells
 pub mod Laws

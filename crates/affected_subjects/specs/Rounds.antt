@@ -1,13 +1,11 @@
--- The two rounds in which subjects are looked at, from the tables of a cell. This project's own rules.
-use Rattle.std.specs.Prelude.{List, [], ◌∷◌, ◌++◌, fold, map, if◌then◌else◌}
+-- The first of the two rounds in which subjects are looked at, from the tables of a cell. This project's own rules.
+use Rattle.std.specs.Prelude.{List, [], ◌∷◌, ◌++◌, fold, if◌then◌else◌}
 use Rattle.std.specs.List.{list_any}
-use Rattle.s57_types.specs.declared.name.RecName.{RecName}
 use Rattle.cell_spec.specs.declared.key.Key.{Key}
 use Rattle.cell_spec.specs.declared.key.Subject.{Subject}
-use Rattle.cell_spec.specs.declared.key.Subject.TheVariants.{Rec, Side, Pair, Ident}
 use Rattle.cell_spec.specs.Names.{same_subject}
-use Rattle.rule_spec.specs.Affected.{named_by, pair_of}
-use Rattle.finding_laws.specs.Tables.{Covering, mates_in, readers_in}
+use Rattle.rule_spec.specs.Affected.{named_by}
+use Rattle.finding_laws.specs.Tables.{readers_in}
 
 -- some subjects, and behind them another one, unless it is there
 abbrev pub add_one : List Subject → Subject → List Subject
@@ -28,14 +26,3 @@ looked_at reads k = readers_in reads k ++ named_by k
 -- the first round, each subject once
 abbrev pub first_of : List (Subject × List Key) → List Key → List Subject
 first_of reads keys = add_each (looked_at reads) [] keys
-
--- the pairs of a record with others, behind what is there
-abbrev pub add_pairs : RecName → List Subject → List RecName → List Subject
-add_pairs n there others = fold (λ now m. add_one now (pair_of n m)) there others
-
--- the pairs of a record with its mates before, then with those after
-abbrev pub mated : List (RecName × Covering) → List (RecName × Covering) → Subject → List Subject
-mated before after (Rec n) = map (pair_of n) (mates_in before n) ++ map (pair_of n) (mates_in after n)
-mated before after (Side n) = []
-mated before after (Pair a b) = []
-mated before after (Ident l) = []

@@ -100,13 +100,6 @@ impl Considered {
         Ok(())
     }
 
-    /// How many subjects there are.
-    pub(crate) fn len(&self) -> usize
-        ensures { result ≡ length self.now }
-    {
-        self.list.len()
-    }
-
     /// The subjects.
     pub(crate) fn as_slice(&self) -> &[Subject]
         ensures { result.now ≡ self.now }

@@ -1,15 +1,18 @@
 //! What edits reach.
 
-ghost use Rattle.std.specs.Prelude.{◌≡◌, ◌+◌, ◌≤◌, ◌<◌, IfOk, drop, filter, flat_map, length, not, true};
+ghost use Rattle.std.specs.Prelude.{◌≡◌, ◌+◌, ◌++◌, ◌≤◌, ◌<◌, IfOk, OnOk, filter, flat_map, length, not, true};
 ghost use Rattle.std.specs.List.{list_all};
 ghost use Rattle.cell_spec.specs.Edits.{apply_edits, find_their_records, touched_keys};
+ghost use Rattle.cell_spec.specs.Names.{name_order};
 ghost use Rattle.rule_spec.specs.Affected.{affected_list, change_by};
 ghost use Rattle.rule_spec.specs.Findings.{is_subject};
+ghost use Rattle.row_spec.specs.Rows.{IsAscending};
 ghost use Rattle.finding_laws.specs.Tables.{IsCoveringsOf, IsReadsOf};
 ghost use Rattle.tile_index.specs.Changes.{after_changes};
 ghost use Rattle.affected_subjects.specs.EditedCells.{changes_to};
+ghost use Rattle.affected_subjects.specs.NewPairs.{pairs_found};
 ghost use Rattle.affected_subjects.specs.Reached.{gone_list};
-ghost use Rattle.affected_subjects.specs.Rounds.{add_each, first_of, mated};
+ghost use Rattle.affected_subjects.specs.Rounds.{first_of};
 
 use crate::changes::tile_changes;
 use crate::edited::Edited;
@@ -48,9 +51,10 @@ pub struct Reach {
 #[derive(Drop)]
 struct Rounds {
     tiles: TilePlan,
-    considered: Considered,
-    // What is considered from this place on is known to be of the edited cell.
-    known_from: usize,
+    first: Considered,
+    pairs: Vec<Subject>,
+    // Whether each pair is known to be one of nodes and edges of the edited cell.
+    pairs_stay: bool,
 }
 
 // Both rounds from touched keys.
@@ -61,74 +65,68 @@ fn both_rounds(
     edited: &Edited<'_>,
     keys: &[Key],
 ) -> Result<Rounds, AllocError>
+    requires rows { IsAscending name_order tiles.now }
     ensures tiles { IfOk result (λ rounds. rounds.tiles ≡ after_changes tiles.now (flat_map (changes_to edited.now) (first_of map.now keys.now))) }
-    ensures considered { IfOk result (λ rounds. rounds.considered
-        ≡ add_each (mated tiles.now rounds.tiles) (first_of map.now keys.now) (first_of map.now keys.now)) }
-    ensures within { IfOk result (λ rounds. rounds.known_from ≤ length rounds.considered) }
-    ensures known { IfOk result (λ rounds. IsCoveringsOf edited.now rounds.tiles
-        → list_all (is_subject edited.now) (drop rounds.known_from rounds.considered) ≡ true) }
+    ensures first { IfOk result (λ rounds. rounds.first ≡ first_of map.now keys.now) }
+    ensures pairs { IfOk result (λ rounds. rounds.pairs.items ≡ pairs_found tiles.now rounds.tiles (first_of map.now keys.now)) }
+    ensures known { IfOk result (λ rounds. IsCoveringsOf edited.now rounds.tiles → rounds.pairs_stay ≡ true
+        → list_all (is_subject edited.now) rounds.pairs.items ≡ true) }
 {
-    let mut considered = first_round(alloc, map, keys)?;
-    let first = Subjects::copy_of(alloc, considered.as_slice())?;
+    let first = first_round(alloc, map, keys)?;
     let changes = tile_changes(alloc, edited, first.as_slice())?;
     let noted = tiles.plan_noting_mates(alloc, &changes)?;
-    second_round(alloc, &mut considered, first.as_slice(), tiles, &noted)?;
-    // Where no mate is lost, each pair is one of nodes and edges of the edited cell.
-    let known_from = if noted.keeps_mates {
-        first.len()
-    } else {
-        considered.len()
-    };
+    let pairs = second_round(alloc, first.as_slice(), tiles, &noted)?;
     Ok(Rounds {
         tiles: noted.plan,
-        considered,
-        known_from,
+        first,
+        pairs,
+        // Where no mate is lost.
+        pairs_stay: noted.keeps_mates,
     })
 }
 
-// What is looked at, in two parts.
+// What is looked at, in two parts: the subjects that the edited cell has, and the others.
 #[derive(Drop)]
 struct Parts {
-    judged: Subjects,
-    gone: Subjects,
+    judged: Vec<Subject>,
+    gone: Vec<Subject>,
 }
 
-// The subjects that the edited cell has, in a list with room for so many, and the others.
-fn asked(
-    alloc: Global,
-    edited: &Edited<'_>,
-    subjects: &[Subject],
-    room: usize,
-) -> Result<(Vec<Subject>, Vec<Subject>), AllocError>
-    ensures judged { IfOk result (λ parts. parts.0.items ≡ filter (is_subject edited.now) subjects.now) }
-    ensures gone { IfOk result (λ parts. parts.1.items ≡ filter (λ s. not (is_subject edited.now s)) subjects.now) }
-{
-    let mut judged = Vec::with_capacity(alloc, room)?;
-    let mut gone = Vec::new(alloc);
-    for subject in subjects {
-        if edited.has(*subject) {
-            judged.push(*subject)?;
-        } else {
-            gone.push(*subject)?;
+impl Parts {
+    // Puts each of some subjects behind those of its part.
+    fn ask(&mut self, edited: &Edited<'_>, subjects: &[Subject]) -> Result<(), AllocError>
+        ensures judged { OnOk result (self.new.judged.items ≡ self.old.judged.items ++ filter (is_subject edited.now) subjects.now) }
+        ensures gone { OnOk result (self.new.gone.items ≡ self.old.gone.items ++ filter (λ s. not (is_subject edited.now s)) subjects.now) }
+    {
+        for subject in subjects {
+            if edited.has(*subject) {
+                self.judged.push(*subject)?;
+            } else {
+                self.gone.push(*subject)?;
+            }
         }
+        Ok(())
     }
-    Ok((judged, gone))
 }
 
 // Puts the subjects that the edited cell has apart from the others, without asking for what is known.
 fn split(alloc: Global, edited: &Edited<'_>, rounds: &Rounds) -> Result<Parts, AllocError>
-    requires within { rounds.now.known_from ≤ length rounds.now.considered }
-    requires known { list_all (is_subject edited.now) (drop rounds.now.known_from rounds.now.considered) ≡ true }
-    ensures judged { IfOk result (λ parts. parts.judged ≡ filter (is_subject edited.now) rounds.now.considered) }
-    ensures gone { IfOk result (λ parts. parts.gone ≡ filter (λ s. not (is_subject edited.now s)) rounds.now.considered) }
+    requires { rounds.now.pairs_stay ≡ true → list_all (is_subject edited.now) rounds.now.pairs.items ≡ true }
+    ensures judged { IfOk result (λ parts. parts.judged.items ≡ filter (is_subject edited.now) (rounds.now.first ++ rounds.now.pairs.items)) }
+    ensures gone { IfOk result (λ parts. parts.gone.items ≡ filter (λ s. not (is_subject edited.now s)) (rounds.now.first ++ rounds.now.pairs.items)) }
 {
-    let (unknown, known) = rounds.considered.as_slice().split_at(rounds.known_from);
-    let (mut judged, gone) = asked(alloc, edited, unknown, rounds.considered.len())?;
-    judged.extend_from_slice(known)?;
-    Ok(Parts {
-        judged: Items::of_vec(judged),
-        gone: Items::of_vec(gone),
-    })
+    let first = rounds.first.as_slice();
+    let mut parts = Parts {
+        judged: Vec::with_capacity(alloc, first.len())?,
+        gone: Vec::new(alloc),
+    };
+    parts.ask(edited, first)?;
+    if rounds.pairs_stay {
+        parts.judged.extend_from_slice(&rounds.pairs)?;
+        return Ok(parts);
+    }
+    parts.ask(edited, &rounds.pairs)?;
+    Ok(parts)
 }
 
 /// What edits reach. It looks up the name of each edit, and the bearers of each touched identifier: at most as often as there are edits
@@ -167,8 +165,8 @@ pub fn reach_of<L: Ledger>(
     Ok(Reach {
         touched,
         tiles: rounds.tiles,
-        judged: parts.judged,
-        gone: parts.gone,
+        judged: Items::of_vec(parts.judged),
+        gone: Items::of_vec(parts.gone),
     })
 }
 

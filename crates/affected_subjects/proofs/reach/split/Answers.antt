@@ -1,28 +1,30 @@
-use Rattle.std.proofs.Common.{◌++◌, drop, filter, not, take, take-append-drop, ap, ◌∙◌}
+use Rattle.std.proofs.Common.{◌++◌, filter, ◌∙◌, sym}
+use Rattle.std.specs.Prelude.{not}
+use Rattle.std.proofs.lemmas.List.Elements.{filter-append}
 use Rattle.cell_spec.specs.declared.key.Subject.{Subject}
 use Rattle.rule_spec.specs.Findings.{is_subject}
 use Rattle.affected_subjects.proofs.Known.{failing_end, passing_end}
 use Rattle.affected_subjects.proofs.reach.split.Goals as goal
 
-pub returns-clause-judged : goal.returns-clause-judged
-returns-clause-judged c =
+pub returns-then-rounds-clause-judged : goal.returns-then-rounds-clause-judged
+returns-then-rounds-clause-judged c =
     let has = is_subject c.args.edited.now in
-    let all = c.args.rounds.now.considered in
-    let k = c.args.rounds.now.known_from in
-    let front = c.split_at.ensures.front ∙ ap (take k) c.as_slice.ensures in
-    let back = c.split_at.ensures.back ∙ ap (drop k) c.as_slice.ensures in
-    c.of_vec.ensures ∙ c.in_ok-extend_from_slice.ensures.items
-    ∙ (λ i. (c.in_ok-judged.ensures.judged ∙ ap (filter has) front) i ++ back i)
-    ∙ passing_end has (take k all) (drop k all) c.requires.known
-    ∙ ap (filter has) (take-append-drop k all)
+    let first = c.in_ok-ask.ensures.judged ∙ (λ i. c.in_ok-with_capacity.ensures.items i ++ filter has (c.as_slice-first.ensures i)) in
+    c.in_ok-extend_from_slice.ensures.items
+    ∙ (λ i. first i ++ c.deref.ensures.value i)
+    ∙ passing_end has c.args.rounds.now.first c.args.rounds.now.pairs.items (c.requires c.if-rounds.true)
+
+pub returns-then-rounds-clause-gone : goal.returns-then-rounds-clause-gone
+returns-then-rounds-clause-gone c =
+    let has = is_subject c.args.edited.now in
+    c.in_ok-ask.ensures.gone
+    ∙ (λ i. c.new.ensures.items i ++ filter (λ (s : Subject). not (has s)) (c.as_slice-first.ensures i))
+    ∙ failing_end has c.args.rounds.now.first c.args.rounds.now.pairs.items (c.requires c.if-rounds.true)
 
 pub returns-clause-gone : goal.returns-clause-gone
 returns-clause-gone c =
-    let has = is_subject c.args.edited.now in
-    let all = c.args.rounds.now.considered in
-    let k = c.args.rounds.now.known_from in
-    let lacks = λ (s : Subject). not (has s) in
-    c.of_vec-2.ensures ∙ c.in_ok-judged.ensures.gone
-    ∙ ap (filter lacks) (c.split_at.ensures.front ∙ ap (take k) c.as_slice.ensures)
-    ∙ failing_end has (take k all) (drop k all) c.requires.known
-    ∙ ap (filter lacks) (take-append-drop k all)
+    let lacks = λ (s : Subject). not (is_subject c.args.edited.now s) in
+    let first = c.in_ok-ask.ensures.gone ∙ (λ i. c.new.ensures.items i ++ filter lacks (c.as_slice-first.ensures i)) in
+    c.in_ok-ask-2.ensures.gone
+    ∙ (λ i. first i ++ filter lacks (c.deref-2.ensures.value i))
+    ∙ sym (filter-append lacks c.args.rounds.now.first c.args.rounds.now.pairs.items)
