@@ -106,7 +106,7 @@ impl Session {
     fn do_next(&mut self, alloc: Global, bench: &Bench, base: u32) -> Result<Stop, AllocError>
         ensures script { self.new.script ≡ self.old.script }
         ensures served { StaysServed base bench.now self.old self.new }
-        ensures further { DoesAlone base bench.now self.old self.new }
+        ensures alone { DoesAlone base bench.now self.old self.new }
         ensures stops { IfOk result (Stops self.old self.new) }
     {
         a_session_goes_on();
@@ -140,7 +140,7 @@ impl Session {
     ) -> Result<Option<Shared>, AllocError>
         ensures script { self.new.script ≡ self.old.script }
         ensures served { StaysServed base bench.now self.old self.new }
-        ensures further { DoesAlone base bench.now self.old self.new }
+        ensures alone { DoesAlone base bench.now self.old self.new }
         ensures next { IfOk result (IsNext self.new) }
     {
         let mut stop = self.do_next(alloc, bench, base)?;

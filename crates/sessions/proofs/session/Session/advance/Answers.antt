@@ -15,11 +15,11 @@ loop-stop-preserved c =
     record {
       script = step.script ∙ so_far.script;
       served = λ cell seen entries served same. step.served cell seen entries (so_far.served cell seen entries served same) same;
-      further = more_alone c.args.base c.args.bench.now c.args.self.now c.loop-stop.self c.do_next-in-Local.new.self so_far.further step.further;
+      alone = more_alone c.args.base c.args.bench.now c.args.self.now c.loop-stop.self c.do_next-in-Local.new.self so_far.alone step.alone;
       at = stands_at c.loop-stop.self c.do_next-in-Local.new.self c.in_ok-stop-2.stop step.stops;
     }
 
-pub returns-in_err-stop-2-clause-further : goal.returns-in_err-stop-2-clause-further
-returns-in_err-stop-2-clause-further c =
-    more_alone c.args.base c.args.bench.now c.args.self.now c.loop-stop.self c.do_next-in-Local.new.self c.loop-stop.invariant.further
-    c.in_err-stop-2.ensures.further
+pub returns-in_err-stop-2-clause-alone : goal.returns-in_err-stop-2-clause-alone
+returns-in_err-stop-2-clause-alone c =
+    more_alone c.args.base c.args.bench.now c.args.self.now c.loop-stop.self c.do_next-in-Local.new.self c.loop-stop.invariant.alone
+    c.in_err-stop-2.ensures.alone

@@ -7,7 +7,7 @@ abbrev pub invariant-loop-stop : goal.invariant-loop-stop
 invariant-loop-stop l = record {
   script : l.self.script ≡ l.fn.self.script;
   served : StaysServed l.base l.bench l.fn.self l.self;
-  further : DoesAlone l.base l.bench l.fn.self l.self;
+  alone : DoesAlone l.base l.bench l.fn.self l.self;
   at : IsAt l.self l.stop;
 }
 

@@ -11,8 +11,8 @@ returns-in-Some-shared_of-clause-stops c =
     (ap (λ (s : SessionState). s.script) (sym c.self.view_is)) (ap (λ (s : SessionState). s.done) (sym c.self.view_is)) c.commands.ensures
     c.in-Some.ensures.lookup.3.0 c.in-Some.ensures.lookup.1 c.in-Some-shared_of.ensures
 
-pub returns-clause-further : goal.returns-clause-further
-returns-clause-further c =
+pub returns-clause-alone : goal.returns-clause-alone
+returns-clause-alone c =
     let s = c.args.self.now in
     let inside = c.self.inside in
     let is = c.self.view_is in
