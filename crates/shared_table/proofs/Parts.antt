@@ -1,7 +1,7 @@
 -- Parts of a table one after another: where a key goes, and what a change of one part makes of all rows.
 use Rattle.std.proofs.Common.{◌≡◌, ℕ, zero, suc, ◌+◌, ◌-◌, ◌<◌, ◌≤◌, List, [], ◌∷◌, ◌++◌, length, get_or, set, insert, remove, take, drop, refl, sym, ap}
-use Rattle.std.proofs.Common.{subst, ◌∙◌, arith, Ordering, Less, Equal, Greater, is_gt, is_lt, is_le, Bool, true, false, cond, All, append_assoc, take-append-drop}
-use Rattle.std.proofs.Common.{length-take, length-append}
+use Rattle.std.proofs.Common.{subst, ◌∙◌, arith, Ordering, Less, Equal, Greater, is_gt, is_le, Bool, true, false, cond, All, append_assoc, take-append-drop}
+use Rattle.std.proofs.Common.{length-take, length-append, is_lt}
 use Rattle.std.specs.Cmp.{IsTotalOrder}
 use Rattle.std.specs.Ordering.{ordering_reverse}
 use Rattle.std.specs.List.{HoldsAt}

@@ -10,7 +10,8 @@ use Rattle.near_records.proofs.near.find_answer.Goals as goal
 pub returns-in-Ok : goal.returns-in-Ok
 returns-in-Ok c = λ cell keys all asked.
     let ties = c.in-Ok.ensures.position (λ a. key_order a.key c.args.key) (always_returns_same _ _ _ (λ a r after called. search rules)) in
-    ap Some (answer_there cell keys c.args.answers.now all c.args.key c.in-Ok.k c.index-answers-k.result c.in-Ok.ensures.bound c.index-answers-k.is (ties c.index-answers-k.result))
+    ap Some (answer_there cell keys c.args.answers.now all c.args.key c.in-Ok.k c.index-answers-k.result
+    c.in-Ok.ensures.bound c.index-answers-k.is (ties c.index-answers-k.result))
 
 pub returns-in-Err : goal.returns-in-Err
 returns-in-Err c = λ cell keys all asked.
