@@ -12,6 +12,7 @@ pub mod NearNames
 pub mod LeafPairs
 pub mod Cutting
 pub mod Collected
+pub mod FoundParts
 pub mod Unnamed
 pub mod SegmentsAt
 pub mod Coverings

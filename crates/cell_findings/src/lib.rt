@@ -4,6 +4,7 @@
 mod block;
 mod each;
 mod findings;
+mod found_parts;
 mod gather;
 mod list;
 mod names;

@@ -1,6 +1,6 @@
 //! Connected nodes and edges with the boxes around them.
 
-ghost use Rattle.std.specs.Prelude.{◌≡◌, ◌≤◌, ◌+◌, ◌++◌, All, IfOk, IfSome, IsPermutation, IsTrue, OnOk};
+ghost use Rattle.std.specs.Prelude.{◌≡◌, ◌≤◌, ◌+◌, ◌++◌, [], All, IfOk, IfSome, IsPermutation, IsTrue, OnOk};
 ghost use Rattle.s57_types.specs.declared.cell.Cell.{Cell as SpecCell};
 ghost use Rattle.s57_types.specs.declared.name.RecName.{RecName as SpecRecName};
 ghost use Rattle.check_pairs.specs.Parts.{IsPart};
@@ -66,7 +66,7 @@ impl<'a> Drop for PlacedParts<'a> {
 }
 
 fn push_leaf(leaves: &mut Vec<Leaf>, part: &ChainPart) -> Result<(), AllocError>
-    ensures { (c : SpecCell) → IsPart c part.now → OnOk result (leaves.new.items ≡ leaves.old.items ++ leaves_at c part.now.name) }
+    ensures { OnOk result ((c : SpecCell) → IsPart c part.now → leaves.new.items ≡ leaves.old.items ++ leaves_at c part.now.name) }
 {
     if let Some(around) = part.extent() {
         leaves.push(Leaf {
@@ -75,6 +75,37 @@ fn push_leaf(leaves: &mut Vec<Leaf>, part: &ChainPart) -> Result<(), AllocError>
         })?;
     }
     Ok(())
+}
+
+impl<'a> PlacedParts<'a> {
+    /// No parts, with the memory for so many boxes.
+    ///
+    /// An `Err` means out of memory.
+    pub(crate) fn with_capacity(alloc: Global, count: usize) -> Result<PlacedParts<'a>, AllocError>
+        ensures nodes { IfOk result (λ placed. placed.nodes.items ≡ []) }
+        ensures edges { IfOk result (λ placed. placed.edges.items ≡ []) }
+        ensures leaves { IfOk result (λ placed. placed.leaves.items ≡ []) }
+    {
+        Ok(PlacedParts {
+            nodes: Vec::new(alloc),
+            edges: Vec::new(alloc),
+            leaves: Vec::with_capacity(alloc, count)?,
+        })
+    }
+
+    /// Appends a connected node or an edge, and the box around it.
+    pub(crate) fn push(&mut self, part: ChainPart<'a>) -> Result<(), AllocError>
+        ensures parts { OnOk result ((c : SpecCell) → IsPart c part.entry → AreParts c self.old → AreParts c self.new) }
+        ensures leaves { OnOk result ((c : SpecCell) → IsPart c part.entry → self.new.leaves.items ≡ self.old.leaves.items ++ leaves_at c part.entry.name) }
+    {
+        push_leaf(&mut self.leaves, &part)?;
+        if is_edge_name(part.name()) {
+            self.edges.push(part)?;
+            return Ok(());
+        }
+        self.nodes.push(part)?;
+        Ok(())
+    }
 }
 
 /// Appends the connected node or the edge of a name, which is looked up, and the box around it.
@@ -91,12 +122,7 @@ fn push_part<'a, L: Ledger>(
     ensures leaves { OnOk result (placed.new.leaves.items ≡ placed.old.leaves.items ++ leaves_at look.now name) }
 {
     let part = ChainPart::find(alloc, look, name, steps)?;
-    push_leaf(&mut placed.leaves, &part)?;
-    if is_edge_name(name) {
-        placed.edges.push(part)?;
-        return Ok(());
-    }
-    placed.nodes.push(part)?;
+    placed.push(part)?;
     Ok(())
 }
 
@@ -111,11 +137,7 @@ pub(crate) fn parts_of<'a, L: Ledger>(
     ensures parts { IfOk result (AreParts look.now) }
     ensures leaves { IfOk result (λ placed. placed.leaves.items ≡ leaves_in look.now names.now) }
 {
-    let mut placed = PlacedParts {
-        nodes: Vec::new(alloc),
-        edges: Vec::new(alloc),
-        leaves: Vec::with_capacity(alloc, names.len())?,
-    };
+    let mut placed = PlacedParts::with_capacity(alloc, names.len())?;
     for name in names {
         push_part(alloc, &mut placed, look, *name, steps)?;
     }

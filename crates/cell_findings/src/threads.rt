@@ -12,9 +12,9 @@ ghost use Rattle.cell_findings.specs.Parts.{AreParts};
 use crate::block::{Block, Judged};
 use crate::each::each_in_threads;
 use crate::findings::find_all;
+use crate::found_parts::find_parts;
 use crate::list::{Findings, SubjectFinding};
 use crate::names::{edge_names, identities_in, names_in, part_names};
-use crate::part::parts_of;
 use crate::refusal::LoadRefusal;
 use crate::search::Search;
 use chain_topo::{ListLook, Steps};
@@ -122,12 +122,12 @@ fn judge_blocks<R: Threads + Sync>(
     Ok(parts)
 }
 
-/// What is judged of a cell.
-fn judged_of<'a, L: Ledger>(
+/// What is judged of a cell, of which threads share the looking up of connected nodes and edges.
+fn judged_of<'a, R: Threads + Sync>(
+    rt: &R,
     alloc: Global,
     cell: &Cell,
     look: &'a ListLook,
-    steps: &mut Steps<L>,
 ) -> Result<Judged<'a>, AllocError>
     requires writable { IsWritable cell.now }
     requires same { look.now ≡ cell.now }
@@ -139,7 +139,7 @@ fn judged_of<'a, L: Ledger>(
     let listed = names.as_slice();
     let edges = edge_names(alloc, listed)?;
     let parts = part_names(alloc, listed)?;
-    let placed = parts_of(alloc, look, &parts, steps)?;
+    let placed = find_parts(rt, alloc, look, &parts)?;
     let tree = placed.tree(alloc)?;
     Ok(Judged {
         names,
@@ -151,23 +151,18 @@ fn judged_of<'a, L: Ledger>(
 }
 
 /// The findings about a cell's judged subjects, block by block.
-fn judged_by<R: Threads + Sync, L: Ledger>(
+fn judged_by<R: Threads + Sync>(
     rt: &R,
     alloc: Global,
     cell: &Cell,
     limit: usize,
-    blank: Blank,
 ) -> Result<Vec<Findings>, LoadRefusal>
-    requires writable { IsWritable cell.now }
-    requires name { blank.name ≡ L.name }
-    requires parts { blank.parts ≡ L.parts }
-    requires some_part { 0 < L.parts }
+    requires { IsWritable cell.now }
     ensures { IfOk result (λ parts. flat_map (λ part. part) parts.items ≡ flat_map (subject_findings cell.now) (judged_subjects cell.now)) }
 {
     apart_pairs_are_clean();
-    let mut steps = start_counter::<L>(blank);
     let look = ListLook::make(alloc, cell)?;
-    let judged = judged_of(alloc, cell, &look, &mut steps)?;
+    let judged = judged_of(rt, alloc, cell, &look)?;
     let blocks = judged.blocks(alloc)?;
     let parts = judge_blocks(rt, alloc, &look, &judged, &blocks, limit / SHARES)?;
     Ok(parts)
@@ -228,7 +223,7 @@ pub fn find_all_in_threads<R: Threads + Sync>(
     requires writable { IsWritable cell.now }
     ensures { MatchResult result (IsAllOf cell.now limit) (IsFindingRefusal cell.now limit) }
 {
-    match judged_by::<R, Brand>(rt, alloc, cell, limit, Blank::new(1)) {
+    match judged_by(rt, alloc, cell, limit) {
         Ok(parts) => joined(alloc, &parts, limit),
         Err(_) => find_alone::<Brand>(alloc, cell, limit, Blank::new(1)),
     }

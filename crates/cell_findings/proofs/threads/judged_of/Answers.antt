@@ -6,8 +6,8 @@ use Rattle.cell_findings.specs.Near.{leaves_in}
 use Rattle.cell_findings.proofs.Judged.{parts_are_chained}
 use Rattle.cell_findings.proofs.threads.judged_of.Goals as goal
 
-pub parts_of-requires : goal.parts_of-requires
-parts_of-requires g c =
+pub find_parts-requires-clause-names : goal.find_parts-requires-clause-names
+find_parts-requires-clause-names g c = λ κs lives.
     subst (All (λ n. IsTrue (is_chain_part c.args.look.now n)))
     (sym (c.deref.ensures.value ∙ c.in_ok-parts.ensures ∙ ap (filter is_part_name) (c.as_slice-listed.ensures ∙ c.in_ok-names.ensures)))
     (subst (λ cell. All (λ n. IsTrue (is_chain_part cell n)) (filter is_part_name (names_in c.args.cell.now))) (sym c.requires.same)
