@@ -1,5 +1,5 @@
 -- How many numbers and tiles there are, and one more of them.
-use Rattle.std.proofs.Common.{◌≡◌, ◌&&◌, ◌||◌, ℕ, ◌+◌, Bool, false, sym, ap, ◌∙◌, arith, ℤ, is_eq, min}
+use Rattle.std.proofs.Common.{◌≡◌, ◌&&◌, ◌||◌, ℕ, Bool, false, sym, ap, ◌∙◌, arith, ℤ, is_eq, min}
 use Rattle.std.specs.Prelude.{int_le, int_lt, nat_lt, pos, ◌+ℤ◌, ◌≤ℤ◌}
 use Rattle.std.specs.Ordering.{int_cmp}
 use Rattle.std.proofs.Math.Bool.{and-false, and-or_distrib_left, and-or_distrib_right, or-false, or_assoc}
