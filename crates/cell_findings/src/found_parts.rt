@@ -19,7 +19,7 @@ use std::marker::Brand;
 use std::sync::ledger::{Blank, Ledger};
 use std::thread::Threads;
 
-/// The fewest names for which a thread is started: a part is found in about a microsecond.
+/// The fewest names for which a thread is started, so that a small cell starts none.
 const FEWEST: usize = 64;
 
 /// The part of a name, with the look-ups counted.

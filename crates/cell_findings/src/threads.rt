@@ -55,7 +55,7 @@ fn push_block<L: Ledger>(
     }
 }
 
-/// The findings about a block, with the look-ups counted.
+/// The findings about a block, with the look-ups of its pairs counted.
 fn counted<L: Ledger>(
     alloc: Global,
     look: &ListLook,
