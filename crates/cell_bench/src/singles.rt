@@ -49,6 +49,18 @@ fn key_of(subject: Subject) -> Key {
     }
 }
 
+// The records of a cell, the sides of its edges and the identifiers of its features, as they stand in its lists.
+fn singles_listed(alloc: Global, cell: &Cell) -> Result<Vec<Subject>, AllocError>
+    ensures { IfOk result (λ subjects. subjects.items ≡ singles_in cell.now) }
+{
+    let mut subjects = Vec::new(alloc);
+    push_all(&mut subjects, cell.vi.as_slice())?;
+    push_all(&mut subjects, cell.vc.as_slice())?;
+    push_all(&mut subjects, cell.ve.as_slice())?;
+    push_all(&mut subjects, cell.fe.as_slice())?;
+    Ok(subjects)
+}
+
 /// The records of a cell, the sides of its edges and the identifiers of its features, ascending, each once. They are put in likely order
 /// before they are sorted.
 ///
@@ -57,17 +69,12 @@ pub fn singles_of(alloc: Global, cell: &Cell) -> Result<Vec<Subject>, AllocError
     ensures { IfOk result (λ subjects. subjects.items ≡ ascending subject_order (singles_in cell.now)) }
 {
     orders_are_by_parts();
-    let mut subjects = Vec::new(alloc);
-    push_all(&mut subjects, cell.vi.as_slice())?;
-    push_all(&mut subjects, cell.vc.as_slice())?;
-    push_all(&mut subjects, cell.ve.as_slice())?;
-    push_all(&mut subjects, cell.fe.as_slice())?;
+    let subjects = singles_listed(alloc, cell)?;
     let keys: Vec<Key> = subjects
         .iter()
         .map(|subject| key_of(*subject))
         .collect(alloc)?;
-    let subjects = distinct_by_keys(alloc, subjects, &keys)?;
-    Ok(subjects)
+    Ok(distinct_by_keys(alloc, subjects, &keys)?)
 }
 
 /// A record, a side, an identifier, or a pair of the cell, with its read set. It looks up at most four times as often as that has keys.
