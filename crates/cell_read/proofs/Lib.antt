@@ -7,3 +7,4 @@ pub mod ListedRecords
 pub mod NameKeys
 pub mod RecordSteps
 pub mod ValueSteps
+pub mod Windows

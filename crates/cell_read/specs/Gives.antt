@@ -1,10 +1,13 @@
 -- What a reader of a record answers.
-use Rattle.std.specs.Prelude.{◌≡◌, ℕ, Bool, false, List, length, Option, Some, Result, Ok, Err}
+use Rattle.std.specs.Prelude.{◌≡◌, ◌≤◌, ℕ, Bool, false, List, length, Option, Some, Result, Ok, Err}
 use Rattle.s57_fields.specs.declared.refusal.FieldRefusal.{FieldRefusal}
 use Rattle.s57_fields.specs.declared.refusal.FieldRefusal.TheVariants as field
+use Rattle.s57_types.specs.declared.cell.Cell.{Cell}
 use Rattle.s57_types.specs.declared.fault.CellFault.{CellFault}
+use Rattle.s57_types.specs.declared.head.Head.{Head}
 use Rattle.frame_spec.specs.RecordFrame.{Field}
-use Rattle.file_spec.specs.DecodedCell.{said_by_next}
+use Rattle.file_spec.specs.CellRecords.{empty_cell}
+use Rattle.file_spec.specs.DecodedCell.{said_by_next, with_following}
 use Rattle.file_spec.specs.FileRecords.{records_after}
 use Rattle.file_spec.specs.RecordFaults.{fault_at}
 use Rattle.file_spec.specs.declared.fault.RecordFault.{RecordFault}
@@ -36,6 +39,11 @@ abbrev pub GivesCell : {X : Type 0} → Result X ReadRefusal → Result X CellFa
 GivesCell (Ok x) defined = defined ≡ Ok x
 GivesCell (Err (read.Fault fault)) defined = defined ≡ Err fault
 GivesCell (Err read.NoMemory) defined = Unit {0}
+
+-- the head of a cell and the place behind the head records, or the first fault of its file, unless memory ran out
+abbrev pub GivesStart : List ℕ → Result (Head × ℕ) ReadRefusal → Result Cell CellFault → Type 0
+GivesStart b (Ok x) defined = (defined ≡ with_following 4 (empty_cell x.0) (records_after b x.1 false)) × (x.1 ≤ length b)
+GivesStart b (Err refusal) defined = GivesCell {X = Cell} (Err refusal) defined
 
 -- the refusal of the record of a number, which begins at an offset
 abbrev pub refusal_at : ℕ → ℕ → RecordRefusal → ReadRefusal

@@ -5,3 +5,4 @@ pub mod KeptRecords
 pub mod NamesSeen
 pub mod RecordsFrom
 pub mod ValuesOf
+pub mod Windows

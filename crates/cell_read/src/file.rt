@@ -5,7 +5,7 @@ ghost use Rattle.file_spec.specs.CellRecords.{empty_cell};
 ghost use Rattle.file_spec.specs.DecodedCell.{decoded_cell, general_information, geographic_reference, with_following};
 ghost use Rattle.file_spec.specs.FileRecords.{records_after};
 ghost use Rattle.cell_read.specs.FileParts.{data_records, records_behind_general};
-ghost use Rattle.cell_read.specs.Gives.{GivesCell, GivesNext, IsFaultAt};
+ghost use Rattle.cell_read.specs.Gives.{GivesCell, GivesNext, GivesStart, IsFaultAt};
 ghost use Rattle.cell_read.specs.NamesSeen.{IsKnown};
 
 use crate::heads::{head_with, read_general_information, read_geographic_reference};
@@ -100,33 +100,44 @@ fn geographic_reference_at(
     }
 }
 
-/// The cell of the records behind the first data record, which begin at a place.
-fn read_behind_general(
+/// The head of a cell, whose first data record says so much, and the place behind the second one, which begins at a place.
+fn behind_general_at(
     alloc: Global,
     bytes: &[u8],
     at: usize,
     dsid: Dsid,
     dssi: Dssi,
-) -> Result<Cell, ReadRefusal>
+) -> Result<(Head, usize), ReadRefusal>
     requires within { at ≤ length bytes.now }
     requires small { length bytes.now ≤ 16777216 }
-    ensures { GivesCell result (records_behind_general (length bytes.now) dsid dssi (records_after bytes.now at false)) }
+    ensures { GivesStart bytes.now result (records_behind_general (length bytes.now) dsid dssi (records_after bytes.now at false)) }
 {
     match geographic_reference_at(alloc, bytes, at) {
-        Ok((dspm, next)) => read_following(alloc, bytes, next, head_with(dsid, dssi, dspm)),
+        Ok((dspm, next)) => Ok((head_with(dsid, dssi, dspm), next)),
         Err(refusal) => Err(refusal.at(3, at as u32)),
     }
 }
 
-/// The cell of the data records, which begin at a place.
-fn read_data_records(alloc: Global, bytes: &[u8], at: usize) -> Result<Cell, ReadRefusal>
+/// The head of the cell of the data records, which begin at a place, and the place behind the two head records.
+fn data_records_at(alloc: Global, bytes: &[u8], at: usize) -> Result<(Head, usize), ReadRefusal>
     requires within { at ≤ length bytes.now }
     requires small { length bytes.now ≤ 16777216 }
-    ensures { GivesCell result (data_records (length bytes.now) (records_after bytes.now at false)) }
+    ensures { GivesStart bytes.now result (data_records (length bytes.now) (records_after bytes.now at false)) }
 {
     match general_information_at(alloc, bytes, at) {
-        Ok(((dsid, dssi), next)) => read_behind_general(alloc, bytes, next, dsid, dssi),
+        Ok(((dsid, dssi), next)) => behind_general_at(alloc, bytes, next, dsid, dssi),
         Err(refusal) => Err(refusal.at(2, at as u32)),
+    }
+}
+
+/// The head of a file's cell and the place behind the head records, or the first fault up to there.
+pub fn start_at(alloc: Global, bytes: &[u8]) -> Result<(Head, usize), ReadRefusal>
+    requires { length bytes.now ≤ 16777216 }
+    ensures { GivesStart bytes.now result (decoded_cell bytes.now) }
+{
+    match next_record(bytes, 0, true) {
+        Ok(descriptive) => data_records_at(alloc, bytes, descriptive.length()),
+        Err(fault) => Err(RecordRefusal::from(fault).at(1, 0)),
     }
 }
 
@@ -138,8 +149,8 @@ pub fn read_cell(alloc: Global, bytes: &[u8]) -> Result<Cell, ReadRefusal>
     requires { length bytes.now ≤ 16777216 }
     ensures { GivesCell result (decoded_cell bytes.now) }
 {
-    match next_record(bytes, 0, true) {
-        Ok(descriptive) => read_data_records(alloc, bytes, descriptive.length()),
-        Err(fault) => Err(RecordRefusal::from(fault).at(1, 0)),
+    match start_at(alloc, bytes) {
+        Ok((head, start)) => read_following(alloc, bytes, start, head),
+        Err(refusal) => Err(refusal),
     }
 }

@@ -3,9 +3,9 @@ use Rattle.file_spec.specs.DecodedCell.{decoded_cell, said_by_next}
 use Rattle.file_spec.specs.FileRecords.{records_after}
 use Rattle.file_spec.specs.RecordFaults.{◌>>=◌}
 use Rattle.cell_read.specs.FileParts.{data_records}
-use Rattle.cell_read.specs.Gives.{GivesCell, IsFaultAt}
+use Rattle.cell_read.specs.Gives.{GivesStart, IsFaultAt}
 use Rattle.cell_read.proofs.FileSteps.{decoded_parts, fault_stays, gives_fault_at, next-frame_fault, next-said}
-use Rattle.cell_read.proofs.file.read_cell.Goals as goal
+use Rattle.cell_read.proofs.file.start_at.Goals as goal
 
 pub returns-in-Ok : goal.returns-in-Ok
 returns-in-Ok c = let b = c.args.bytes.now in let frame = c.in-Ok.descriptive in let end = length b in
@@ -14,7 +14,7 @@ returns-in-Ok c = let b = c.args.bytes.now in let frame = c.in-Ok.descriptive in
     decoded_parts end (records_after b 0 true)
     ∙ ap (λ said. said >>= λ d. data_records end d.1) (next-said 1 Ok b 0 true frame frame.fields (sym c.in-Ok.ensures.exact) refl)
     ∙ ap (λ n. data_records end (records_after b n false)) behind in
-    subst (λ x. GivesCell c.read_data_records.result x) (sym parts) c.read_data_records.ensures
+    subst (λ x. GivesStart b c.data_records_at.result x) (sym parts) c.data_records_at.ensures
 
 pub returns-in-Err : goal.returns-in-Err
 returns-in-Err c = let b = c.args.bytes.now in let end = length b in let e = c.from.result in let file = records_after b 0 true in
