@@ -12,7 +12,7 @@ ghost use Rattle.call_files.specs.Inputs.{TellsReads, cell_limit};
 use crate::input::read_input;
 use cell_bench::{Bench, FINDING_LIMIT, LoadRefusal};
 use cell_findings::{Findings, find_all_in_threads};
-use cell_read::ReadRefusal;
+use cell_read::{ReadRefusal, read_cell_in_threads};
 use decode_laws::decoded_cell_is_writable;
 use enc_outside::Shelf;
 use recheck::load;
@@ -58,7 +58,7 @@ fn are_file_bytes(bytes: &[u8])
 }
 
 /// The cell of a file, before its findings are counted. The file's bytes are given back then.
-fn decode(alloc: Global, bytes: Vec<u8>) -> Result<Cell, Status>
+fn decode<R: Threads + Sync>(rt: &R, alloc: Global, bytes: Vec<u8>) -> Result<Cell, Status>
     requires small { length bytes.items ≤ 16777216 }
     ensures decoded { IfOk result (λ cell. decoded_cell bytes.items ≡ Ok cell) }
     ensures refused { IfErr result (λ status. (cell_in bytes.items ≡ Err status) ⊎ (status ≡ Status.NoMemory)) }
@@ -71,7 +71,7 @@ fn decode(alloc: Global, bytes: Vec<u8>) -> Result<Cell, Status>
     decoded_cell_is_writable();
     let file = bytes.as_slice();
     are_file_bytes(file);
-    match cell_read::read_cell(alloc, file) {
+    match read_cell_in_threads(rt, alloc, file) {
         Ok(cell) => Ok(cell),
         Err(ReadRefusal::Fault(fault)) => Err(Status::BadCell(fault)),
         Err(ReadRefusal::NoMemory) => Err(Status::NoMemory),
@@ -88,7 +88,7 @@ fn judge_cell<R: Threads + Sync>(rt: &R, alloc: Global, bytes: Vec<u8>) -> Resul
     ensures kind { IfErr result IsNotOfOrder }
     ensures text { IfErr result IsNotOfText }
 {
-    let cell = decode(alloc, bytes)?;
+    let cell = decode(rt, alloc, bytes)?;
     match find_all_in_threads(rt, alloc, &cell, FINDING_LIMIT) {
         Ok(findings) => Ok(Checked { cell, findings }),
         Err(LoadRefusal::FindingsFull) => Err(Status::TooManyFindings),
@@ -104,7 +104,7 @@ fn judge_bench<R: Threads + Sync>(rt: &R, alloc: Global, bytes: Vec<u8>) -> Resu
     ensures status { IfErr result (IsInputStatus (λ n. ⊥)) }
     ensures text { IfErr result IsNotOfText }
 {
-    let cell = decode(alloc, bytes)?;
+    let cell = decode(rt, alloc, bytes)?;
     match load(rt, alloc, cell) {
         Ok(bench) => Ok(bench),
         Err(LoadRefusal::FindingsFull) => Err(Status::TooManyFindings),
