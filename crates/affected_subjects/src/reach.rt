@@ -2,17 +2,12 @@
 
 ghost use Rattle.std.specs.Prelude.{◌≡◌, ◌+◌, ◌++◌, ◌≤◌, ◌<◌, IfOk, OnOk, filter, flat_map, length, not, true};
 ghost use Rattle.std.specs.List.{list_all};
-ghost use Rattle.cell_spec.specs.Edits.{apply_edits, find_their_records, touched_keys};
-ghost use Rattle.cell_spec.specs.Names.{name_order};
-ghost use Rattle.rule_spec.specs.Affected.{affected_list, change_by};
-ghost use Rattle.rule_spec.specs.Findings.{is_subject};
+ghost use Rattle.cell_spec.specs.{Edits.{apply_edits, find_their_records, touched_keys}, Names.{name_order}};
+ghost use Rattle.rule_spec.specs.{Affected.{affected_list, change_by}, Findings.{is_subject}};
 ghost use Rattle.row_spec.specs.Rows.{IsAscending};
 ghost use Rattle.finding_laws.specs.Tables.{IsCoveringsOf, IsReadsOf};
 ghost use Rattle.tile_index.specs.Changes.{after_changes};
-ghost use Rattle.affected_subjects.specs.EditedCells.{changes_to};
-ghost use Rattle.affected_subjects.specs.NewPairs.{pairs_found};
-ghost use Rattle.affected_subjects.specs.Reached.{gone_list};
-ghost use Rattle.affected_subjects.specs.Rounds.{first_of};
+ghost use Rattle.affected_subjects.specs.{EditedCells.{changes_to}, NewPairs.{pairs_found}, Reached.{gone_list}, Rounds.{first_of}};
 
 use crate::changes::tile_changes;
 use crate::edited::Edited;

@@ -1,12 +1,10 @@
 //! Connected nodes and edges that several threads look up.
 
 ghost use Rattle.std.specs.Prelude.{◌≡◌, ◌<◌, All, IfOk, IsTrue, map};
-ghost use Rattle.s57_types.specs.declared.cell.Cell.{Cell as SpecCell};
-ghost use Rattle.s57_types.specs.declared.name.RecName.{RecName as SpecRecName};
+ghost use Rattle.s57_types.specs.{declared.cell.Cell.{Cell as SpecCell}, declared.name.RecName.{RecName as SpecRecName}};
 ghost use Rattle.check_pairs.specs.Parts.{IsPart};
 ghost use Rattle.rule_spec.specs.Records.{is_chain_part};
-ghost use Rattle.cell_findings.specs.Near.{leaves_in};
-ghost use Rattle.cell_findings.specs.Parts.{AreParts, IsPartNamed};
+ghost use Rattle.cell_findings.specs.{Near.{leaves_in}, Parts.{AreParts, IsPartNamed}};
 
 use crate::each::each_in_threads;
 use crate::part::PlacedParts;

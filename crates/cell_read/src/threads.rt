@@ -2,12 +2,8 @@
 
 ghost use Rattle.std.specs.Prelude.{◌≡◌, ◌≤◌, IfOk, Ok, OnOk, false, length};
 ghost use Rattle.std.specs.List.{AllZip};
-ghost use Rattle.file_spec.specs.CellRecords.{empty_cell};
-ghost use Rattle.file_spec.specs.DecodedCell.{decoded_cell, with_following};
-ghost use Rattle.file_spec.specs.FileRecords.{records_after};
-ghost use Rattle.cell_read.specs.Gives.{GivesCell};
-ghost use Rattle.cell_read.specs.NamesSeen.{IsKnown};
-ghost use Rattle.cell_read.specs.Windows.{AreAdded, AreFrames, AreListed, IsKeptOfFrame, records_in};
+ghost use Rattle.file_spec.specs.{CellRecords.{empty_cell}, DecodedCell.{decoded_cell, with_following}, FileRecords.{records_after}};
+ghost use Rattle.cell_read.specs.{Gives.{GivesCell}, NamesSeen.{IsKnown}, Windows.{AreAdded, AreFrames, AreListed, IsKeptOfFrame, records_in}};
 
 use crate::file::{read_cell, start_at};
 use crate::reading::{Reading, add_record, empty_reading};

@@ -155,20 +155,20 @@ fn general_information_has_at_most_99_999_bytes(rt: HostRuntime) -> Result<(), F
     Ok(())
 }
 
-/// The values of the geographic reference, with this comment.
+/// The geographic reference with this comment and the largest numbers: each number has a width of its own, whatever it is.
 fn parameters(comt: Text) -> Dspm {
     Dspm {
-        rcid: 1,
-        hdat: 2,
-        vdat: 23,
-        sdat: 23,
-        cscl: 10_000,
-        duni: 1,
-        huni: 1,
-        puni: 1,
-        coun: 1,
-        comf: 10_000_000,
-        somf: 10,
+        rcid: u32::MAX,
+        hdat: u8::MAX,
+        vdat: u8::MAX,
+        sdat: u8::MAX,
+        cscl: u32::MAX,
+        duni: u8::MAX,
+        huni: u8::MAX,
+        puni: u8::MAX,
+        coun: u8::MAX,
+        comf: u32::MAX,
+        somf: u32::MAX,
         comt,
     }
 }

@@ -25,9 +25,8 @@ fn has_row<K: Ord + Drop>(table: &RowTable<K, u32>, place: usize, key: &K, value
 fn check_three<K: Ord + Copy + Drop>(
     rt: &impl Abort,
     alloc: Global,
-    keys: [K; 3],
+    [low, middle, high]: [K; 3],
 ) -> Result<(), Fail> {
-    let [low, middle, high] = keys;
     let mut table = RowTable::make(alloc);
     table.reserve(3)?;
     assert_eq!(rt; table.put(high, 30), None);

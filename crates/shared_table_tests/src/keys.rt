@@ -10,9 +10,8 @@ use std::test::Fail;
 fn check_three<K: Ord + Copy + Drop>(
     rt: &impl Abort,
     alloc: Global,
-    keys: [K; 3],
+    [low, middle, high]: [K; 3],
 ) -> Result<(), Fail> {
-    let [low, middle, high] = keys;
     let mut table = SharedTable::make();
     table.put(alloc, high, 30u32)?;
     table.put(alloc, low, 10)?;
