@@ -1,11 +1,14 @@
-use Rattle.std.proofs.Common.{arith, ap, length, length-append, [], ◌∷◌, sym, subst}
-use Rattle.commit_book.specs.Books.{BookState, IsEntered}
+use Rattle.std.proofs.Common.{ℕ, IfSome, List, arith, ap, length, length-append, [], ◌∷◌, sym, subst}
+use Rattle.commit_book.specs.Books.{BookState, IsEntered, history_of}
+use Rattle.crash_disk.specs.Disk.{LeavesOnly}
 use Rattle.history_spec.specs.declared.entry.Asked.TheVariants.{Commit}
 use Rattle.book_journal.specs.Entries.{entry_part}
+use Rattle.book_journal.specs.Keeping.{HasOrHasNot}
 use Rattle.book_journal.specs.Parts.{commit_asked, text_asked}
 use Rattle.book_journal.proofs.Commits.{entry_written, nothing_written, same_commits, set_accepted, stands_ready, still_more, still_same}
 use Rattle.book_journal.proofs.Numbers.{length-part}
 use Rattle.book_journal.proofs.journal.Journal.keep_answered.Goals as goal
+use Rattle.book_journal.proofs.journal.Journal.keep_answered.Goals.{After-keep}
 
 -- a commit that isn't accepted leaves the list as it was
 pub returns-then-not-is_accepted-clause-still : goal.returns-then-not-is_accepted-clause-still
@@ -58,8 +61,10 @@ returns-clause-still g c =
     prepared reply entered c.if-not-is_accepted.ensures accepted c.args.part.now c.requires.part kept.end c.keep.ensures.told kept.content kept.kept
 
 -- what a crash leaves while the entry is added
-pub returns-clause-moments : goal.returns-clause-moments
-returns-clause-moments g c =
+left_while_added : (g : _) → (c : After-keep g) → IfSome (g.D.Disk.content c.args.self.now.disk.now)
+    (λ (file : List ℕ). LeavesOnly g.D.Disk.moment g.D.Disk.left_since c.args.self.now.disk.now c.keep.new.self.disk.now
+    (HasOrHasNot c.args.before.value.opening (history_of c.args.before.value).commits (commit_asked c.args.desk c.args.prepared.now)))
+left_while_added g c =
     let before = c.args.before.value in
     entry_written g.D.Disk.content g.D.Disk.images (record c.args.self.now { book = before }) c.requires.still g.D.Disk.moment g.D.Disk.left_since
     (commit_asked c.args.desk c.args.prepared.now) c.requires.whole c.args.part.now c.requires.part.part_is
@@ -67,11 +72,8 @@ returns-clause-moments g c =
     c.if-not-is_accepted.ensures (omega (arith, c.ranges.desk.fits)) c.requires.level c.requires.lines _ c.edits.ensures
     c.known.ensures.form c.requires.part.short) c.keep.new.self.disk.now c.keep.ensures.moments
 
+pub returns-clause-moments : goal.returns-clause-moments
+returns-clause-moments g c = left_while_added g (goal.at.returns-clause-moments g c).After-keep
+
 pub returns-in_err-keep-clause-moments : goal.returns-in_err-keep-clause-moments
-returns-in_err-keep-clause-moments g c =
-    let before = c.args.before.value in
-    entry_written g.D.Disk.content g.D.Disk.images (record c.args.self.now { book = before }) c.requires.still g.D.Disk.moment g.D.Disk.left_since
-    (commit_asked c.args.desk c.args.prepared.now) c.requires.whole c.args.part.now c.requires.part.part_is
-    (set_accepted before c.args.self.now.book c.args.desk c.args.prepared.now c.args.reply.now c.requires.entered
-    c.if-not-is_accepted.ensures (omega (arith, c.ranges.desk.fits)) c.requires.level c.requires.lines _ c.edits.ensures
-    c.known.ensures.form c.requires.part.short) c.keep.new.self.disk.now c.keep.ensures.moments
+returns-in_err-keep-clause-moments g c = left_while_added g (goal.at.returns-in_err-keep-clause-moments g c).After-keep
