@@ -17,11 +17,11 @@ ghost use Rattle.check_pairs.specs.Parts.{IsPart, extent_at};
 
 use crate::ends::line_end;
 use crate::line::SegmentedLine;
-use cell_spec::{Keys, ascending_keys};
+use cell_spec::{Key, Keys, ascending_keys};
 use chain_topo::{Look, Steps};
 use geometry_spec::{Box4, Point};
 use line_boxes::box_of_line;
-use read_sets::{push_vector_keys, put_vector_keys};
+use read_sets::{push_vector_keys, put_end_keys, put_key};
 use s57_types::{Items, Kind, Rec, RecName, Vector};
 use std::alloc::{AllocError, Global};
 use std::sync::ledger::Ledger;
@@ -183,7 +183,8 @@ fn key_count(part: &Vector) -> usize {
     part.ends.len().saturating_add(1)
 }
 
-/// The read set of two connected nodes or edges. A few keys are put in order one by one, many are sorted at last.
+/// The read set of two connected nodes or edges. A few keys are put in order one by one, many are sorted at last. What edges' ends name
+/// comes before edges in the order of names, so most keys are put behind the others.
 pub(crate) fn pair_keys(alloc: Global, a: &ChainPart, b: &ChainPart) -> Result<Keys, AllocError>
     ensures { (c : SpecCell) → IsPart c a.now → IsPart c b.now → IfOk result (λ keys. keys ≡ read_set c (SpecPair a.now.name b.now.name)) }
 {
@@ -194,8 +195,10 @@ pub(crate) fn pair_keys(alloc: Global, a: &ChainPart, b: &ChainPart) -> Result<K
         push_vector_keys(&mut keys, b.name, b.record)?;
         return Ok(ascending_keys(keys));
     }
-    put_vector_keys(&mut keys, a.name, a.record)?;
-    put_vector_keys(&mut keys, b.name, b.record)?;
+    put_end_keys(&mut keys, a.name, a.record)?;
+    put_end_keys(&mut keys, b.name, b.record)?;
+    put_key(&mut keys, Key::Name(a.name))?;
+    put_key(&mut keys, Key::Name(b.name))?;
     Ok(Items::of_vec(keys))
 }
 

@@ -3,4 +3,4 @@
 
 mod keys;
 
-pub use keys::{push_end_keys, push_vector_keys, put_end_keys, put_key, put_vector_keys};
+pub use keys::{push_end_keys, push_vector_keys, put_end_keys, put_key};

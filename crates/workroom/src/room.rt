@@ -98,12 +98,8 @@ impl Workroom {
         if self.root.given() >= DESK_LIMIT {
             return Err(DeskRefusal::NoDesk);
         }
-        let Ok(bench) = self.bench.copy(alloc) else {
-            return Err(DeskRefusal::NoMemory);
-        };
-        let Ok(seat) = self.gate.seat(alloc, &mut self.root) else {
-            return Err(DeskRefusal::NoMemory);
-        };
+        let bench = self.bench.copy(alloc)?;
+        let seat = self.gate.seat(alloc, &mut self.root)?;
         Ok(Desk::open(seat, bench))
     }
 
