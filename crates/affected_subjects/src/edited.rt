@@ -17,11 +17,10 @@ ghost use Rattle.record_store.specs.Stores.{course_in, vector_of};
 ghost use Rattle.affected_subjects.specs.EditedCells.{is_chain_name as spec_is_chain_name, is_listed_after as spec_is_listed, points_in};
 
 use crate::borne::{Borne, borne_after};
-use crate::second::is_below;
 use answer_laws::{edited_answers, formed_edits_find_their_records, untouched_keys_keep_answers};
 use cell_spec::{Edit, Key, Subject, orders_are_by_parts, writable_cells_are_readable};
 use chain_topo::{Steps, node_at};
-use check_words::is_edge_name;
+use check_words::{BEGINNING_NODE, END_NODE, is_below, is_edge_name};
 use depend_map::DependMap;
 use edit_answers::{EditAnswers, edits_leave_their_records};
 use edit_sets::EditSet;
@@ -195,10 +194,10 @@ impl<'a> Edited<'a> {
     fn line_points(&self, alloc: Global, edge: &Vector) -> Result<Option<Plane>, AllocError>
         ensures { IfOk result (λ points. points ≡ option_map (λ (line : SpecLine). line.points) (line_of self.now edge.now)) }
     {
-        let Some(begins) = node_at(1, edge) else {
+        let Some(begins) = node_at(BEGINNING_NODE, edge) else {
             return Ok(None);
         };
-        let Some(ends) = node_at(2, edge) else {
+        let Some(ends) = node_at(END_NODE, edge) else {
             return Ok(None);
         };
         let Some(first) = self.position(begins) else {

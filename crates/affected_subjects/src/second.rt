@@ -6,13 +6,13 @@ ghost use Rattle.std.specs.List.Sorted.{IsStrictlySortedBy};
 ghost use Rattle.s57_types.specs.declared.name.RecName.{RecName as SpecRecName};
 ghost use Rattle.cell_spec.specs.Names.{name_order, same_name};
 ghost use Rattle.rule_spec.specs.Affected.{pair_of as spec_pair_of};
-ghost use Rattle.rule_spec.specs.Findings.{is_below as spec_is_below};
 ghost use Rattle.row_spec.specs.Rows.{IsAscending};
 ghost use Rattle.finding_laws.specs.Tables.{mates_in};
 ghost use Rattle.affected_subjects.specs.NewPairs.{is_new as spec_is_new, new_pairs, noted, pairs_found, set_out as spec_set_out};
 ghost use Rattle.affected_subjects.specs.NewPairs.{walk_past, walked_by, with_pair, with_pairs};
 
 use cell_spec::{Subject, orders_are_by_parts};
+use check_words::is_below;
 use s57_types::RecName;
 use std::alloc::{AllocError, Global};
 use std::collections::BTreeSet;
@@ -27,14 +27,6 @@ const ROOM: usize = 64;
 struct Walk {
     passed: BTreeSet<RecName>,
     pairs: Vec<Subject>,
-}
-
-/// Whether a name is below another.
-pub(crate) fn is_below(name: RecName, other: RecName) -> bool
-    ensures { result ≡ spec_is_below name other }
-{
-    orders_are_by_parts();
-    name.cmp(&other).is_lt()
 }
 
 // Two names as a pair, the lesser first.

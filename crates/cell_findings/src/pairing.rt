@@ -7,7 +7,7 @@ ghost use Rattle.s57_types.specs.declared.name.RecName.{RecName as SpecRecName};
 ghost use Rattle.cell_spec.specs.Names.{name_order};
 ghost use Rattle.cell_spec.specs.declared.key.Subject.{Subject as SpecSubject};
 ghost use Rattle.cell_spec.specs.declared.key.Subject.TheVariants.{Pair as SubjectPair};
-ghost use Rattle.rule_spec.specs.Findings.{findings_of_subject, is_below as spec_is_below, is_subject};
+ghost use Rattle.rule_spec.specs.Findings.{findings_of_subject, is_subject};
 ghost use Rattle.rule_spec.specs.Records.{is_chain_part};
 ghost use Rattle.cell_findings.specs.Gathered.{IsGathered, IsOver};
 ghost use Rattle.cell_findings.specs.Judged.{pairs_among, subject_findings};
@@ -20,9 +20,10 @@ use crate::part::{PlacedParts, parts_of};
 use crate::refusal::LoadRefusal;
 use crate::search::Search;
 use box_tree::{BoxTree, Leaf};
-use cell_spec::{Finding, Names, Subject, ascending_names, orders_are_by_parts};
+use cell_spec::{Finding, Names, Subject, ascending_names};
 use chain_topo::Steps;
 use check_pairs::{ChainPart, pair_findings};
+use check_words::is_below;
 use finding_laws::apart_pairs_are_clean;
 use s57_types::RecName;
 use std::alloc::{AllocError, Global};
@@ -30,13 +31,6 @@ use std::sync::ledger::Ledger;
 
 /// How many names there is room for at first: about as many as meet a box in a chart, so that a list mostly is made once.
 const LIKELY_NEAR: usize = 16;
-
-fn is_below(name: RecName, other: RecName) -> bool
-    ensures { result ≡ spec_is_below name other }
-{
-    orders_are_by_parts();
-    name.cmp(&other).is_lt()
-}
 
 /// The names above a leaf's own whose boxes meet its box, ascending.
 fn names_near(alloc: Global, tree: &BoxTree, leaf: Leaf) -> Result<Names, AllocError>

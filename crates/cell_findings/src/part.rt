@@ -12,20 +12,11 @@ ghost use Rattle.cell_findings.specs.Parts.{AreParts};
 use box_tree::{BoxTree, Leaf};
 use chain_topo::{ListLook, Look, Steps};
 use check_pairs::{ChainPart, part_named};
-use check_words::is_edge_name;
+use check_words::{is_edge_name, the_only};
 use geometry_spec::Point;
 use s57_types::{Kind, Rec, RecName};
 use std::alloc::{AllocError, Global};
 use std::sync::ledger::Ledger;
-
-fn only_point(points: &[Point]) -> Option<Point>
-    ensures { result ≡ the_only points.now }
-{
-    match points {
-        [place] => Some(*place),
-        _ => None,
-    }
-}
 
 /// The position of a connected node that has exactly one.
 pub(crate) fn position_at<B: Look, L: Ledger>(
@@ -39,7 +30,7 @@ pub(crate) fn position_at<B: Look, L: Ledger>(
     match look.get(name, steps) {
         Some(Rec::V(part)) => {
             if part.name.kind == Kind::Vc {
-                only_point(part.plane.as_slice())
+                the_only(part.plane.as_slice())
             } else {
                 None
             }

@@ -7,24 +7,16 @@ ghost use Rattle.s57_types.specs.declared.record.Vector.{Vector as SpecVector};
 ghost use Rattle.cell_spec.specs.Names.{is_of_kind};
 ghost use Rattle.std.specs.Option.{option_copied};
 ghost use Rattle.rule_spec.specs.EdgePoints.{node_at as spec_node_at, node_position as spec_position, line_of as spec_line_of, edge_line_of, edge_points_of};
-ghost use Rattle.rule_spec.specs.Records.{edge_named as spec_edge, is_edge_name, the_only as spec_the_only, vector_of};
+ghost use Rattle.rule_spec.specs.Records.{edge_named as spec_edge, is_edge_name, vector_of};
 
 use crate::answers::Look;
+use check_words::{BEGINNING_NODE, END_NODE, the_only};
 use geometry_spec::Point;
 use look_counter::Steps;
 use rule_spec::EdgeLine;
 use s57_types::{End, Items, Kind, Plane, Rec, RecName, Vector};
 use std::alloc::{AllocError, Global};
 use std::sync::ledger::Ledger;
-
-fn the_only<T: Copy>(items: &[T]) -> Option<T>
-    ensures { result ≡ spec_the_only items.now }
-{
-    match items {
-        [item] => Some(*item),
-        _ => None,
-    }
-}
 
 fn count_at(topi: u8, ends: &[End]) -> usize
     ensures { result ≡ count_by (λ (e : SpecEnd). e.topi == topi) ends.now }
@@ -116,10 +108,10 @@ fn line_of<B: Look, L: Ledger>(
     ensures steps { steps.new ≤ steps.old + 2 }
     ensures counted { steps.old ≤ steps.new }
 {
-    let Some(begins) = node_at(1, edge) else {
+    let Some(begins) = node_at(BEGINNING_NODE, edge) else {
         return Ok(None);
     };
-    let Some(ends) = node_at(2, edge) else {
+    let Some(ends) = node_at(END_NODE, edge) else {
         return Ok(None);
     };
     let Some(first) = node_position(look, begins, steps) else {

@@ -11,6 +11,7 @@ ghost use Rattle.check_area.specs.Sweeps.{sweep_between as spec_sweep_between, s
 
 use crate::sweep::{LineSweep, way_along, way_to};
 use chain_topo::edge_of;
+use check_words::{BEGINNING_NODE, END_NODE};
 use geo_exact::Point;
 use near_records::{LineEnd, Near, line_end};
 use s57_types::{RecName, Vector};
@@ -40,8 +41,8 @@ pub(crate) fn sweep_of_edge<N: Near>(
         → All (λ (e : SpecEnd). has_key keys (KeyName e.to) ≡ true) edge.now.ends
         → IfOk result (λ sweep. sweep ≡ option_map sweep_of (line_of c edge.now)) }
 {
-    let begins = line_end(near, 1, edge);
-    let ends = line_end(near, 2, edge);
+    let begins = line_end(near, BEGINNING_NODE, edge);
+    let ends = line_end(near, END_NODE, edge);
     match (begins, ends) {
         (Some(begins), Some(ends)) => {
             let sweep = sweep_between(begins, edge.plane.as_slice(), ends)?;

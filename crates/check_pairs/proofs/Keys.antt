@@ -1,5 +1,5 @@
 -- The read set of two records has the keys of both.
-use Rattle.std.proofs.Common.{◌≡◌, ◌≤◌, ◌||◌, Bool, true, false, List, [], ◌∷◌, ◌++◌, length, refl, sym, ap, ◌∙◌, arith}
+use Rattle.std.proofs.Common.{◌≡◌, ◌≤◌, ◌||◌, Bool, true, false, Some, List, [], ◌∷◌, ◌++◌, length, refl, sym, ap, ◌∙◌, arith}
 use Rattle.std.specs.declared.cmp.Ordering.{Ordering}
 use Rattle.std.specs.declared.cmp.Ordering.TheVariants.{Less, Equal, Greater}
 use Rattle.std.specs.Ordering.{is_eq, is_lt}
@@ -99,7 +99,7 @@ module _ (c : Cell) (a b : RecName) (none_of_a : option_map_or (feature_keys c) 
       ∙ ap (λ keys. holds key_order q (end_keys_at c n) || holds key_order q keys) none
       ∙ or_last (holds key_order q (end_keys_at c n)))
 
-  first_ends : List Key
+  abbrev first_ends : List Key
   first_ends = end_keys_at c a ++ end_keys_at c b
 
   ends_held : (q : Key) → holds key_order q ((first_ends ++ Name a ∷ []) ++ Name b ∷ [])

@@ -19,6 +19,7 @@ use crate::ends::line_end;
 use crate::line::SegmentedLine;
 use cell_spec::{Key, Keys, ascending_keys};
 use chain_topo::{Look, Steps};
+use check_words::{BEGINNING_NODE, END_NODE};
 use geometry_spec::{Box4, Point};
 use line_boxes::box_of_line;
 use read_sets::{push_vector_keys, put_end_keys, put_key};
@@ -69,8 +70,8 @@ fn line_of<B: Look, L: Ledger>(
     ensures steps { steps.new ≤ steps.old + 2 }
     ensures counted { steps.old ≤ steps.new }
 {
-    let begins = line_end(look, 1, edge, steps);
-    let ends = line_end(look, 2, edge, steps);
+    let begins = line_end(look, BEGINNING_NODE, edge, steps);
+    let ends = line_end(look, END_NODE, edge, steps);
     match (begins, ends) {
         (Some(begins), Some(ends)) => {
             let line = SegmentedLine::between(alloc, begins, edge.plane.as_slice(), ends)?;

@@ -7,7 +7,7 @@ ghost use Rattle.rule_spec.specs.EdgeEnds.{end_count, topi_count as spec_topi_co
 ghost use Rattle.rule_spec.specs.Findings.{finding};
 
 use cell_spec::Finding;
-use check_words::number;
+use check_words::{BEGINNING_NODE, END_NODE, number};
 use rule_spec::END_COUNT;
 use s57_types::Vector;
 use std::alloc::AllocError;
@@ -26,8 +26,8 @@ fn topi_count(topi: u8, edge: &Vector) -> usize
 pub(crate) fn push_end_count(findings: &mut Vec<Finding>, edge: &Vector) -> Result<(), AllocError>
     ensures { (c : SpecCell) → OnOk result (findings.new.items ≡ findings.old.items ++ map (finding END_COUNT) (end_count c edge.now)) }
 {
-    let begins = number(topi_count(1, edge))?;
-    let ends = number(topi_count(2, edge))?;
+    let begins = number(topi_count(BEGINNING_NODE, edge))?;
+    let ends = number(topi_count(END_NODE, edge))?;
     let all = number(edge.ends.len())?;
     if begins != 1 || ends != 1 || all != 2 {
         findings.push(Finding {

@@ -19,7 +19,7 @@ ghost use Rattle.rule_spec.specs.Vectors.{stacked_segment as spec_stacked_segmen
 use crate::self_meet::push_self_meet;
 use cell_spec::Finding;
 use chain_topo::points_between;
-use check_words::{number, same_point};
+use check_words::{BEGINNING_NODE, END_NODE, number, same_point};
 use geometry_spec::Point;
 use near_records::{LineEnd, Near, line_end};
 use rule_spec::{EdgeLine, STACKED};
@@ -52,8 +52,8 @@ pub(crate) fn line_of<N: Near>(
     ensures { (c : SpecCell) (keys : List SpecKey) → N.tells near.now c keys → All (λ (e : SpecEnd). has_key keys (KeyName e.to) ≡ true) edge.now.ends
         → IfOk result (λ line. line ≡ spec_line_of c edge.now) }
 {
-    let begins = line_end(near, 1, edge);
-    let ends = line_end(near, 2, edge);
+    let begins = line_end(near, BEGINNING_NODE, edge);
+    let ends = line_end(near, END_NODE, edge);
     match (begins, ends) {
         (Some(begins), Some(ends)) => {
             let line = line_between(alloc, begins, edge.plane.as_slice(), ends)?;

@@ -8,6 +8,7 @@ ghost use Rattle.near_records.specs.Near.{IsNear};
 ghost use Rattle.check_record.specs.EndKeys.{ends_of_answer, named_by, partner_keys};
 
 use cell_spec::{Key, Keys, ascending_keys};
+use check_words::AREA;
 use near_records::{Answer, NearRecords};
 use read_sets::{push_end_keys, push_vector_keys};
 use s57_types::{Feature, Kind, Rec, RecName, Vector};
@@ -65,7 +66,7 @@ fn boundary_keys(
 ) -> Result<Keys, AllocError>
     ensures { IfOk result (λ keys. keys ≡ ascending key_order (if prim == 3 then flat_map ends_of_answer answers.now else [])) }
 {
-    if prim != 3 {
+    if prim != AREA {
         return Ok(Keys::of_vec(Vec::with_capacity(alloc, more)?));
     }
     let room = answers.len().saturating_mul(2).saturating_add(more);

@@ -4,10 +4,8 @@ ghost use Rattle.std.specs.Prelude.{◌≡◌, ◌==◌, [], ◌∷◌};
 ghost use Rattle.std.specs.List.{list_any};
 ghost use Rattle.rule_spec.specs.Features.{is_coverage_area as covers, is_group1_area as spec_group1, is_one_of, says_covered as covered};
 
+use crate::codes::AREA;
 use s57_types::{Attr, Feature};
-
-/// The geometric primitive PRIM of an area.
-pub const AREA: u8 = 3;
 
 /// The object class M_COVR.
 const COVERAGE_CLASS: u16 = 302;

@@ -15,7 +15,7 @@ ghost use Rattle.tile_index.specs.Tilings.{Tile as SpecTile, covers, has_some_ti
 
 use crate::range::{Tile, is_oversized, push_tiles};
 use cell_spec::distinct;
-use check_words::{Segment, segments_of};
+use check_words::{Segment, segments_of, the_only};
 use geo_exact::{box_of, tiles_of};
 use geometry_spec::{Box4, Point, TileRange, tiles_are_floors};
 use line_boxes::united;
@@ -157,16 +157,6 @@ fn tiles_listed(alloc: Global, ranges: &[TileRange]) -> Result<Vec<Tile>, AllocE
     Ok(tiles)
 }
 
-// The only point, if there is one.
-fn only_point(points: &[Point]) -> Option<Point>
-    ensures { result ≡ the_only points.now }
-{
-    match points {
-        [place] => Some(*place),
-        _ => None,
-    }
-}
-
 // The segment from a point to it, if there is a point.
 fn segment_at(alloc: Global, place: Option<Point>) -> Result<Vec<Segment>, AllocError>
     ensures { IfOk result (λ segments. segments.items ≡ map (λ (p : SpecPoint). (p, p)) (option_to_list place)) }
@@ -182,7 +172,7 @@ fn segments_with(alloc: Global, name: RecName, points: &[Point]) -> Result<Vec<S
     ensures { IfOk result (λ segments. segments.items ≡ spec_segments_with name points.now) }
 {
     match name.kind {
-        Kind::Vc => segment_at(alloc, only_point(points)),
+        Kind::Vc => segment_at(alloc, the_only(points)),
         Kind::Ve => segments_of(alloc, points),
         _ => Ok(Vec::new(alloc)),
     }

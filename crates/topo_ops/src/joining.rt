@@ -18,9 +18,10 @@ use crate::feature::{PlaceChange, features_at, push_feature_edits};
 use crate::operation::EdgeJoin;
 use crate::pairing::check_pairs;
 use crate::refusal::OpRefusal;
-use crate::splitting::{BEGINS, ENDS, moved_ends};
+use crate::splitting::moved_ends;
 use cell_spec::{Edit, Ref};
 use chain_topo::{Look, Steps};
+use check_words::{BEGINNING_NODE, END_NODE};
 use edit_sets::EditSet;
 use geometry_spec::Point;
 use s57_types::{Duplicate, Feature, Items, Kind, Places, Plane, Rec, RecName, Spot, Vector};
@@ -57,8 +58,8 @@ fn other_pointer(first: &Chain, second: &Chain, pointers: &[Ref]) -> Option<Ref>
     ensures { result ≡ find (is_other_pointer (chain_by first.now.edge.now first.now.line) (chain_by second.now.edge.now second.now.line)) pointers.now }
 {
     for pointer in pointers {
-        let ends_first = is_end_of(ENDS, first.edge, *pointer);
-        let begins_second = is_end_of(BEGINS, second.edge, *pointer);
+        let ends_first = is_end_of(END_NODE, first.edge, *pointer);
+        let begins_second = is_end_of(BEGINNING_NODE, second.edge, *pointer);
         if !(ends_first || begins_second) {
             return Some(*pointer);
         }

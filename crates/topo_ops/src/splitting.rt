@@ -18,7 +18,7 @@ use crate::operation::EdgeSplit;
 use crate::refusal::OpRefusal;
 use cell_spec::Edit;
 use chain_topo::{Look, Steps};
-use check_words::number;
+use check_words::{BEGINNING_NODE, END_NODE, number};
 use edit_sets::EditSet;
 use s57_types::{
     Attrs, Deep, Duplicate, End, Ends, Feature, Items, Places, Plane, Rec, RecName, Spot, Vector,
@@ -28,11 +28,6 @@ use std::sync::ledger::Ledger;
 
 /// A new record's version (RVER).
 const FIRST_VERSION: u16 = 1;
-
-/// The topology indicators (TOPI) of a beginning node and of an end node.
-pub(crate) const BEGINS: u8 = 1;
-
-pub(crate) const ENDS: u8 = 2;
 
 /// The orientation indicator (ORNT) of what goes along an edge in reverse.
 pub(crate) const REVERSE: u8 = 2;
@@ -54,7 +49,7 @@ fn check_place(cut: EdgeSplit, chain: &Chain) -> Result<(), OpRefusal>
 fn end_moved(node: RecName, end: End) -> End
     ensures { result ≡ moved node end }
 {
-    if end.topi == ENDS {
+    if end.topi == END_NODE {
         End { to: node, ..end }
     } else {
         end
@@ -114,7 +109,7 @@ fn second_part(alloc: Global, cut: EdgeSplit, chain: &Chain) -> Result<Vector, A
         .plane
         .as_slice()
         .split_at(cut.at.saturating_sub(2) as usize + 1);
-    let ends = [new_end(BEGINS, cut.node), new_end(ENDS, chain.line.ends)];
+    let ends = [new_end(BEGINNING_NODE, cut.node), new_end(END_NODE, chain.line.ends)];
     Ok(Vector {
         name: cut.fresh,
         rver: FIRST_VERSION,
