@@ -1,7 +1,7 @@
 //! How a call ends.
 
 ghost use Rattle.std.specs.Prelude.{◌≡◌, ◌++◌, ◌∷◌, [], OnErr, OnOk, decimal};
-ghost use Rattle.text_spec.specs.Lines.{line as line_lem, spaced};
+ghost use Rattle.text_spec.specs.Lines.{line as spec_line, spaced};
 ghost use Rattle.report_text.specs.StatusText.{fault_words, status_line, status_number};
 
 use crate::reply::push_refusal;
@@ -130,7 +130,7 @@ fn push_status(out: &mut Vec<u8>, status: &Status) -> Result<(), AllocError>
 
 /// Appends a line that ends with a file's name.
 fn push_named(out: &mut Vec<u8>, text: &str, name: &Text) -> Result<(), AllocError>
-    ensures { OnOk result (out.new.items ≡ out.old.items ++ line_lem text.now (name.now ∷ [])) }
+    ensures { OnOk result (out.new.items ≡ out.old.items ++ spec_line text.now (name.now ∷ [])) }
 {
     push_text(out, text)?;
     out.push(b' ')?;
@@ -156,7 +156,7 @@ fn numbered(word: &'static str, number: u32) -> Part
 
 /// Appends a line of a text and one number.
 fn push_one(out: &mut Vec<u8>, text: &str, first: &Part) -> Result<(), AllocError>
-    ensures { OnOk result (out.new.items ≡ out.old.items ++ line_lem text.now (first.now.word.now ∷ decimal first.now.number ∷ [])) }
+    ensures { OnOk result (out.new.items ≡ out.old.items ++ spec_line text.now (first.now.word.now ∷ decimal first.now.number ∷ [])) }
 {
     push_text(out, text)?;
     push_numbered(out, first.word, first.number)?;
@@ -165,7 +165,7 @@ fn push_one(out: &mut Vec<u8>, text: &str, first: &Part) -> Result<(), AllocErro
 
 /// Appends a line of a text and two numbers.
 fn push_two(out: &mut Vec<u8>, text: &str, first: &Part, second: &Part) -> Result<(), AllocError>
-    ensures { OnOk result (out.new.items ≡ out.old.items ++ line_lem text.now
+    ensures { OnOk result (out.new.items ≡ out.old.items ++ spec_line text.now
         (first.now.word.now ∷ decimal first.now.number ∷ second.now.word.now ∷ decimal second.now.number ∷ [])) }
 {
     push_text(out, text)?;
@@ -182,7 +182,7 @@ fn push_three(
     second: &Part,
     third: &Part,
 ) -> Result<(), AllocError>
-    ensures { OnOk result (out.new.items ≡ out.old.items ++ line_lem text.now
+    ensures { OnOk result (out.new.items ≡ out.old.items ++ spec_line text.now
         (first.now.word.now ∷ decimal first.now.number ∷ second.now.word.now ∷ decimal second.now.number
         ∷ third.now.word.now ∷ decimal third.now.number ∷ [])) }
 {
@@ -195,7 +195,7 @@ fn push_three(
 
 /// Appends a line of a text and one number of 64 bits.
 fn push_large(out: &mut Vec<u8>, text: &str, word: &str, number: u64) -> Result<(), AllocError>
-    ensures { OnOk result (out.new.items ≡ out.old.items ++ line_lem text.now (word.now ∷ decimal number ∷ [])) }
+    ensures { OnOk result (out.new.items ≡ out.old.items ++ spec_line text.now (word.now ∷ decimal number ∷ [])) }
 {
     push_text(out, text)?;
     push_word(out, word)?;
@@ -227,7 +227,7 @@ fn push_bad_update(out: &mut Vec<u8>, fault: CellFault) -> Result<(), AllocError
 
 /// Appends a line of a text and a fault: its record, its place and its code.
 fn push_fault(out: &mut Vec<u8>, text: &str, fault: CellFault) -> Result<(), AllocError>
-    ensures { OnOk result (out.new.items ≡ out.old.items ++ line_lem text.now (fault_words fault)) }
+    ensures { OnOk result (out.new.items ≡ out.old.items ++ spec_line text.now (fault_words fault)) }
 {
     let record = numbered("record", fault.number);
     let offset = numbered("offset", fault.offset);

@@ -5,10 +5,10 @@ ghost use Rattle.cell_spec.specs.declared.edit.Edit.{Edit};
 ghost use Rattle.s57_types.specs.declared.record.Rec.{Rec};
 ghost use Rattle.text_spec.specs.EditLine.{has_line, record_has_line, record_words};
 ghost use Rattle.text_spec.specs.Lines.{spaced_words};
-ghost use Rattle.text_spec.specs.ScriptLines.{command_line, is_skipped as is_skipped_lem, IsCommand};
+ghost use Rattle.text_spec.specs.ScriptLines.{command_line, is_skipped as spec_is_skipped, IsCommand};
 ghost use Rattle.text_spec.specs.declared.command.Command.{Command};
 ghost use Rattle.script_text.specs.Faults.{IsCommandWord};
-ghost use Rattle.script_text.specs.Guess.{HasLine, can_stand as can_stand_lem, first_word, other_words, IsReadOf};
+ghost use Rattle.script_text.specs.Guess.{HasLine, can_stand as spec_can_stand, first_word, other_words, IsReadOf};
 ghost use Rattle.script_text.specs.Reading.{IsOnlyReading, IsScriptRefusal};
 ghost use Rattle.script_text.specs.Steps.{first_refusal, IsFirstRefusal, IsFormFault, IsLineRead, IsLineRefusal, IsNotTaken, IsTaken};
 ghost use Rattle.script_text.specs.Widths.{IsRecordOfWidth};
@@ -30,7 +30,7 @@ use text_spec::Command;
 ///
 /// An `Err` means out of memory.
 fn command_of(alloc: Global, first: &[u8], others: &[u8]) -> Result<Command, AllocError>
-    ensures width { IfOk result (λ command. can_stand_lem command ≡ true → IsCommand command) }
+    ensures width { IfOk result (λ command. spec_can_stand command ≡ true → IsCommand command) }
     ensures found { (command : Command) → IsCommand command → first.now ≡ first_word command
         → others.now ≡ spaced_words (other_words command) → IfOk result (λ read. read ≡ command) }
 {
@@ -109,7 +109,7 @@ fn record_of(alloc: Global, words: &[u8]) -> Result<Rec, AllocError>
 ///
 /// An `Err` means out of memory.
 fn guess(alloc: Global, line: &[u8]) -> Result<Command, AllocError>
-    ensures width { IfOk result (λ command. can_stand_lem command ≡ true → IsCommand command) }
+    ensures width { IfOk result (λ command. spec_can_stand command ≡ true → IsCommand command) }
     ensures found { (command : Command) → IsCommand command → command_line command ≡ line.now → IfOk result (λ read. read ≡ command) }
 {
     match line.split_last() {
@@ -148,7 +148,7 @@ pub fn read_command(alloc: Global, line: &[u8]) -> Result<Option<Command>, Alloc
 
 /// Whether a line is passed over: an empty one, and one that begins with a number sign.
 fn is_skipped(line: &[u8]) -> bool
-    ensures { result ≡ is_skipped_lem line.now }
+    ensures { result ≡ spec_is_skipped line.now }
 {
     match line.first() {
         Some(byte) => *byte == b'#',

@@ -1,7 +1,7 @@
 //! A script.
 
 ghost use Rattle.std.specs.Prelude.{◌≡◌, ◌≤◌, ◌<◌, ◌++◌, ◌∷◌, [], length, count_by, OnOk};
-ghost use Rattle.text_spec.specs.ScriptLines.{command_limit, is_shared as is_shared_lem};
+ghost use Rattle.text_spec.specs.ScriptLines.{command_limit, is_shared as spec_is_shared};
 
 use std::alloc::{AllocError, Global};
 use std::marker::Model;
@@ -72,7 +72,7 @@ impl Script {
 
     /// How many commands there are that every session sees: views and commits.
     pub fn shared(&self) -> u32
-        ensures { result ≡ count_by is_shared_lem self.now }
+        ensures { result ≡ count_by spec_is_shared self.now }
     {
         let mut shared = 0;
         for command in self.commands.as_slice() {
@@ -86,7 +86,7 @@ impl Script {
 
 /// Whether every session sees a command.
 fn is_shared(command: &Command) -> bool
-    ensures { result ≡ is_shared_lem command.now }
+    ensures { result ≡ spec_is_shared command.now }
 {
     matches!(command, Command::View | Command::Commit)
 }

@@ -5,7 +5,7 @@ ghost use Rattle.std.specs.Fmt.{signed_decimal};
 ghost use Rattle.s57_types.specs.Heads.{level_number};
 ghost use Rattle.text_spec.specs.CellText.{kind_word};
 ghost use Rattle.text_spec.specs.EditLine.{attribute_item, deep_item, end_item, hexadecimal, item, partner_item, place_item, plane_item};
-ghost use Rattle.text_spec.specs.EditLine.{stands_for_itself as stands_for_itself_lem, text_byte, text_word};
+ghost use Rattle.text_spec.specs.EditLine.{stands_for_itself as spec_stands_for_itself, text_byte, text_word};
 ghost use Rattle.text_spec.specs.Lines.{spaced, spaced_words};
 
 use crate::words::{push_text, push_word, word_of_kind};
@@ -27,7 +27,7 @@ fn hexadecimal_digit(digit: u8) -> u8
 
 /// Whether a byte stands for itself in a text.
 fn stands_for_itself(byte: u8) -> bool
-    ensures { result ≡ stands_for_itself_lem byte }
+    ensures { result ≡ spec_stands_for_itself byte }
 {
     33 <= byte && byte <= 126 && byte != b'%'
 }
