@@ -5,6 +5,30 @@ ghost use Rattle.frame_spec.specs.RecordFrame.{AreDigits, decimal_value, IsLeade
 ghost use Rattle.frame_spec.specs.RecordFrame.{field_length, field_position, field_tag, entry_place, bytes_at};
 ghost use Rattle.iso_frame.specs.Numbers.{AreNumbers, IsRead};
 
+/// How long a leader is (ISO/IEC 8211), the length and the base address in it, and a field's tag in the directory.
+const LEADER: usize = 24;
+
+const NUMBER: usize = 5;
+
+const TAG: usize = 4;
+
+/// Where the parts of a leader stand: its identifier, the base address of the fields, and the entry map, which has the sizes of a field's
+/// length, of its position and of its tag.
+const IDENTIFIER: usize = 6;
+
+const BASE_ADDRESS: usize = 12;
+
+const LENGTH_SIZE: usize = 20;
+
+const POSITION_SIZE: usize = 21;
+
+const TAG_SIZE: usize = 23;
+
+/// A leader and the terminator of a directory without entries.
+const LEADER_AND_TERMINATOR: usize = 25;
+
+const FIELD_TERMINATOR: u8 = 0x1e;
+
 /// The number that digits write, if they are digits.
 fn decimal(digits: &[u8]) -> Option<usize>
     requires { length digits.now ≤ 9 }
@@ -37,16 +61,16 @@ pub fn read_leader(bytes: &[u8], at: usize, first: bool) -> Option<Leader>
     ensures { MatchOption result (IsLeader bytes.now at first → ⊥)
         (λ l. IsLeader bytes.now at first × AreNumbers bytes.now at l) }
 {
-    let length = decimal(&bytes[at..at + 5])?;
+    let length = decimal(&bytes[at..at + NUMBER])?;
     let kind = if first { b'L' } else { b'D' };
-    let base = decimal(&bytes[at + 12..at + 12 + 5])?;
-    let length_size = bytes[at + 20];
-    let position_size = bytes[at + 21];
-    if bytes[at + 6] != kind
+    let base = decimal(&bytes[at + BASE_ADDRESS..at + BASE_ADDRESS + NUMBER])?;
+    let length_size = bytes[at + LENGTH_SIZE];
+    let position_size = bytes[at + POSITION_SIZE];
+    if bytes[at + IDENTIFIER] != kind
         || !(b'1'..=b'9').contains(&length_size)
         || !(b'1'..=b'9').contains(&position_size)
-        || bytes[at + 23] != b'4'
-        || base < 25
+        || bytes[at + TAG_SIZE] != b'4'
+        || base < LEADER_AND_TERMINATOR
         || length < base
     {
         return None;
@@ -78,9 +102,9 @@ pub fn read_entry(bytes: &[u8], at: usize, leader: Leader, k: usize) -> Option<E
         × (e.length ≡ field_length bytes.now at k) × (e.position ≡ field_position bytes.now at k)) }
     ensures bound { MatchOption result (⊥ → ⊥) (λ e. (e.length < 10 ^ 9) × (e.position < 10 ^ 9)) }
 {
-    let size = 4 + leader.length_size + leader.position_size;
-    let place = at + 24 + k * size;
-    let text = place + 4;
+    let size = TAG + leader.length_size + leader.position_size;
+    let place = at + LEADER + k * size;
+    let text = place + TAG;
     let length = decimal(&bytes[text..text + leader.length_size])?;
     let text = text + leader.length_size;
     let position = decimal(&bytes[text..text + leader.position_size])?;
@@ -98,11 +122,11 @@ pub fn read_directory(bytes: &[u8], at: usize, leader: Leader) -> Option<usize>
     ensures { MatchOption result (IsDirectory bytes.now at → ⊥)
         (λ n. IsDirectory bytes.now at × (n ≡ count_at bytes.now at)) }
 {
-    if bytes[at + leader.base - 1] != 0x1e {
+    if bytes[at + leader.base - 1] != FIELD_TERMINATOR {
         return None;
     }
-    let size = 4 + leader.length_size + leader.position_size;
-    let room = leader.base - 25;
+    let size = TAG + leader.length_size + leader.position_size;
+    let room = leader.base - LEADER_AND_TERMINATOR;
     if room % size != 0 {
         return None;
     }
@@ -148,6 +172,6 @@ pub fn tag_of(bytes: &[u8], at: usize, leader: Leader, count: usize, k: usize) -
     requires below { k < count }
     ensures { result ≡ field_tag bytes.now at k }
 {
-    let size = 4 + leader.length_size + leader.position_size;
-    tag_at(bytes, at + 24 + k * size)
+    let size = TAG + leader.length_size + leader.position_size;
+    tag_at(bytes, at + LEADER + k * size)
 }
