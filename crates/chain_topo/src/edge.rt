@@ -7,7 +7,7 @@ ghost use Rattle.s57_types.specs.declared.record.Vector.{Vector as SpecVector};
 ghost use Rattle.cell_spec.specs.Names.{is_of_kind};
 ghost use Rattle.std.specs.Option.{option_copied};
 ghost use Rattle.rule_spec.specs.EdgePoints.{node_at as spec_node_at, node_position as spec_position, line_of as spec_line_of, edge_line_of, edge_points_of};
-ghost use Rattle.rule_spec.specs.Records.{edge_named as spec_edge, is_edge_name, vector_of};
+ghost use Rattle.rule_spec.specs.Records.{edge_named as spec_edge, is_edge_name, the_only as spec_the_only, vector_of};
 
 use crate::answers::Look;
 use check_words::{BEGINNING_NODE, END_NODE, the_only};
