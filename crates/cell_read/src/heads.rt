@@ -80,8 +80,7 @@ fn read_general_information_fields(
     ensures { GivesRecord result (fields_then 0 types.GeneralInformation general_information_from frame.now.fields) }
 {
     let values = read_fields(alloc, 0, RecordType::GeneralInformation, frame)?;
-    let general = general_information_from(values)?;
-    Ok(general)
+    Ok(general_information_from(values)?)
 }
 
 /// What the fields of a data set geographic reference record say, or their first fault.
@@ -89,8 +88,7 @@ fn read_geographic_reference_fields(alloc: Global, frame: &Frame<'_>) -> Result<
     ensures { GivesRecord result (fields_then 0 types.GeographicReference geographic_reference_from frame.now.fields) }
 {
     let values = read_fields(alloc, 0, RecordType::GeographicReference, frame)?;
-    let dspm = geographic_reference_from(values)?;
-    Ok(dspm)
+    Ok(geographic_reference_from(values)?)
 }
 
 /// The data set general information record, or its first fault.

@@ -68,8 +68,7 @@ fn read_vector(alloc: Global, frame: &Frame<'_>) -> Result<Rec, RecordRefusal>
     ensures { (nall : ℕ) → GivesKept nall result (vector_record frame.now.fields) }
 {
     let values = read_fields(alloc, 0, RecordType::Vector, frame)?;
-    let vector = vector_from(values)?;
-    Ok(vector)
+    Ok(vector_from(values)?)
 }
 
 /// What is kept of a feature record, or its first fault; national attributes are at the level NALL.
@@ -77,8 +76,7 @@ fn read_feature(alloc: Global, nall: u8, frame: &Frame<'_>) -> Result<Rec, Recor
     ensures { GivesKept nall result (feature_record nall frame.now.fields) }
 {
     let values = read_fields(alloc, nall, RecordType::Feature, frame)?;
-    let feature = feature_from(values)?;
-    Ok(feature)
+    Ok(feature_from(values)?)
 }
 
 /// A vector or feature record by itself, or its first fault. No head record may stand in its place. Of a record that is too
