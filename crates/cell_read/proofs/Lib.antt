@@ -4,7 +4,7 @@ pub mod Grown
 pub mod KeptRecords
 pub mod KeptSteps
 pub mod ListedRecords
-pub mod NameKeys
+pub mod NamesInOrder
 pub mod RecordSteps
 pub mod ValueSteps
 pub mod Windows

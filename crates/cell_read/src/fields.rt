@@ -52,10 +52,7 @@ pub fn read_fields(
     let mut values = no_values(alloc);
     let count = frame.count();
     for k in 0..count {
-        match read_field(alloc, nall, kind, frame, k, &mut values) {
-            Ok(()) => {}
-            Err(refusal) => return Err(refusal),
-        }
+        read_field(alloc, nall, kind, frame, k, &mut values)?;
     }
     Ok(values)
 }

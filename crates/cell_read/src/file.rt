@@ -32,14 +32,9 @@ fn read_next(
     ensures fault { (number : ℕ) → IfErr result (λ e. IsFaultAt number at e (with_following number reading.old.cell (records_after bytes.now at false))) }
 {
     let frame = next_record(bytes, at, false)?;
-    let rec = match read_record(alloc, reading.cell.head.nall, &frame) {
-        Ok(rec) => rec,
-        Err(refusal) => return Err(refusal),
-    };
-    match add_record(reading, rec) {
-        Ok(()) => Ok(frame.length()),
-        Err(refusal) => Err(refusal),
-    }
+    let rec = read_record(alloc, reading.cell.head.nall, &frame)?;
+    add_record(reading, rec)?;
+    Ok(frame.length())
 }
 
 /// The vector and feature records from a place on, which are those from number 4 on, as a cell with a head.
@@ -77,10 +72,8 @@ fn general_information_at(
     ensures within { IfOk result (λ x. x.1 ≤ length bytes.now) }
 {
     let frame = next_record(bytes, at, false)?;
-    match read_general_information(alloc, &frame) {
-        Ok(general) => Ok((general, at + frame.length())),
-        Err(refusal) => Err(refusal),
-    }
+    let general = read_general_information(alloc, &frame)?;
+    Ok((general, at + frame.length()))
 }
 
 /// The data set geographic reference record at a place, and the place behind it.
@@ -94,10 +87,8 @@ fn geographic_reference_at(
     ensures within { IfOk result (λ x. x.1 ≤ length bytes.now) }
 {
     let frame = next_record(bytes, at, false)?;
-    match read_geographic_reference(alloc, &frame) {
-        Ok(dspm) => Ok((dspm, at + frame.length())),
-        Err(refusal) => Err(refusal),
-    }
+    let dspm = read_geographic_reference(alloc, &frame)?;
+    Ok((dspm, at + frame.length()))
 }
 
 /// The head of a cell, whose first data record says so much, and the place behind the second one, which begins at a place.
@@ -149,8 +140,6 @@ pub fn read_cell(alloc: Global, bytes: &[u8]) -> Result<Cell, ReadRefusal>
     requires { length bytes.now ≤ 16777216 }
     ensures { GivesCell result (decoded_cell bytes.now) }
 {
-    match start_at(alloc, bytes) {
-        Ok((head, start)) => read_following(alloc, bytes, start, head),
-        Err(refusal) => Err(refusal),
-    }
+    let (head, start) = start_at(alloc, bytes)?;
+    read_following(alloc, bytes, start, head)
 }

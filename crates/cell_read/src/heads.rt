@@ -79,28 +79,16 @@ fn read_general_information_fields(
 ) -> Result<(Dsid, Dssi), RecordRefusal>
     ensures { GivesRecord result (fields_then 0 types.GeneralInformation general_information_from frame.now.fields) }
 {
-    let values = match read_fields(alloc, 0, RecordType::GeneralInformation, frame) {
-        Ok(values) => values,
-        Err(refusal) => return Err(refusal),
-    };
-    match general_information_from(values) {
-        Ok(general) => Ok(general),
-        Err(fault) => Err(RecordRefusal::Fault(fault)),
-    }
+    let values = read_fields(alloc, 0, RecordType::GeneralInformation, frame)?;
+    Ok(general_information_from(values)?)
 }
 
 /// What the fields of a data set geographic reference record say, or their first fault.
 fn read_geographic_reference_fields(alloc: Global, frame: &Frame<'_>) -> Result<Dspm, RecordRefusal>
     ensures { GivesRecord result (fields_then 0 types.GeographicReference geographic_reference_from frame.now.fields) }
 {
-    let values = match read_fields(alloc, 0, RecordType::GeographicReference, frame) {
-        Ok(values) => values,
-        Err(refusal) => return Err(refusal),
-    };
-    match geographic_reference_from(values) {
-        Ok(dspm) => Ok(dspm),
-        Err(fault) => Err(RecordRefusal::Fault(fault)),
-    }
+    let values = read_fields(alloc, 0, RecordType::GeographicReference, frame)?;
+    Ok(geographic_reference_from(values)?)
 }
 
 /// The data set general information record, or its first fault.
@@ -110,10 +98,7 @@ pub fn read_general_information(
 ) -> Result<(Dsid, Dssi), RecordRefusal>
     ensures { GivesRecord result (general_information frame.now.fields) }
 {
-    let kind = match record_type(frame) {
-        Ok(kind) => kind,
-        Err(fault) => return Err(RecordRefusal::Fault(fault)),
-    };
+    let kind = record_type(frame)?;
     if !is_general_information(kind) {
         return Err(RecordRefusal::Fault(RecordFault::HeadOrder));
     }
@@ -124,10 +109,7 @@ pub fn read_general_information(
 pub fn read_geographic_reference(alloc: Global, frame: &Frame<'_>) -> Result<Dspm, RecordRefusal>
     ensures { GivesRecord result (geographic_reference frame.now.fields) }
 {
-    let kind = match record_type(frame) {
-        Ok(kind) => kind,
-        Err(fault) => return Err(RecordRefusal::Fault(fault)),
-    };
+    let kind = record_type(frame)?;
     if !is_geographic_reference(kind) {
         return Err(RecordRefusal::Fault(RecordFault::HeadOrder));
     }

@@ -1,44 +1,22 @@
 //! The names of the records that were read.
 
-ghost use Rattle.std.specs.Prelude.{◌≡◌, ◌<◌, ◌≤◌, ◌==◌, ◌||◌, ℕ, false, true, not, length, slice_index_or, IfOk, OnOk};
+ghost use Rattle.std.specs.Prelude.{◌≡◌, ◌∷◌, ◌++◌, ◌||◌, [], false, true, not, IfOk, OnOk};
 ghost use Rattle.std.specs.List.{list_any};
+ghost use Rattle.std.specs.List.Sorted.{IsStrictlySortedBy};
 ghost use Rattle.s57_types.specs.declared.name.RecName.{RecName as SpecName};
-ghost use Rattle.cell_spec.specs.Names.{kind_rank, same_name};
-ghost use Rattle.cell_read.specs.NamesSeen.{Ascends, has_key, has_name, name_key};
+ghost use Rattle.cell_spec.specs.Names.{name_order, same_name};
+ghost use Rattle.cell_read.specs.NamesSeen.{Ascends, has_name};
 
-use s57_types::{Kind, RecName};
+use cell_spec::orders_are_by_parts;
+use s57_types::RecName;
 use std::alloc::{AllocError, Global};
 use std::collections::BTreeSet;
 
-/// How many numbers there are for the records of a kind.
-const NUMBERS: u64 = 0x1_0000_0000;
-
-/// Names, each once, as numbers. Those that came in ascending order, which are all in most files, take no search.
+/// Names, each once. Those that came in ascending order, which are all in most files, take no search.
 #[derive(Drop)]
 pub struct Names {
-    ascending: Vec<u64>,
-    others: BTreeSet<u64>,
-}
-
-/// The rank of a kind in the order of names.
-fn rank_of(kind: Kind) -> u64
-    ensures rank { result ≡ kind_rank kind }
-    ensures few { result ≤ 4 }
-{
-    match kind {
-        Kind::Vi => 0,
-        Kind::Vc => 1,
-        Kind::Ve => 2,
-        Kind::Fe => 3,
-        Kind::Head => 4,
-    }
-}
-
-/// A name as a number, in the order of names.
-fn key_of(name: RecName) -> u64
-    ensures { result ≡ name_key name }
-{
-    rank_of(name.kind) * NUMBERS + u64::from(name.id)
+    ascending: Vec<RecName>,
+    others: BTreeSet<RecName>,
 }
 
 impl Names {
@@ -53,46 +31,50 @@ impl Names {
         }
     }
 
-    /// Whether a number is greater than those that came in ascending order.
-    fn comes_last(&self, key: u64) -> bool
+    /// Whether a name comes behind those that came in ascending order.
+    fn comes_last(&self, name: RecName) -> bool
         requires { Ascends self.now }
-        ensures { result ≡ true → (k d : ℕ) → k < length self.now.ascending.items → slice_index_or self.now.ascending.items k d < key }
+        ensures { result ≡ true → IsStrictlySortedBy name_order (self.now.ascending.items ++ name ∷ []) }
     {
+        orders_are_by_parts();
         match self.ascending.last() {
-            Some(last) => *last < key,
+            Some(last) => last.cmp(&name).is_lt(),
             None => true,
         }
     }
 
-    /// Whether a number is one of those that came in ascending order.
-    fn is_among(&self, key: u64) -> bool
+    /// Whether a name is one of those that came in ascending order.
+    fn is_among(&self, name: RecName) -> bool
         requires { Ascends self.now }
-        ensures { result ≡ list_any (λ other. other == key) self.now.ascending.items }
+        ensures { result ≡ list_any (same_name name) self.now.ascending.items }
     {
-        if self.comes_last(key) {
+        if self.comes_last(name) {
             return false;
         }
-        self.ascending.binary_search(&key).is_ok()
+        orders_are_by_parts();
+        self.ascending.binary_search(&name).is_ok()
     }
 
-    /// Whether a number is one of the names'.
-    fn has(&self, key: u64) -> bool
+    /// Whether a name is one of these.
+    fn has(&self, name: RecName) -> bool
         requires { Ascends self.now }
-        ensures { result ≡ has_key self.now key }
+        ensures { result ≡ has_name self.now name }
     {
-        self.is_among(key) || self.others.contains(&key)
+        orders_are_by_parts();
+        self.is_among(name) || self.others.contains(&name)
     }
 
-    /// Puts a number among the names'.
-    fn put(&mut self, key: u64) -> Result<(), AllocError>
+    /// Puts a name among the others.
+    fn put(&mut self, name: RecName) -> Result<(), AllocError>
         requires { Ascends self.old }
         ensures ascends { OnOk result (Ascends self.new) }
-        ensures keys { OnOk result ((k : ℕ) → has_key self.new k ≡ ((k == key) || has_key self.old k)) }
+        ensures names { OnOk result ((n : SpecName) → has_name self.new n ≡ (same_name n name || has_name self.old n)) }
     {
-        if self.comes_last(key) {
-            self.ascending.push(key)?;
+        orders_are_by_parts();
+        if self.comes_last(name) {
+            self.ascending.push(name)?;
         } else {
-            self.others.insert(key)?;
+            self.others.insert(name)?;
         }
         Ok(())
     }
@@ -104,11 +86,10 @@ impl Names {
         ensures is_new { IfOk result (λ added. added ≡ not (has_name self.old name)) }
         ensures names { OnOk result ((n : SpecName) → has_name self.new n ≡ (same_name n name || has_name self.old n)) }
     {
-        let key = key_of(name);
-        if self.has(key) {
+        if self.has(name) {
             return Ok(false);
         }
-        self.put(key)?;
+        self.put(name)?;
         Ok(true)
     }
 }

@@ -67,28 +67,16 @@ fn feature_from(values: FieldValues) -> Result<Rec, RecordFault>
 fn read_vector(alloc: Global, frame: &Frame<'_>) -> Result<Rec, RecordRefusal>
     ensures { (nall : ℕ) → GivesKept nall result (vector_record frame.now.fields) }
 {
-    let values = match read_fields(alloc, 0, RecordType::Vector, frame) {
-        Ok(values) => values,
-        Err(refusal) => return Err(refusal),
-    };
-    match vector_from(values) {
-        Ok(vector) => Ok(vector),
-        Err(fault) => Err(RecordRefusal::Fault(fault)),
-    }
+    let values = read_fields(alloc, 0, RecordType::Vector, frame)?;
+    Ok(vector_from(values)?)
 }
 
 /// What is kept of a feature record, or its first fault; national attributes are at the level NALL.
 fn read_feature(alloc: Global, nall: u8, frame: &Frame<'_>) -> Result<Rec, RecordRefusal>
     ensures { GivesKept nall result (feature_record nall frame.now.fields) }
 {
-    let values = match read_fields(alloc, nall, RecordType::Feature, frame) {
-        Ok(values) => values,
-        Err(refusal) => return Err(refusal),
-    };
-    match feature_from(values) {
-        Ok(feature) => Ok(feature),
-        Err(fault) => Err(RecordRefusal::Fault(fault)),
-    }
+    let values = read_fields(alloc, nall, RecordType::Feature, frame)?;
+    Ok(feature_from(values)?)
 }
 
 /// A vector or feature record by itself, or its first fault. No head record may stand in its place. Of a record that is too
@@ -96,12 +84,11 @@ fn read_feature(alloc: Global, nall: u8, frame: &Frame<'_>) -> Result<Rec, Recor
 pub fn read_record(alloc: Global, nall: u8, frame: &Frame<'_>) -> Result<Rec, RecordRefusal>
     ensures { GivesKept nall result (record_said nall frame.now.fields) }
 {
-    match record_type(frame) {
-        Ok(RecordType::GeneralInformation | RecordType::GeographicReference) => {
+    match record_type(frame)? {
+        RecordType::GeneralInformation | RecordType::GeographicReference => {
             Err(RecordRefusal::Fault(RecordFault::HeadOrder))
         }
-        Ok(RecordType::Vector) => read_vector(alloc, frame),
-        Ok(RecordType::Feature) => read_feature(alloc, nall, frame),
-        Err(fault) => Err(RecordRefusal::Fault(fault)),
+        RecordType::Vector => read_vector(alloc, frame),
+        RecordType::Feature => read_feature(alloc, nall, frame),
     }
 }

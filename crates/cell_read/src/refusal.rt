@@ -64,6 +64,14 @@ impl From<AllocError> for RecordRefusal {
     }
 }
 
+impl From<RecordFault> for RecordRefusal {
+    ghost from_gives = { λ fault e. e ≡ Fault fault };
+
+    fn from(fault: RecordFault) -> RecordRefusal {
+        RecordRefusal::Fault(fault)
+    }
+}
+
 impl From<FrameFault> for RecordRefusal {
     ghost from_gives = { λ fault e. e ≡ Fault (of_frame fault) };
 

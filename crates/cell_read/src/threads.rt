@@ -45,10 +45,7 @@ fn read_window(alloc: Global, nall: u8, frames: &[Frame<'_>]) -> Result<Vec<Rec>
 {
     let mut recs = Vec::with_capacity(alloc, frames.len())?;
     for frame in frames {
-        let rec = match read_record(alloc, nall, frame) {
-            Ok(rec) => rec,
-            Err(refusal) => return Err(refusal),
-        };
+        let rec = read_record(alloc, nall, frame)?;
         if recs.push(rec).is_err() {
             return Err(RecordRefusal::NoMemory);
         }
@@ -129,10 +126,7 @@ pub fn read_cell_in_threads<R: Threads + Sync>(
     requires { length bytes.now ≤ 16777216 }
     ensures { GivesCell result (decoded_cell bytes.now) }
 {
-    let (head, start) = match start_at(alloc, bytes) {
-        Ok(start) => start,
-        Err(refusal) => return Err(refusal),
-    };
+    let (head, start) = start_at(alloc, bytes)?;
     match read_following(rt, alloc, bytes, start, head) {
         Ok(cell) => Ok(cell),
         Err(_) => read_cell(alloc, bytes),

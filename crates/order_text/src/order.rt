@@ -52,10 +52,7 @@ pub fn read_order(alloc: Global, bytes: &[u8], quotas: &[u32]) -> Result<Order, 
         return Err(OrderRefusal::BadPlace(0));
     };
     let items = order_items(alloc, behind)?;
-    let (order, used) = match read_sessions(alloc, &items, quotas) {
-        Ok(found) => found,
-        Err(refusal) => return Err(refusal),
-    };
+    let (order, used) = read_sessions(alloc, &items, quotas)?;
     if is_ended(behind, items.len(), quotas, &used) {
         Ok(Order::of_vec(order))
     } else {
