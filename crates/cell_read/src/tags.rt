@@ -35,11 +35,20 @@ pub fn tag_text(tag: FieldTag) -> [u8; 4]
     }
 }
 
+/// Whether two tags are spelled alike. Four bytes are compared one by one, since a comparison of lists takes far longer.
+fn is_text(name: &[u8; 4], text: &[u8; 4]) -> bool
+    ensures { result ≡ pointwise nat_eq name.now text.now }
+{
+    let [first, second, third, fourth] = *name;
+    let [one, two, three, four] = *text;
+    first == one && second == two && third == three && fourth == four
+}
+
 /// Whether a field of this name has a tag.
 fn is_tagged(tag: FieldTag, name: &[u8; 4]) -> bool
     ensures { result ≡ pointwise nat_eq name.now (tag_text tag) }
 {
-    *name == tag_text(tag)
+    is_text(name, &tag_text(tag))
 }
 
 /// Whether a record may have several fields of a tag.
@@ -122,7 +131,7 @@ pub fn stands_before(frame: &Frame<'_>, text: &[u8; 4], k: usize) -> bool
 {
     let mut stands = false;
     for j in 0..k {
-        stands |= frame.tag(j) == *text;
+        stands |= is_text(&frame.tag(j), text);
     }
     stands
 }
