@@ -1,13 +1,12 @@
 //! A tree of boxes.
 
-ghost use Rattle.std.specs.Prelude.{◌≡◌, ◌++◌, IfOk, IsPermutation, OnOk};
-ghost use Rattle.box_tree.specs.Leaves.{names_meeting};
+ghost use Rattle.std.specs.Prelude.{◌≡◌, ◌≤◌, ◌<◌, ◌++◌, false, true, length, IfOk, IsPermutation};
+ghost use Rattle.box_tree.specs.Leaves.{leaves_meeting};
 
 use crate::leaf::Leaf;
 use crate::node::Node;
 use crate::order::place_on_curve;
 use geometry_spec::Box4;
-use s57_types::RecName;
 use std::alloc::{AllocError, Global};
 use std::marker::Model;
 
@@ -37,7 +36,7 @@ impl Model for BoxTree {
 impl BoxTree {
     /// The tree of these leaves, in whatever order they are given.
     ///
-    /// An `Err` is out of memory.
+    /// An `Err` means out of memory.
     pub fn make(alloc: Global, mut leaves: Vec<Leaf>) -> Result<BoxTree, AllocError>
         ensures { IfOk result (λ tree. IsPermutation leaves.items tree) }
     {
@@ -47,12 +46,20 @@ impl BoxTree {
         })
     }
 
-    /// Appends the names of those leaves whose boxes have a point in common with a box, in the tree's order.
+    /// Appends the leaves whose boxes have a point in common with a box, in the tree's order, unless more than `most` leaves stand there then: then
+    /// some of them may be left out, and it says no.
     ///
-    /// An `Err` is out of memory.
-    pub fn push_meeting(&self, out: &mut Vec<RecName>, around: Box4) -> Result<(), AllocError>
-        ensures { OnOk result (out.new.items ≡ out.old.items ++ names_meeting around self.now) }
+    /// An `Err` means out of memory.
+    pub fn push_meeting(
+        &self,
+        out: &mut Vec<Leaf>,
+        around: Box4,
+        most: usize,
+    ) -> Result<bool, AllocError>
+        requires { length out.old.items ≤ most }
+        ensures meeting { IfOk result (λ all. all ≡ true → out.new.items ≡ out.old.items ++ leaves_meeting around self.now) }
+        ensures beyond { IfOk result (λ all. all ≡ false → most < length out.new.items) }
     {
-        self.root.push_meeting(out, around)
+        self.root.push_meeting(out, around, most)
     }
 }
