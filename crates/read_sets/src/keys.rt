@@ -90,11 +90,7 @@ fn put_targets(keys: &mut Vec<Key>, ends: &[End]) -> Result<(), AllocError>
 /// cell has under `name`. A node names none.
 ///
 /// An `Err` means out of memory.
-pub fn put_end_keys(
-    keys: &mut Vec<Key>,
-    name: RecName,
-    vector: &Vector,
-) -> Result<(), AllocError>
+pub fn put_end_keys(keys: &mut Vec<Key>, name: RecName, vector: &Vector) -> Result<(), AllocError>
     ensures { (c : SpecCell) (those : List SpecKey) → lookup_record c name ≡ Some (V vector.now) → keys.old.items ≡ ascending key_order those
         → OnOk result (keys.new.items ≡ ascending key_order (those ++ end_keys_at c name)) }
 {

@@ -109,7 +109,10 @@ fn second_part(alloc: Global, cut: EdgeSplit, chain: &Chain) -> Result<Vector, A
         .plane
         .as_slice()
         .split_at(cut.at.saturating_sub(2) as usize + 1);
-    let ends = [new_end(BEGINNING_NODE, cut.node), new_end(END_NODE, chain.line.ends)];
+    let ends = [
+        new_end(BEGINNING_NODE, cut.node),
+        new_end(END_NODE, chain.line.ends),
+    ];
     Ok(Vector {
         name: cut.fresh,
         rver: FIRST_VERSION,

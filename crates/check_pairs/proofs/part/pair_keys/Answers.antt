@@ -24,4 +24,4 @@ returns c = λ cell first second.
     let three = c.in_ok-put_key.ensures (end_keys_at cell a ++ end_keys_at cell b) two in
     let four = c.in_ok-put_key-2.ensures ((end_keys_at cell a ++ end_keys_at cell b) ++ Name a ∷ []) three in
     c.of_vec.ensures ∙ four ∙ ends_first cell a b (no_feature_keys cell a c.args.a.now.record.now first.record_held)
-        (no_feature_keys cell b c.args.b.now.record.now second.record_held)
+    (no_feature_keys cell b c.args.b.now.record.now second.record_held)

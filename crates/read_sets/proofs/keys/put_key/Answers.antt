@@ -32,5 +32,5 @@ pub returns-then-comes_last : goal.returns-then-comes_last
 returns-then-comes_last c = λ those held.
     let keys = c.args.keys.now.items in
     let behind = subst (λ (it : List Key). put_in_order key_order c.args.key it ≡ it ++ c.args.key ∷ []) c.deref.ensures.value
-        (c.comes_last.ensures c.if-comes_last.true those (c.deref.ensures.value ∙ held)) in
+    (c.comes_last.ensures c.if-comes_last.true those (c.deref.ensures.value ∙ held)) in
     c.in_ok-push.ensures.items ∙ with_last those keys c.args.key held behind
