@@ -1,5 +1,8 @@
 //! A boundary cut into loops.
 
+ghost use Rattle.std.specs.Prelude.{◌≡◌};
+ghost use Rattle.ring_build.specs.Partition.{length_of_block};
+
 use s57_types::Items;
 
 /// A loop of a boundary: the places of its first and its last piece, from 1.
@@ -7,6 +10,13 @@ use s57_types::Items;
 pub struct Block {
     pub from: u32,
     pub to: u32,
+}
+
+/// How many pieces a loop has.
+pub fn block_length(block: Block) -> usize
+    ensures { result ≡ length_of_block block }
+{
+    (block.to as usize + 1).saturating_sub(block.from as usize)
 }
 
 /// Loops one after the other.
