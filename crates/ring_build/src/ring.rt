@@ -1,6 +1,6 @@
 //! A boundary cut into loops.
 
-ghost use Rattle.std.specs.Prelude.{◌≡◌};
+ghost use Rattle.std.specs.Prelude.{◌≡◌, drop, take};
 ghost use Rattle.ring_build.specs.Partition.{length_of_block};
 
 use s57_types::Items;
@@ -17,6 +17,14 @@ pub fn block_length(block: Block) -> usize
     ensures { result ≡ length_of_block block }
 {
     (block.to as usize + 1).saturating_sub(block.from as usize)
+}
+
+/// The first `n` pieces of a boundary, and the pieces after them.
+pub fn split_loop<T>(pieces: &[T], n: usize) -> (&[T], &[T])
+    ensures front { result.0.now ≡ take n pieces.now }
+    ensures after { result.1.now ≡ drop n pieces.now }
+{
+    pieces.split_at(n.min(pieces.len()))
 }
 
 /// Loops one after the other.
