@@ -35,7 +35,7 @@ const FEATURE_WORK: usize = 8;
 /// The work of a connected node or an edge with those near it.
 const PAIRS_WORK: usize = 8;
 
-/// Appends records in blocks of at most so many.
+/// Appends records in blocks of at most `len`.
 fn push_record_blocks<'a>(
     cut: &mut Vec<Block<'a>>,
     names: &'a [RecName],
@@ -53,7 +53,7 @@ fn push_record_blocks<'a>(
     Ok(())
 }
 
-/// Appends sides of edges in blocks of at most so many.
+/// Appends sides of edges in blocks of at most `len`.
 fn push_side_blocks<'a>(
     cut: &mut Vec<Block<'a>>,
     edges: &'a [RecName],
@@ -71,7 +71,7 @@ fn push_side_blocks<'a>(
     Ok(())
 }
 
-/// Appends connected nodes and edges in blocks of at most so many.
+/// Appends connected nodes and edges in blocks of at most `len`.
 fn push_pair_blocks<'a>(
     cut: &mut Vec<Block<'a>>,
     leaves: &'a [Leaf],
@@ -89,7 +89,7 @@ fn push_pair_blocks<'a>(
     Ok(())
 }
 
-/// Appends identifiers in blocks of at most so many.
+/// Appends identifiers in blocks of at most `len`.
 fn push_identity_blocks<'a>(
     cut: &mut Vec<Block<'a>>,
     identities: &'a [Lnam],
@@ -158,7 +158,7 @@ impl<'a> Judged<'a> {
 
     /// All of it in blocks of about the same work, in the order of subjects.
     ///
-    /// An `Err` is out of memory.
+    /// An `Err` means out of memory.
     pub(crate) fn blocks(&self, alloc: Global) -> Result<Vec<Block<'_>>, AllocError>
         ensures { IfOk result (λ blocks. subjects_in self.now.tree blocks.items
             ≡ map SubjectRec self.now.names ++ (map SubjectSide self.now.edges.items ++ (flat_map (pairs_near self.now.tree) self.now.placed.leaves.items

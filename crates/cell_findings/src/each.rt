@@ -10,7 +10,7 @@ use std::thread::Threads;
 
 /// What a call answers about each item, in the order of items. Threads share them, each at least `fewest`.
 ///
-/// An `Err` is that of a call, or out of memory.
+/// An `Err` is that of a call, or means out of memory.
 pub fn each_in_threads<
     R: Threads + Sync,
     T: Sync,

@@ -95,10 +95,10 @@ fn gather<L: Ledger>(
 }
 
 /// All findings of a writable cell about its records, the sides of its edges, each two connected nodes or edges, and the
-/// identifiers of its features, ascending by subject, kind and numbers, where there are at most so many. Counting stops at
-/// the first subject that goes over the limit.
+/// identifiers of its features, ascending by subject, kind and numbers, where there are at most `limit`. Counting stops at
+/// the first subject that goes over it.
 ///
-/// An `Err` says that there are more, or is out of memory.
+/// An `Err` means that there are more, or out of memory.
 pub fn find_all<L: Ledger>(
     alloc: Global,
     cell: &Cell,

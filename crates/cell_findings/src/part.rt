@@ -69,7 +69,7 @@ fn push_leaf(leaves: &mut Vec<Leaf>, part: &ChainPart) -> Result<(), AllocError>
 }
 
 impl<'a> PlacedParts<'a> {
-    /// No parts, with the memory for so many boxes.
+    /// No parts, with the memory for `count` boxes.
     ///
     /// An `Err` means out of memory.
     pub(crate) fn with_capacity(alloc: Global, count: usize) -> Result<PlacedParts<'a>, AllocError>

@@ -86,7 +86,7 @@ fn changes_of<B: Look, L: Ledger>(
 /// The index of the tiles under a cell's connected nodes and edges, from the ascending names of its records. It looks up at most three times
 /// for each name.
 ///
-/// An `Err` is out of memory.
+/// An `Err` means out of memory.
 pub fn tiles_of<B: Look, L: Ledger>(
     alloc: Global,
     look: &B,

@@ -26,7 +26,7 @@ const UPPER_CORNER: u64 = 850;
 /// Where those of its lower right corner stand, below the frame.
 const LOWER_CORNER: u64 = 11_910;
 
-/// How high the page is with so many findings, in page units. A browser shows ten of them as a pixel.
+/// How high the page is with `total` findings, in page units. A browser shows ten of them as a pixel.
 fn page_height(total: u32) -> u64
     ensures { result ≡ spec_page_height total }
 {

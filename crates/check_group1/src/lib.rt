@@ -1,5 +1,4 @@
-//! The rules on the two sides of an edge and on identifiers of features: their findings, and the read sets that they
-//! depend on.
+//! The rules on the sides of edges in Group 1, and on identifiers: their findings, and the read sets that they depend on.
 #![tactic(auto)]
 
 mod finding;

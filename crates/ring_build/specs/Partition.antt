@@ -1,5 +1,5 @@
 -- A boundary cut into closed loops, or the place where it is open (S-57 Appendix B.1, 3.8).
-use Rattle.std.specs.Prelude.{◌≡◌, ℕ, ◌+◌, List, [], ◌∷◌, Option, None, Some, length, map}
+use Rattle.std.specs.Prelude.{◌≡◌, ℕ, ◌+◌, ◌-◌, List, [], ◌∷◌, Option, None, Some, length, map}
 use Rattle.rule_spec.specs.Loops.{Arc, AreLoops, first_open_place, loop_lengths}
 use Rattle.rule_spec.specs.Loops as loops
 use Rattle.ring_build.specs.declared.ring.Block.{Block}
@@ -10,6 +10,10 @@ use Rattle.ring_build.specs.declared.ring.RingCut.TheVariants.{Whole, OpenAt}
 abbrev pub blocks_after : ℕ → List ℕ → List Block
 blocks_after done [] = []
 blocks_after done (n ∷ ns) = record { from = done + 1; to = done + n } ∷ blocks_after (done + n) ns
+
+-- how many pieces a loop has by the places of its first and its last
+abbrev pub length_of_block : Block → ℕ
+length_of_block b = b.to + 1 - b.from
 
 -- the list is loops one after the other, and these are their places
 pub record IsWhole (arcs : List Arc) (blocks : List Block) : Type 0 where

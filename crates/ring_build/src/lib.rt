@@ -8,5 +8,5 @@ mod turn;
 
 pub use law::computed_cut_is_only;
 pub use partition::cut;
-pub use ring::{Block, Blocks, RingCut};
-pub use turn::turn_of;
+pub use ring::{Block, Blocks, RingCut, block_length, split_loop};
+pub use turn::{area_step, turn_of};

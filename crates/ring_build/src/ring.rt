@@ -1,5 +1,8 @@
 //! A boundary cut into loops.
 
+ghost use Rattle.std.specs.Prelude.{◌≡◌, drop, take};
+ghost use Rattle.ring_build.specs.Partition.{length_of_block};
+
 use s57_types::Items;
 
 /// A loop of a boundary: the places of its first and its last piece, from 1.
@@ -7,6 +10,21 @@ use s57_types::Items;
 pub struct Block {
     pub from: u32,
     pub to: u32,
+}
+
+/// How many pieces a loop has.
+pub fn block_length(block: Block) -> usize
+    ensures { result ≡ length_of_block block }
+{
+    (block.to as usize + 1).saturating_sub(block.from as usize)
+}
+
+/// The first `n` pieces of a boundary, and the pieces after them.
+pub fn split_loop<T>(pieces: &[T], n: usize) -> (&[T], &[T])
+    ensures front { result.0.now ≡ take n pieces.now }
+    ensures after { result.1.now ≡ drop n pieces.now }
+{
+    pieces.split_at(n.min(pieces.len()))
 }
 
 /// Loops one after the other.

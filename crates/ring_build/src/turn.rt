@@ -6,8 +6,8 @@ ghost use Rattle.geometry_spec.specs.Areas.{signed_double_area, twice_area_step 
 use geo_exact::{Point, twice_area_step};
 use s57_types::Plane;
 
-/// One step along the points.
-fn area_step(a: Point, b: Point) -> i128
+/// Twice the signed area that the step between two points sweeps, seen from the origin, in square coordinate units.
+pub fn area_step(a: Point, b: Point) -> i128
     ensures value { result ≡ twice_area_step_of a b }
     ensures small { unsigned_abs result ≤ 2 ^ 63 }
 {
