@@ -3,7 +3,7 @@ use Rattle.std.specs.List.{list_any}
 use Rattle.std.specs.List.Sorted.{IsBinarySearchResult, IsStrictlySortedBy}
 use Rattle.std.specs.declared.cmp.Ordering.{Ordering}
 use Rattle.s57_types.specs.declared.name.RecName.{RecName}
-use Rattle.cell_spec.specs.Names.{name_order, same_name}
+use Rattle.cell_spec.specs.Names.{name_order}
 use Rattle.cell_spec.proofs.Orders.{names_tie, same_from_either, total_names}
 use Rattle.row_spec.proofs.Sought.{found}
 use Rattle.cell_read.proofs.NamesInOrder.{none_behind}
