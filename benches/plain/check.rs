@@ -3,9 +3,9 @@
 //! `check WORK FILE` does the works in turn, up to and with WORK, prints what each gave to standard output and its time to standard error. The works:
 //! `read`, the file cut and decoded into records of their own, each fault told from the next; `look`, records by name, pointers grouped by target,
 //! features by identifier; `parts`, the lines of edges with boxes; `tree`, the tree of boxes, asked for each part for those above it that are near;
-//! `pairs`, what each two that are near have in common; `all`, the same, and all given back. Rules on records, sides and identifiers aren't there.
-//! `pass` does `read`, `look` and `parts` and then, in place of `tree` and `pairs`, one pass of the tree over itself, which judges each pair as it comes
-//! and puts the findings in order at last: the least that was found for the same findings.
+//! `pairs`, what each two that are near have in common; `rules`, the rules on records, sides and identifiers; `all`, the same, with the findings in the
+//! order and the words of `enc_cell check`, and all given back. `pass` does in place of `tree` and `pairs` one pass of the tree over itself, which judges
+//! each pair as it comes and puts the findings in order at last, then `rules` and all the rest: the least that was found for the same findings.
 
 mod boxes;
 mod frames;
@@ -16,6 +16,7 @@ mod parts;
 mod reading;
 #[allow(dead_code)]
 mod records;
+mod rules;
 #[allow(dead_code)]
 mod segments;
 
@@ -24,9 +25,10 @@ use look::Look;
 use names::Name;
 use parts::{Finding, Parts};
 use reading::{Cell, read_cell};
+use rules::Rules;
 use std::time::Instant;
 
-const WORKS: [&str; 7] = ["read", "look", "parts", "tree", "pairs", "all", "pass"];
+const WORKS: [&str; 8] = ["read", "look", "parts", "tree", "pairs", "rules", "all", "pass"];
 
 /// The names near each leaf, one list behind the other, and where the list of each ends.
 struct Near {
@@ -75,6 +77,32 @@ fn is_last(work: &str, done: &str, start: &mut Instant, said: &str) -> bool {
     work == done
 }
 
+/// The findings of all pairs, if WORK goes on behind them.
+fn pairs_of(work: &str, parts: &Parts, start: &mut Instant) -> Option<Vec<Finding>> {
+    if work == "pass" {
+        let (findings, count) = findings_in_one_pass(parts);
+        is_last(work, "pairs in one pass", start, &format!("{count} pairs, {} findings", findings.len()));
+        return Some(findings);
+    }
+    let tree = Tree::of(&parts.leaves);
+    let near = near_of(&tree, &parts.leaves);
+    if is_last(work, "tree", start, &format!("{} pairs", near.names.len())) {
+        return None;
+    }
+    let findings = findings_of(parts, &near);
+    if is_last(work, "pairs", start, &format!("{} findings", findings.len())) { None } else { Some(findings) }
+}
+
+/// All findings in the order of subjects.
+fn judged(look: &Look, parts: &Parts, is_ascii: bool, pairs: Vec<Finding>) -> Vec<Finding> {
+    let mut rules = Rules { look, parts, is_ascii, findings: Vec::new() };
+    rules.judge_records();
+    rules.judge_sides();
+    rules.findings.extend(pairs);
+    rules.judge_identifiers();
+    rules.findings
+}
+
 fn look_into(work: &str, cell: &Cell, start: &mut Instant) {
     let look = Look::of(cell);
     let pointers = look.pointers.len() + look.strays.len();
@@ -86,20 +114,11 @@ fn look_into(work: &str, cell: &Cell, start: &mut Instant) {
     if is_last(work, "parts", start, &said) {
         return;
     }
-    if work == "pass" {
-        let (findings, count) = findings_in_one_pass(&parts);
-        is_last(work, "pass", start, &format!("{count} pairs, {} findings", findings.len()));
-        return;
-    }
-    let tree = Tree::of(&parts.leaves);
-    let near = near_of(&tree, &parts.leaves);
-    if is_last(work, "tree", start, &format!("{} pairs", near.names.len())) {
-        return;
-    }
-    let findings = findings_of(&parts, &near);
-    is_last(work, "pairs", start, &format!("{} findings", findings.len()));
-    for finding in &findings {
-        println!("{:?} {} {:?}", finding.subject, finding.kind, finding.numbers);
+    let Some(pairs) = pairs_of(work, &parts, start) else { return };
+    let findings = judged(&look, &parts, cell.aall == 0, pairs);
+    is_last(work, "rules", start, &format!("{} findings", findings.len()));
+    if work != "rules" {
+        findings.iter().for_each(|finding| println!("{}", finding.text()));
     }
 }
 
@@ -122,8 +141,6 @@ fn main() {
         look_into(work, &cell, &mut start);
     }
     drop(cell);
-    if work == "all" {
-        is_last(work, "all", &mut start, "done");
-    }
+    is_last(work, "all", &mut start, "done");
     eprintln!("{} ns", begun.elapsed().as_nanos());
 }

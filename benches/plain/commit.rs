@@ -2,20 +2,28 @@
 //!
 //! `commit WORK COUNT SIZE [COMMITS]` does a work for so many commits, 10,000 if left out, COUNT times each, in tables of SIZE rows, prints a sum to
 //! standard output and the time to standard error, in all and in microseconds a commit. Orders of names and keys are written out (`names.rs`). The works:
-//! `looks`, look-ups by a record's name in a table whose copies share pieces, each sought among the names of the edits first; `rows`, look-ups by a
-//! subject in such a table; `puts`, versions of such tables: two with one put each, one with all other puts; `named`, subjects put behind others unless
-//! they are there; `near`, lists of 17 names put in order, each once; `pairs`, pairs whose two parts are found by halves and whose read sets of 5 keys
-//! are put together in order; `merged`, the same pairs where parts are taken by their places and read sets are merged; `features`, areas of 4 edges whose read set is put in order, each key once, and whose answers are found by halves;
-//! `coverage`, the same for an area along the border of the cell; `findings`, look-ups by a
-//! subject in a table without rows; `taken`, pieces of memory of 64 bytes taken, and given back together; `all`, these one after the other as often as
-//! in a commit on a cell of SIZE records.
+//!
+//! - `looks`: look-ups by a record's name in a table whose copies share pieces, each sought among the names of the edits first;
+//! - `looks_by_number`: the same in a table that compares no names (`numbers.rs`);
+//! - `rows`: look-ups by a subject in a table whose copies share pieces; `findings`: in one without rows, as that of a cell without findings;
+//! - `puts`: versions of such tables, two with one put each, one with all other puts; `puts_by_number`: the same of a table that compares no names;
+//! - `named`: subjects put behind others unless they are there;
+//! - `near`: lists of 17 names put in order, each once;
+//! - `pairs`: pairs whose two parts are found by halves and whose read sets of 5 keys are put together in order; `merged`: the same pairs where parts are
+//!   taken by their places and read sets are merged;
+//! - `features`: areas of 4 edges whose read set is put in order, each key once, and whose answers are found by halves; `coverage`: the same for the area
+//!   of data coverage, with all edges along the border of the cell;
+//! - `taken`: pieces of memory of 64 bytes taken, and given back together;
+//! - `all`: these one after the other, as often as in a commit on a cell of SIZE records; `least`: those that compare no names and merge.
 
 #[allow(dead_code)]
 mod names;
+mod numbers;
 #[allow(dead_code)]
 mod pieces;
 
 use names::{Key, Kind, Name, Subject};
+use numbers::ByNumber;
 use pieces::Table;
 use std::collections::BTreeSet;
 use std::hint::black_box;
@@ -63,9 +71,18 @@ fn rows(size: u32) -> Table<Subject, Arc<u64>> {
     table
 }
 
+fn numbered(size: u32) -> ByNumber<Arc<u64>> {
+    let mut table = ByNumber::empty();
+    for number in 0..size {
+        table.put(name_below(u64::from(number) << 20, size), Arc::new(u64::from(number)));
+    }
+    table
+}
+
 /// What the works of a commit stand on: the tables of a cell, and where the edit is.
 struct Stand {
     records: Table<Name, Arc<u64>>,
+    numbered: ByNumber<Arc<u64>>,
     rows: Table<Subject, Arc<u64>>,
     empty: Table<Subject, Arc<u64>>,
     size: u32,
@@ -82,6 +99,22 @@ fn looks(stand: &Stand, count: u32) -> u64 {
             sum = sum.wrapping_add(1);
         } else {
             sum = sum.wrapping_add(stand.records.get(name).map_or(7, |number| **number));
+        }
+    }
+    sum
+}
+
+/// The same look-ups in a table that compares no names.
+#[inline(never)]
+fn looks_by_number(stand: &Stand, count: u32) -> u64 {
+    let edited = black_box([name_below(stand.seed, stand.size)]);
+    let mut sum = 0u64;
+    for place in 0..count {
+        let name = near(stand.seed, place, stand.size);
+        if edited[0] == name {
+            sum = sum.wrapping_add(1);
+        } else {
+            sum = sum.wrapping_add(stand.numbered.get(name).map_or(7, |number| **number));
         }
     }
     sum
@@ -111,6 +144,20 @@ fn puts(stand: &mut Stand, count: u32) -> u64 {
             last = stand.records.share();
         }
         stand.records.put(near(stand.seed, place * 7, stand.size), Arc::new(u64::from(place)));
+    }
+    black_box(&last);
+    1
+}
+
+/// The same puts into a table that compares no names.
+#[inline(never)]
+fn puts_by_number(stand: &mut Stand, count: u32) -> u64 {
+    let mut last = stand.numbered.clone();
+    for place in 0..count {
+        if place < 3 {
+            last = stand.numbered.clone();
+        }
+        stand.numbered.put(near(stand.seed, place * 7, stand.size), Arc::new(u64::from(place)));
     }
     black_box(&last);
     1
@@ -281,9 +328,22 @@ fn whole(stand: &mut Stand, parts: &[Part], round: u32) -> u64 {
     sum ^ puts(stand, 7) ^ taken(stand.seed, pieces)
 }
 
+/// The same works where names are found by their numbers, and read sets of pairs are merged.
+fn least(stand: &mut Stand, parts: &[Part], round: u32) -> u64 {
+    let (names, findings, edges, each, pieces) = if stand.size < 10_000 { (176, 81, 100, 7, 112) } else { (195, 83, 400, 25, 120) };
+    let mut sum = looks_by_number(stand, names) ^ looks_of_rows(stand, 17) ^ looks_of_findings(stand, findings);
+    sum ^= named(stand, 10) ^ lists_near(stand, 5) ^ merged(parts, 72) ^ areas(stand, 4, 4);
+    if round % each == 0 {
+        sum ^= areas(stand, 1, edges);
+    }
+    sum ^ puts_by_number(stand, 7) ^ taken(stand.seed, pieces)
+}
+
 fn work(word: &str, stand: &mut Stand, parts: &[Part], count: u32, round: u32) -> u64 {
     match word {
         "looks" => looks(stand, count),
+        "looks_by_number" => looks_by_number(stand, count),
+        "puts_by_number" => puts_by_number(stand, count),
         "rows" => looks_of_rows(stand, count),
         "findings" => looks_of_findings(stand, count),
         "puts" => puts(stand, count),
@@ -295,7 +355,8 @@ fn work(word: &str, stand: &mut Stand, parts: &[Part], count: u32, round: u32) -
         "coverage" => areas(stand, count, if stand.size < 10_000 { 100 } else { 400 }),
         "taken" => taken(stand.seed, count),
         "all" => (0..count).fold(0, |sum, _| sum ^ whole(stand, parts, round)),
-        _ => panic!("work: looks, rows, findings, puts, named, near, pairs, merged, features, coverage, taken or all"),
+        "least" => (0..count).fold(0, |sum, _| sum ^ least(stand, parts, round)),
+        _ => panic!("a work that isn't there"),
     }
 }
 
@@ -304,7 +365,7 @@ fn main() {
     let count = words[2].parse().expect("a count");
     let size = words[3].parse().expect("a size");
     let commits: u32 = words.get(4).map_or(10_000, |word| word.parse().expect("a number of commits"));
-    let mut stand = Stand { records: records(size), rows: rows(size), empty: rows(0), size, seed: 2 };
+    let mut stand = Stand { records: records(size), numbered: numbered(size), rows: rows(size), empty: rows(0), size, seed: 2 };
     let parts = parts(size / 3);
     let start = Instant::now();
     let mut sum = 0u64;
@@ -314,6 +375,7 @@ fn main() {
     }
     let nanoseconds = start.elapsed().as_nanos();
     stand.records.each(&mut |_, number| sum = sum.wrapping_mul(31).wrapping_add(**number));
+    stand.numbered.each(&mut |number| sum = sum.wrapping_mul(31).wrapping_add(**number));
     println!("{} {count} {size} {sum}", words[1]);
     eprintln!("{:.2} microseconds a commit", nanoseconds as f64 / 1e3 / f64::from(commits));
     eprintln!("{nanoseconds} ns");

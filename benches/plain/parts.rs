@@ -6,11 +6,33 @@ use crate::names::{Kind, Name, Subject};
 use crate::records::Vector;
 use crate::segments::{Meeting, Point, Segment, meeting, on_segment};
 
-/// A finding with the numbers of the segments or points that it names.
+/// A finding with so many numbers.
 pub struct Finding {
     pub subject: Subject,
-    pub kind: &'static str,
-    pub numbers: [u32; 4],
+    kind: &'static str,
+    numbers: [u32; 4],
+    count: usize,
+}
+
+impl Finding {
+    pub fn of(subject: Subject, kind: &'static str, some: &[u32]) -> Finding {
+        let mut numbers = [0; 4];
+        numbers[..some.len()].copy_from_slice(some);
+        Finding { subject, kind, numbers, count: some.len() }
+    }
+
+    /// As `enc_cell check` tells it.
+    pub fn text(&self) -> String {
+        let name = |name: &Name| format!("{:?} {}", name.kind, name.id).to_lowercase();
+        let subject = match &self.subject {
+            Subject::Rec(rec) => format!("rec {}", name(rec)),
+            Subject::Side(edge) => format!("side {}", name(edge)),
+            Subject::Pair(first, second) => format!("pair {} {}", name(first), name(second)),
+            Subject::Ident(foid) => format!("ident {} {} {}", foid.agen, foid.fidn, foid.fids),
+        };
+        let numbers: String = self.numbers[..self.count].iter().map(|number| format!(" {}", number)).collect();
+        format!("{subject} {}{numbers}", self.kind)
+    }
 }
 
 /// The segments of a line. The one of a line without inner points takes no memory beside.
@@ -42,9 +64,9 @@ impl Segments {
 }
 
 /// The line of an edge: its nodes with their places, its segments, and the box around them.
-struct Line {
-    begins: (Name, Point),
-    ends: (Name, Point),
+pub struct Line {
+    pub begins: (Name, Point),
+    pub ends: (Name, Point),
     segments: Segments,
     around: Extent,
 }
@@ -52,7 +74,13 @@ struct Line {
 pub struct Part<'a> {
     pub name: Name,
     record: &'a Vector,
-    line: Option<Line>,
+    pub line: Option<Line>,
+}
+
+impl Line {
+    pub fn segments(&self) -> &[Segment] {
+        self.segments.list()
+    }
 }
 
 /// The one end of an edge with a topology indicator, if it is a connected node with one position.
@@ -114,7 +142,7 @@ impl<'a> Parts<'a> {
     }
 
     /// The part of a name, where its number says that it stands, or else found by halves.
-    fn part(&self, name: Name) -> Option<&Part<'a>> {
+    pub fn part(&self, name: Name) -> Option<&Part<'a>> {
         let parts = if name.kind == Kind::Ve { &self.edges } else { &self.nodes };
         let first = parts.first()?.name.id;
         match parts.get(name.id.wrapping_sub(first) as usize) {
@@ -126,12 +154,12 @@ impl<'a> Parts<'a> {
     /// The first finding about two, the lesser name first.
     pub fn finding(&self, a: Name, b: Name) -> Option<Finding> {
         let (first, second) = (self.part(a)?, self.part(b)?);
-        let (kind, numbers) = match (&first.line, &second.line) {
-            (Some(first), Some(second)) => line_pair(first, second)?,
-            (None, Some(line)) => node_and_line(first, second.record, line)?,
-            _ => same_place(first, second)?,
-        };
-        Some(Finding { subject: Subject::Pair(a, b), kind, numbers })
+        let pair = Subject::Pair(a, b);
+        match (&first.line, &second.line) {
+            (Some(first), Some(second)) => line_pair(first, second).map(|(kind, numbers)| Finding::of(pair, kind, &numbers)),
+            (None, Some(line)) => node_and_line(first, second.record, line).map(|number| Finding::of(pair, "NodeOnEdge", &[number])),
+            _ => same_place(first, second)?.then(|| Finding::of(pair, "SamePlace", &[])),
+        }
     }
 }
 
@@ -165,7 +193,7 @@ fn first_contact(places: &[Point], first: &Line, second: &Line) -> Option<(usize
     None
 }
 
-fn contact(places: &[Point], first: &Line, second: &Line) -> Option<(&'static str, [u32; 4])> {
+fn contact(places: &[Point], first: &Line, second: &Line) -> Option<(&'static str, [u32; 2])> {
     let (i, j) = first_contact(places, first, second)?;
     let (a, b) = (first.segments.list()[i], second.segments.list()[j]);
     let kind = match meeting(a, b) {
@@ -173,7 +201,7 @@ fn contact(places: &[Point], first: &Line, second: &Line) -> Option<(&'static st
         _ if on_segment(a.0, b) || on_segment(a.1, b) || on_segment(b.0, a) || on_segment(b.1, a) => "Touch",
         _ => "Cross",
     };
-    Some((kind, [i as u32 + 1, j as u32 + 1, 0, 0]))
+    Some((kind, [i as u32 + 1, j as u32 + 1]))
 }
 
 fn shared_place(end: (Name, Point), other: &Line) -> Option<Point> {
@@ -181,7 +209,7 @@ fn shared_place(end: (Name, Point), other: &Line) -> Option<Point> {
 }
 
 /// Two lines may meet at the places of nodes that both name.
-fn line_pair(first: &Line, second: &Line) -> Option<(&'static str, [u32; 4])> {
+fn line_pair(first: &Line, second: &Line) -> Option<(&'static str, [u32; 2])> {
     match (shared_place(first.begins, second), shared_place(first.ends, second)) {
         (Some(p), Some(q)) => contact(&[p, q], first, second),
         (Some(p), None) | (None, Some(p)) => contact(&[p], first, second),
@@ -189,16 +217,16 @@ fn line_pair(first: &Line, second: &Line) -> Option<(&'static str, [u32; 4])> {
     }
 }
 
-fn node_and_line(node: &Part, edge: &Vector, line: &Line) -> Option<(&'static str, [u32; 4])> {
+/// The number of the first segment on which a node lies that the edge doesn't name.
+fn node_and_line(node: &Part, edge: &Vector, line: &Line) -> Option<u32> {
     if edge.ends.iter().any(|end| end.to == node.name) {
         return None;
     }
     let place = position_of(node.record)?;
     let number = line.segments.list().iter().position(|segment| on_segment(place, *segment))?;
-    Some(("NodeOnEdge", [number as u32 + 1, 0, 0, 0]))
+    Some(number as u32 + 1)
 }
 
-fn same_place(first: &Part, second: &Part) -> Option<(&'static str, [u32; 4])> {
-    let is_same = position_of(first.record)? == position_of(second.record)?;
-    is_same.then_some(("SamePlace", [0; 4]))
+fn same_place(first: &Part, second: &Part) -> Option<bool> {
+    Some(position_of(first.record)? == position_of(second.record)?)
 }

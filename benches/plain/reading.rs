@@ -39,6 +39,8 @@ pub struct Cell {
     pub vc: Vec<Rec>,
     pub ve: Vec<Rec>,
     pub fe: Vec<Rec>,
+    /// The lexical level of attributes, which the head says.
+    pub aall: u8,
 }
 
 // ---- subfields
@@ -302,13 +304,16 @@ impl Cell {
 
 fn read_next(bytes: &[u8], number: u32, cell: &mut Cell, names: &mut Names) -> Result<usize, Fault> {
     let frame = next_record(bytes, number == 1).map_err(Fault::Frame)?;
+    if number == 2 {
+        cell.aall = (0..frame.count()).find(|place| frame.tag(*place) == *b"DSSI").map_or(0, |place| frame.field(place)[1]);
+    }
     if number > 3 {
         cell.add(names, read_record(&frame)?)?;
     }
     Ok(frame.length())
 }
 
-/// The cell of a file, or its first fault. The three records of its head are cut, and not decoded.
+/// The cell of a file, or its first fault. Of the three records of its head, which are cut, the level of attributes is read.
 #[inline(never)]
 pub fn read_cell(bytes: &[u8]) -> Result<Cell, Refusal> {
     let (mut cell, mut names) = (Cell::default(), Names::default());
