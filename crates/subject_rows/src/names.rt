@@ -29,6 +29,7 @@ fn push_unless(
 }
 
 /// The names of a pair, each if there is one.
+#[derive(Clone, Copy)]
 struct PairNames {
     first: Option<RecName>,
     second: Option<RecName>,
