@@ -10,13 +10,9 @@ use Rattle.box_tree.specs.declared.leaf.Leaf.{Leaf}
 abbrev pub meets : Box4 → Leaf → Bool
 meets around leaf = not (are_disjoint around leaf.around)
 
--- the leaves whose boxes have a point in common with a box, in their order
-abbrev pub leaves_meeting : Box4 → List Leaf → List Leaf
-leaves_meeting around leaves = filter (meets around) leaves
-
--- the names of these
+-- the names of the leaves whose boxes have a point in common with a box, in the order of the leaves
 abbrev pub names_meeting : Box4 → List Leaf → List RecName
-names_meeting around leaves = map (λ (leaf : Leaf). leaf.name) (leaves_meeting around leaves)
+names_meeting around leaves = map (λ (leaf : Leaf). leaf.name) (filter (meets around) leaves)
 
 -- the least box that holds a box and those of leaves
 abbrev pub box_with : Box4 → List Leaf → Box4

@@ -1,7 +1,7 @@
 //! Names with boxes.
 
 ghost use Rattle.std.specs.Prelude.{◌≡◌, ◌++◌, OnOk};
-ghost use Rattle.box_tree.specs.Leaves.{box_with as spec_box_with, leaves_meeting};
+ghost use Rattle.box_tree.specs.Leaves.{box_with as spec_box_with, names_meeting};
 
 use geometry_spec::Box4;
 use line_boxes::{are_disjoint, united};
@@ -16,7 +16,7 @@ pub struct Leaf {
 }
 
 /// The least box that holds a box and those of leaves.
-pub fn box_with(start: Box4, leaves: &[Leaf]) -> Box4
+pub(crate) fn box_with(start: Box4, leaves: &[Leaf]) -> Box4
     ensures { result ≡ spec_box_with start leaves.now }
 {
     let mut around = start;
@@ -26,17 +26,17 @@ pub fn box_with(start: Box4, leaves: &[Leaf]) -> Box4
     around
 }
 
-/// Appends those leaves whose boxes meet a box.
-pub(crate) fn push_leaves(
-    out: &mut Vec<Leaf>,
+/// Appends the names of those leaves whose boxes meet a box.
+pub(crate) fn push_names(
+    out: &mut Vec<RecName>,
     around: Box4,
     leaves: &[Leaf],
 ) -> Result<(), AllocError>
-    ensures { OnOk result (out.new.items ≡ out.old.items ++ leaves_meeting around leaves.now) }
+    ensures { OnOk result (out.new.items ≡ out.old.items ++ names_meeting around leaves.now) }
 {
     for leaf in leaves {
         if !are_disjoint(around, leaf.around) {
-            out.push(*leaf)?;
+            out.push(leaf.name)?;
         }
     }
     Ok(())

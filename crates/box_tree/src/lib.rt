@@ -1,4 +1,4 @@
-//! A tree of boxes around what has names, asked for those whose boxes meet a box.
+//! A tree of boxes around what has names, asked for the names whose boxes meet a box.
 #![tactic(auto)]
 
 mod leaf;
@@ -6,5 +6,5 @@ mod node;
 mod order;
 mod tree;
 
-pub use leaf::{Leaf, box_with};
+pub use leaf::Leaf;
 pub use tree::BoxTree;

@@ -1,12 +1,13 @@
 //! Leaves in halves, each two of which have a box around them.
 
-ghost use Rattle.std.specs.Prelude.{◌≡◌, ◌≤◌, ◌<◌, ◌++◌, false, true, length, IfOk};
-ghost use Rattle.box_tree.specs.Leaves.{leaves_meeting};
+ghost use Rattle.std.specs.Prelude.{◌≡◌, ◌++◌, IfOk, OnOk};
+ghost use Rattle.box_tree.specs.Leaves.{names_meeting};
 ghost use Rattle.box_tree.specs.Nodes.{AreHeld, leaves_of};
 
-use crate::leaf::{Leaf, box_with, push_leaves};
+use crate::leaf::{Leaf, box_with, push_names};
 use geometry_spec::Box4;
 use line_boxes::are_disjoint;
+use s57_types::RecName;
 use std::alloc::{AllocError, Global};
 
 /// How many leaves are looked at one by one.
@@ -36,33 +37,25 @@ impl Node {
         Ok(Node::Halves(front_box, front, back_box, back))
     }
 
-    /// Appends the leaves whose boxes meet a box, unless more than `most` stand there then: then some of them may be left out, and it says no.
+    /// Appends the names of those leaves whose boxes meet a box.
     pub(crate) fn push_meeting(
         &self,
-        out: &mut Vec<Leaf>,
+        out: &mut Vec<RecName>,
         around: Box4,
-        most: usize,
-    ) -> Result<bool, AllocError>
-        requires held { AreHeld self.now }
-        requires within { length out.old.items ≤ most }
-        ensures meeting { IfOk result (λ all. all ≡ true → out.new.items ≡ out.old.items ++ leaves_meeting around (leaves_of self.now)) }
-        ensures within { IfOk result (λ all. all ≡ true → length out.new.items ≤ most) }
-        ensures beyond { IfOk result (λ all. all ≡ false → most < length out.new.items) }
+    ) -> Result<(), AllocError>
+        requires { AreHeld self.now }
+        ensures { OnOk result (out.new.items ≡ out.old.items ++ names_meeting around (leaves_of self.now)) }
     {
         match self {
-            Node::Few(leaves) => {
-                push_leaves(out, around, leaves)?;
-                Ok(out.len() <= most)
-            }
+            Node::Few(leaves) => push_names(out, around, leaves),
             Node::Halves(front_box, front, back_box, back) => {
-                if !are_disjoint(around, *front_box) && !front.push_meeting(out, around, most)? {
-                    return Ok(false);
+                if !are_disjoint(around, *front_box) {
+                    front.push_meeting(out, around)?;
                 }
-                if are_disjoint(around, *back_box) {
-                    return Ok(true);
+                if !are_disjoint(around, *back_box) {
+                    back.push_meeting(out, around)?;
                 }
-                let all = back.push_meeting(out, around, most)?;
-                Ok(all)
+                Ok(())
             }
         }
     }

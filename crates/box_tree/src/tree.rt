@@ -1,12 +1,13 @@
 //! A tree of boxes.
 
-ghost use Rattle.std.specs.Prelude.{◌≡◌, ◌≤◌, ◌<◌, ◌++◌, false, true, length, IfOk, IsPermutation};
-ghost use Rattle.box_tree.specs.Leaves.{leaves_meeting};
+ghost use Rattle.std.specs.Prelude.{◌≡◌, ◌++◌, IfOk, IsPermutation, OnOk};
+ghost use Rattle.box_tree.specs.Leaves.{names_meeting};
 
 use crate::leaf::Leaf;
 use crate::node::Node;
 use crate::order::place_on_curve;
 use geometry_spec::Box4;
+use s57_types::RecName;
 use std::alloc::{AllocError, Global};
 use std::marker::Model;
 
@@ -36,7 +37,7 @@ impl Model for BoxTree {
 impl BoxTree {
     /// The tree of these leaves, in whatever order they are given.
     ///
-    /// An `Err` means out of memory.
+    /// An `Err` is out of memory.
     pub fn make(alloc: Global, mut leaves: Vec<Leaf>) -> Result<BoxTree, AllocError>
         ensures { IfOk result (λ tree. IsPermutation leaves.items tree) }
     {
@@ -46,20 +47,12 @@ impl BoxTree {
         })
     }
 
-    /// Appends the leaves whose boxes have a point in common with a box, in the tree's order, unless more than `most` leaves stand there then: then
-    /// some of them may be left out, and it says no.
+    /// Appends the names of those leaves whose boxes have a point in common with a box, in the tree's order.
     ///
-    /// An `Err` means out of memory.
-    pub fn push_meeting(
-        &self,
-        out: &mut Vec<Leaf>,
-        around: Box4,
-        most: usize,
-    ) -> Result<bool, AllocError>
-        requires { length out.old.items ≤ most }
-        ensures meeting { IfOk result (λ all. all ≡ true → out.new.items ≡ out.old.items ++ leaves_meeting around self.now) }
-        ensures beyond { IfOk result (λ all. all ≡ false → most < length out.new.items) }
+    /// An `Err` is out of memory.
+    pub fn push_meeting(&self, out: &mut Vec<RecName>, around: Box4) -> Result<(), AllocError>
+        ensures { OnOk result (out.new.items ≡ out.old.items ++ names_meeting around self.now) }
     {
-        self.root.push_meeting(out, around, most)
+        self.root.push_meeting(out, around)
     }
 }

@@ -1,35 +1,34 @@
 use Rattle.std.proofs.Common.{◌≡◌, ◌++◌, ◌∙◌, ap, subst, sym}
-use Rattle.box_tree.specs.Leaves.{leaves_meeting}
+use Rattle.box_tree.specs.Leaves.{names_meeting}
 use Rattle.box_tree.specs.Nodes.{AreHeld, leaves_of}
 use Rattle.box_tree.proofs.Holding.{both_asked, unasked}
 use Rattle.box_tree.proofs.node.Node.+push_meeting.Goals as goal
-use Rattle.box_tree.proofs.node.Node.+push_meeting.Goals.{After-are_disjoint-in-Halves, else-not-are_disjoint-via-else-not-are_disjoint}
-use Rattle.box_tree.proofs.node.Node.+push_meeting.Goals.{else-not-are_disjoint-via-then-not-are_disjoint+in_ok-push_meeting-in-Halves+else-not-branch}
+use Rattle.box_tree.proofs.node.Node.+push_meeting.Goals.{After-are_disjoint-in-Halves, then-not-are_disjoint+in_ok-push_meeting-in-Halves, else-not-are_disjoint}
 
 -- what the front half adds
 first_asked : (t : _) → (c : After-are_disjoint-in-Halves t)
-    → c.else-not-are_disjoint.out.items ≡ c.args.out.now.items ++ leaves_meeting c.args.around (leaves_of c.in-Halves.front.value)
+    → c.if-not-are_disjoint.out.items ≡ c.args.out.now.items ++ names_meeting c.args.around (leaves_of c.in-Halves.front.value)
 first_asked t c =
-    let held = subst AreHeld c.in-Halves.is c.requires.held in
-    elim c.else-not-are_disjoint.branch [
-      | else-not-are_disjoint-via-then-not-are_disjoint+in_ok-push_meeting-in-Halves+else-not-branch w ↦ ap (λ v. v.items) w.out-is
-          ∙ w.in_ok-push_meeting-in-Halves.ensures.meeting w.if-not-branch.false
-          ∙ ap (λ node. c.args.out.now.items ++ leaves_meeting c.args.around (leaves_of node)) w.deref-then-not-are_disjoint.ensures
-      | else-not-are_disjoint-via-else-not-are_disjoint w ↦ ap (λ v. v.items) w.out-is
+    let held = subst AreHeld c.in-Halves.is c.requires in
+    elim c.if-not-are_disjoint.branch [
+      | then-not-are_disjoint+in_ok-push_meeting-in-Halves w ↦
+          let out = w.out-is in let asked = w.in_ok-push_meeting-in-Halves.ensures in let half = w.deref-then-not-are_disjoint.ensures in cc
+      | else-not-are_disjoint w ↦ ap (λ v. v.items) w.out-is
           ∙ unasked _ c.args.around _ _ held.0 (sym w.if-not-are_disjoint.ensures)
     ]
 
-pub returns-then-are_disjoint-clause-meeting : goal.returns-then-are_disjoint-clause-meeting
-returns-then-are_disjoint-clause-meeting t c = λ all.
+pub returns-in_ok-push_meeting-in-Halves-2 : goal.returns-in_ok-push_meeting-in-Halves-2
+returns-in_ok-push_meeting-in-Halves-2 t c =
     let around = c.args.around in
-    let held = subst AreHeld c.in-Halves.is c.requires.held in
-    let first = first_asked t (goal.at.returns-then-are_disjoint-clause-meeting t c).After-are_disjoint-in-Halves in
-    both_asked _ _ _ around _ _ first (unasked _ around _ _ held.2 (sym c.if-are_disjoint.ensures))
-    ∙ ap (λ node. c.args.out.now.items ++ leaves_meeting around (leaves_of node)) (sym c.in-Halves.is)
+    let first = first_asked t (goal.at.returns-in_ok-push_meeting-in-Halves-2 t c).After-are_disjoint-in-Halves in
+    let second = let asked = c.in_ok-push_meeting-in-Halves-2.ensures in let half = c.deref-then-not-are_disjoint-2.ensures in
+    asked ∙ ap (λ node. c.if-not-are_disjoint.out.items ++ names_meeting around (leaves_of node)) half in
+    both_asked _ _ _ around _ _ first second ∙ ap (λ node. c.args.out.now.items ++ names_meeting around (leaves_of node)) (sym c.in-Halves.is)
 
-pub returns-in_ok-all-in-Halves-clause-meeting : goal.returns-in_ok-all-in-Halves-clause-meeting
-returns-in_ok-all-in-Halves-clause-meeting t c = λ all.
+pub returns-else-not-are_disjoint-2 : goal.returns-else-not-are_disjoint-2
+returns-else-not-are_disjoint-2 t c =
     let around = c.args.around in
-    let first = first_asked t (goal.at.returns-in_ok-all-in-Halves-clause-meeting t c).After-are_disjoint-in-Halves in
-    let second = c.in_ok-all-in-Halves.ensures.meeting all ∙ ap (λ node. c.else-not-are_disjoint.out.items ++ leaves_meeting around (leaves_of node)) c.deref-in-Halves.ensures in
-    both_asked _ _ _ around _ _ first second ∙ ap (λ node. c.args.out.now.items ++ leaves_meeting around (leaves_of node)) (sym c.in-Halves.is)
+    let held = subst AreHeld c.in-Halves.is c.requires in
+    let first = first_asked t (goal.at.returns-else-not-are_disjoint-2 t c).After-are_disjoint-in-Halves in
+    both_asked _ _ _ around _ _ first (unasked _ around _ _ held.2 (sym c.if-not-are_disjoint-2.ensures))
+    ∙ ap (λ node. c.args.out.now.items ++ names_meeting around (leaves_of node)) (sym c.in-Halves.is)
