@@ -3,7 +3,8 @@ use Rattle.box_tree.specs.Leaves.{names_meeting}
 use Rattle.box_tree.specs.Nodes.{AreHeld, leaves_of}
 use Rattle.box_tree.proofs.Holding.{both_asked, unasked}
 use Rattle.box_tree.proofs.node.Node.+push_meeting.Goals as goal
-use Rattle.box_tree.proofs.node.Node.+push_meeting.Goals.{After-are_disjoint-in-Halves, then-not-are_disjoint+in_ok-push_meeting-in-Halves, else-not-are_disjoint}
+use Rattle.box_tree.proofs.node.Node.+push_meeting.Goals.{After-are_disjoint-in-Halves, else-not-are_disjoint}
+use Rattle.box_tree.proofs.node.Node.+push_meeting.Goals.{then-not-are_disjoint+in_ok-push_meeting-in-Halves}
 
 -- what the front half adds
 first_asked : (t : _) → (c : After-are_disjoint-in-Halves t)
