@@ -26,6 +26,20 @@ pub trait Piece<K>: Sized {
     fn halves(&self, at: usize) -> Option<(Self, K, Self)>;
     fn put(&mut self, key: K, value: Self::Value);
     fn each(&self, visit: &mut impl FnMut(K, &Self::Value));
+    /// The bytes of its memory and of that of the pieces below it, without what rows point to.
+    fn bytes(&self) -> usize;
+}
+
+/// The bytes that an allocator takes for so many: a length before them, in sixteens.
+#[allow(dead_code)]
+pub fn taken_for(bytes: usize) -> usize {
+    if bytes == 0 { 0 } else { (bytes + 8).next_multiple_of(16).max(32) }
+}
+
+/// The bytes behind a count.
+#[allow(dead_code)]
+pub fn counted_bytes<T>() -> usize {
+    taken_for(16 + size_of::<T>())
 }
 
 pub struct Run<K, V> {
@@ -82,6 +96,9 @@ impl<K: Ord + Copy, V: Clone> Piece<K> for Run<K, V> {
         for (key, value) in &self.rows {
             visit(*key, value);
         }
+    }
+    fn bytes(&self) -> usize {
+        counted_bytes::<Self>() + taken_for(self.rows.capacity() * size_of::<(K, V)>())
     }
 }
 
@@ -166,6 +183,10 @@ impl<K: Ord + Copy, P: Piece<K>> Piece<K> for Layer<K, P> {
             entry.piece.each(visit);
         }
     }
+    fn bytes(&self) -> usize {
+        let below: usize = self.entries.iter().map(|entry| entry.piece.bytes()).sum();
+        below + counted_bytes::<Self>() + taken_for(self.entries.capacity() * size_of::<Entry<K, P>>())
+    }
 }
 
 type Root<K, V> = Layer<K, Layer<K, Layer<K, Layer<K, Run<K, V>>>>>;
@@ -197,6 +218,12 @@ impl<K: Ord + Copy, V: Clone> Table<K, V> {
 
     pub fn get(&self, key: K) -> Option<&V> {
         self.root.as_ref()?.get(key)
+    }
+
+    /// The bytes of its pieces.
+    #[allow(dead_code)]
+    pub fn bytes(&self) -> usize {
+        self.root.as_ref().map_or(0, |root| root.bytes())
     }
 
     pub fn each(&self, visit: &mut impl FnMut(K, &V)) {

@@ -42,6 +42,12 @@ fn meeting_along_line((p, q): Segment, (r, s): Segment) -> Meeting {
     }
 }
 
+/// Whether a point lies on a closed segment, by the formula of `geo_exact::on_segment`.
+#[allow(dead_code)]
+pub fn on_segment(w: Point, (p, q): Segment) -> bool {
+    side(p, q, w) == 0 && p.min(q) <= w && w <= p.max(q)
+}
+
 /// What two segments have in common, by the formula of `geo_exact::meeting`.
 pub fn meeting(a: Segment, b: Segment) -> Meeting {
     if are_disjoint(a, b) {

@@ -94,10 +94,8 @@ impl<'a, D: Disk> Journal<'a, D> {
         ensures counted { IfOk result (λ journal. D.faults journal.disk.now ≡ D.faults disk.old) }
         ensures err { IfErr result (IsOpenCause cell (D.content disk.old)) }
     {
-        match open_book(rt, alloc, cell, disk, steps) {
-            Ok((book, end)) => Ok(Journal::over(disk, book, end)),
-            Err(why) => Err(why),
-        }
+        let (book, end) = open_book(rt, alloc, cell, disk, steps)?;
+        Ok(Journal::over(disk, book, end))
     }
 
     /// The journal on a disk whose commits a book has, and whose list ends at a place. The place is below 2^63.

@@ -54,7 +54,7 @@ fn take_entry<R: Threads + Sync, L: Ledger>(
 
 /// Takes the first commits of a list into a book, at most so many as a journal that is opened may have, and gives what follows them.
 ///
-/// An `Err` tells the place of a damaged entry, or is out of memory.
+/// An `Err` tells the place of a damaged entry, or means out of memory.
 fn fill_book<'a, R: Threads + Sync, L: Ledger>(
     rt: &R,
     alloc: Global,
@@ -106,7 +106,7 @@ fn take_edits<L: Ledger>(
 
 /// How many commits a list has behind those that a book took, up to its end. No book is asked, since it has no room for all of them.
 ///
-/// An `Err` tells the place of a damaged entry, or is out of memory.
+/// An `Err` tells the place of a damaged entry, or means out of memory.
 fn count_rest<L: Ledger>(
     alloc: Global,
     book: &Book,

@@ -59,7 +59,7 @@ fn are_file_bytes(bytes: &[u8])
 
 /// The cell of a file, before its findings are counted. The file's bytes are given back then.
 fn decode<R: Threads + Sync>(rt: &R, alloc: Global, bytes: Vec<u8>) -> Result<Cell, Status>
-    requires small { length bytes.items ≤ 16777216 }
+    requires small { length bytes.items ≤ cell_limit }
     ensures decoded { IfOk result (λ cell. decoded_cell bytes.items ≡ Ok cell) }
     ensures refused { IfErr result (λ status. (cell_in bytes.items ≡ Err status) ⊎ (status ≡ Status.NoMemory)) }
     ensures writable { IfOk result IsWritable }
@@ -80,7 +80,7 @@ fn decode<R: Threads + Sync>(rt: &R, alloc: Global, bytes: Vec<u8>) -> Result<Ce
 
 /// The cell of a file, with its findings. The file's bytes are given back before these are looked for.
 fn judge_cell<R: Threads + Sync>(rt: &R, alloc: Global, bytes: Vec<u8>) -> Result<Checked, Status>
-    requires small { length bytes.items ≤ 16777216 }
+    requires small { length bytes.items ≤ cell_limit }
     ensures judged { IsJudged (λ checked. checked.cell) (cell_in bytes.items) result }
     ensures of_file { IfOk result (λ checked. IsCellOfFile checked.cell) }
     ensures findings { IfOk result (λ checked. IsAllOf checked.cell finding_limit checked.findings) }
@@ -98,7 +98,7 @@ fn judge_cell<R: Threads + Sync>(rt: &R, alloc: Global, bytes: Vec<u8>) -> Resul
 
 /// The bench of a file's cell. The file's bytes are given back before it takes its memory.
 fn judge_bench<R: Threads + Sync>(rt: &R, alloc: Global, bytes: Vec<u8>) -> Result<Bench, Status>
-    requires small { length bytes.items ≤ 16777216 }
+    requires small { length bytes.items ≤ cell_limit }
     ensures judged { IsJudged (λ bench. bench) (cell_in bytes.items) result }
     ensures of_file { IfOk result IsCellOfFile }
     ensures status { IfErr result (IsInputStatus (λ n. ⊥)) }

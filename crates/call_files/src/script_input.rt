@@ -2,7 +2,7 @@
 
 ghost use Rattle.std.specs.Prelude.{◌≡◌, ◌≤◌, ◌++◌, ◌∷◌, [], All, IfErr, IfOk, OnOk, length, map, string_bytes};
 ghost use Rattle.export_laws.specs.ExportedCells.{IsScriptOfText};
-ghost use Rattle.sessions.specs.Replays.{IsShortScript};
+ghost use Rattle.sessions.specs.Replays.{IsShortScript, session_limit};
 ghost use Rattle.room_laws.specs.Orders.{quotas_of as quotas_of_lem};
 ghost use Rattle.call_files.specs.Inputs.{IsAmong, IsFile, IsInputStatus, IsJudgedScript, IsReachedScript, IsScriptWithin, ScriptIs, ScriptsAre, Tells};
 ghost use Rattle.call_files.specs.Inputs.{IsNotOfOrder, TellsReads, script_limit};
@@ -70,7 +70,7 @@ pub fn scripts_in_files<H: Shelf>(
     shelf: &mut H,
     names: &[String],
 ) -> Result<Vec<Script>, Status>
-    requires few { length names.now ≤ 16 }
+    requires few { length names.now ≤ session_limit }
     ensures tells { Tells (λ scripts. scripts.items) (ScriptsAre (map string_bytes names.now)) (λ fs n. IsReachedScript (map string_bytes names.now) fs n)
         (H.files shelf.old) (H.read_faults shelf.old) (H.read_faults shelf.new) result }
     ensures many { IfOk result (λ scripts. length scripts.items ≡ length names.now) }
@@ -86,10 +86,7 @@ pub fn scripts_in_files<H: Shelf>(
     let mut scripts = Vec::new(alloc);
     for (k, name) in names.iter().enumerate() {
         let session = k as u32 + 1;
-        let script = match script_in_file(alloc, shelf, name.as_str(), session) {
-            Ok(script) => script,
-            Err(status) => return Err(status),
-        };
+        let script = script_in_file(alloc, shelf, name.as_str(), session)?;
         push_script(&mut scripts, script)?;
     }
     Ok(scripts)

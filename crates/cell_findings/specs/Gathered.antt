@@ -1,5 +1,5 @@
 -- Findings that are gathered within a limit. This project's own.
-use Rattle.std.specs.Prelude.{◌≡◌, ℕ, ◌≤◌, ◌<◌, List, length}
+use Rattle.std.specs.Prelude.{◌≡◌, ℕ, ◌≤◌, ◌<◌, ◌++◌, List, MatchResult, Result, length}
 use Rattle.cell_findings.specs.declared.list.SubjectFinding.{SubjectFinding}
 use Rattle.cell_findings.specs.declared.refusal.LoadRefusal.{LoadRefusal}
 use Rattle.cell_findings.specs.declared.refusal.LoadRefusal.TheVariants.{FindingsFull, NoMemory}
@@ -13,3 +13,7 @@ pub record IsGathered (limit : ℕ) (all found : List SubjectFinding) : Type 0 w
 abbrev pub IsOver : ℕ → List SubjectFinding → LoadRefusal → Type 0
 IsOver limit all FindingsFull = limit < length all
 IsOver limit all NoMemory = Unit {0}
+
+-- within the limit these findings are put behind those that were there, and else it is said why not
+abbrev pub Gathers : {X : Type 0} → ℕ → List SubjectFinding → List SubjectFinding → List SubjectFinding → Result X LoadRefusal → Type 0
+Gathers limit before found after result = MatchResult result (λ _. IsGathered limit (before ++ found) after) (IsOver limit (before ++ found))

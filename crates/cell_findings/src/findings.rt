@@ -11,7 +11,7 @@ ghost use Rattle.cell_spec.specs.declared.key.Subject.TheVariants.{Ident as Subj
 ghost use Rattle.rule_spec.specs.Findings.{is_subject};
 ghost use Rattle.rule_spec.specs.Records.{is_chain_part};
 ghost use Rattle.cell_findings.specs.AllFindings.{IsAllOf, IsFindingRefusal};
-ghost use Rattle.cell_findings.specs.Gathered.{IsGathered, IsOver};
+ghost use Rattle.cell_findings.specs.Gathered.{Gathers, IsGathered, IsOver};
 ghost use Rattle.cell_findings.specs.Judged.{is_part_name, judged_subjects, part_pairs, subject_findings};
 
 use crate::list::{Findings, SubjectFinding};
@@ -32,11 +32,8 @@ impl<'a, 'b> Search<'a, 'b> {
         edges: &[RecName],
     ) -> Result<(), LoadRefusal>
         requires { length gathered.old.items ≤ self.now.limit }
-        ensures { MatchResult result
-            (λ _. IsGathered self.now.limit (gathered.old.items
-            ++ flat_map (subject_findings self.now.look.now) (map SubjectRec names.now ++ map SubjectSide edges.now)) gathered.new.items)
-            (IsOver self.now.limit (gathered.old.items
-            ++ flat_map (subject_findings self.now.look.now) (map SubjectRec names.now ++ map SubjectSide edges.now))) }
+        ensures { Gathers self.now.limit gathered.old.items
+            (flat_map (subject_findings self.now.look.now) (map SubjectRec names.now ++ map SubjectSide edges.now)) gathered.new.items result }
     {
         self.push_records(gathered, names)?;
         self.push_sides(gathered, edges)
@@ -54,11 +51,8 @@ impl<'a, 'b> Search<'a, 'b> {
         requires subjects { All (λ (s : SpecSubject). IsTrue (is_subject self.now.look.now s)) (part_pairs names.now) }
         requires ascending { IsStrictlySortedBy name_order names.now }
         requires within { length gathered.old.items ≤ self.now.limit }
-        ensures { MatchResult result
-            (λ _. IsGathered self.now.limit (gathered.old.items
-            ++ flat_map (subject_findings self.now.look.now) (part_pairs names.now ++ map SubjectIdent identities.now)) gathered.new.items)
-            (IsOver self.now.limit (gathered.old.items
-            ++ flat_map (subject_findings self.now.look.now) (part_pairs names.now ++ map SubjectIdent identities.now))) }
+        ensures { Gathers self.now.limit gathered.old.items
+            (flat_map (subject_findings self.now.look.now) (part_pairs names.now ++ map SubjectIdent identities.now)) gathered.new.items result }
     {
         let parts = part_names(self.alloc, names)?;
         self.push_pairs(gathered, &parts, steps)?;

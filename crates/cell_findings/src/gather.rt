@@ -1,7 +1,7 @@
 //! Findings that are gathered from one subject after the other, within a limit.
 
-ghost use Rattle.std.specs.Prelude.{◌≡◌, ◌++◌, MatchResult, OnOk, map};
-ghost use Rattle.cell_findings.specs.Gathered.{IsGathered, IsOver};
+ghost use Rattle.std.specs.Prelude.{◌≡◌, ◌++◌, OnOk, map};
+ghost use Rattle.cell_findings.specs.Gathered.{Gathers};
 ghost use Rattle.cell_findings.specs.Rows.{with_subject};
 
 use crate::list::SubjectFinding;
@@ -32,8 +32,7 @@ pub(crate) fn push_found(
     findings: &[Finding],
     limit: usize,
 ) -> Result<(), LoadRefusal>
-    ensures { MatchResult result (λ _. IsGathered limit (gathered.old.items ++ map (with_subject subject) findings.now)
-        gathered.new.items) (IsOver limit (gathered.old.items ++ map (with_subject subject) findings.now)) }
+    ensures { Gathers limit gathered.old.items (map (with_subject subject) findings.now) gathered.new.items result }
 {
     push_findings(gathered, subject, findings)?;
     if gathered.len() > limit {

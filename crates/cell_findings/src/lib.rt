@@ -23,7 +23,7 @@ pub use list::{Findings, SubjectFinding};
 pub use names::names_in;
 pub use refusal::LoadRefusal;
 pub use text::{
-    RecordCounts, push_cell, push_end, push_findings, push_findings_about, push_heading,
+    RecordCounts, push_cell, push_count, push_end, push_findings, push_findings_about, push_heading,
 };
 pub use threads::find_all_in_threads;
 pub use tiles::tiles_of;

@@ -1,6 +1,6 @@
 //! Findings that are gathered about each two connected nodes or edges.
 
-ghost use Rattle.std.specs.Prelude.{◌≡◌, ◌≤◌, ◌++◌, All, IfOk, IsTrue, MatchResult, length, map};
+ghost use Rattle.std.specs.Prelude.{◌≡◌, ◌≤◌, All, IfOk, IsTrue, length, map};
 ghost use Rattle.std.specs.List.{flat_map};
 ghost use Rattle.std.specs.List.Sorted.{IsStrictlySortedBy};
 ghost use Rattle.s57_types.specs.declared.name.RecName.{RecName as SpecRecName};
@@ -9,7 +9,7 @@ ghost use Rattle.cell_spec.specs.declared.key.Subject.{Subject as SpecSubject};
 ghost use Rattle.cell_spec.specs.declared.key.Subject.TheVariants.{Pair as SubjectPair};
 ghost use Rattle.rule_spec.specs.Findings.{findings_of_subject, is_subject};
 ghost use Rattle.rule_spec.specs.Records.{is_chain_part};
-ghost use Rattle.cell_findings.specs.Gathered.{IsGathered, IsOver};
+ghost use Rattle.cell_findings.specs.Gathered.{Gathers};
 ghost use Rattle.cell_findings.specs.Judged.{pairs_among, subject_findings};
 ghost use Rattle.cell_findings.specs.Near.{AreNearSubjects, leaf_findings, names_near as spec_names_near};
 ghost use Rattle.cell_findings.specs.Parts.{AreParts};
@@ -73,9 +73,8 @@ impl<'a, 'b> Search<'a, 'b> {
     ) -> Result<(), LoadRefusal>
         requires subject { IsTrue (is_subject self.now.look.now (SubjectPair pair.0 pair.1)) }
         requires parts { AreParts self.now.look.now placed.now }
-        ensures { MatchResult result
-            (λ _. IsGathered self.now.limit (gathered.old.items ++ subject_findings self.now.look.now (SubjectPair pair.0 pair.1)) gathered.new.items)
-            (IsOver self.now.limit (gathered.old.items ++ subject_findings self.now.look.now (SubjectPair pair.0 pair.1))) }
+        ensures { Gathers self.now.limit gathered.old.items (subject_findings self.now.look.now (SubjectPair pair.0 pair.1))
+            gathered.new.items result }
     {
         let findings = self.found_of_pair(placed, pair, steps)?;
         push_found(
@@ -98,10 +97,8 @@ impl<'a, 'b> Search<'a, 'b> {
         requires parts { AreParts self.now.look.now placed.now }
         requires subjects { All (λ (other : SpecRecName). IsTrue (is_subject self.now.look.now (SubjectPair name other))) others.now }
         requires within { length gathered.old.items ≤ self.now.limit }
-        ensures { MatchResult result
-            (λ _. IsGathered self.now.limit (gathered.old.items ++ flat_map (subject_findings self.now.look.now) (map (SubjectPair name) others.now))
-            gathered.new.items)
-            (IsOver self.now.limit (gathered.old.items ++ flat_map (subject_findings self.now.look.now) (map (SubjectPair name) others.now))) }
+        ensures { Gathers self.now.limit gathered.old.items (flat_map (subject_findings self.now.look.now) (map (SubjectPair name) others.now))
+            gathered.new.items result }
     {
         for other in others {
             self.push_pair(gathered, placed, (name, *other), steps)?;
@@ -121,9 +118,7 @@ impl<'a, 'b> Search<'a, 'b> {
         requires parts { AreParts self.now.look.now placed.now }
         requires subjects { AreNearSubjects self.now.look.now tree.now leaf }
         requires within { length gathered.old.items ≤ self.now.limit }
-        ensures { MatchResult result
-            (λ _. IsGathered self.now.limit (gathered.old.items ++ leaf_findings self.now.look.now tree.now leaf) gathered.new.items)
-            (IsOver self.now.limit (gathered.old.items ++ leaf_findings self.now.look.now tree.now leaf)) }
+        ensures { Gathers self.now.limit gathered.old.items (leaf_findings self.now.look.now tree.now leaf) gathered.new.items result }
     {
         let others = names_near(self.alloc, tree, leaf)?;
         let others = others.as_slice();
@@ -142,9 +137,8 @@ impl<'a, 'b> Search<'a, 'b> {
         requires parts { AreParts self.now.look.now placed.now }
         requires subjects { All (AreNearSubjects self.now.look.now tree.now) leaves.now }
         requires within { length gathered.old.items ≤ self.now.limit }
-        ensures { MatchResult result
-            (λ _. IsGathered self.now.limit (gathered.old.items ++ flat_map (leaf_findings self.now.look.now tree.now) leaves.now) gathered.new.items)
-            (IsOver self.now.limit (gathered.old.items ++ flat_map (leaf_findings self.now.look.now tree.now) leaves.now)) }
+        ensures { Gathers self.now.limit gathered.old.items (flat_map (leaf_findings self.now.look.now tree.now) leaves.now)
+            gathered.new.items result }
     {
         for leaf in leaves {
             self.push_pairs_of(gathered, placed, tree, *leaf, steps)?;
@@ -164,9 +158,8 @@ impl<'a, 'b> Search<'a, 'b> {
         requires subjects { All (λ (s : SpecSubject). IsTrue (is_subject self.now.look.now s)) (pairs_among names.now) }
         requires ascending { IsStrictlySortedBy name_order names.now }
         requires within { length gathered.old.items ≤ self.now.limit }
-        ensures { MatchResult result
-            (λ _. IsGathered self.now.limit (gathered.old.items ++ flat_map (subject_findings self.now.look.now) (pairs_among names.now)) gathered.new.items)
-            (IsOver self.now.limit (gathered.old.items ++ flat_map (subject_findings self.now.look.now) (pairs_among names.now))) }
+        ensures { Gathers self.now.limit gathered.old.items (flat_map (subject_findings self.now.look.now) (pairs_among names.now))
+            gathered.new.items result }
     {
         apart_pairs_are_clean();
         let placed = parts_of(self.alloc, self.look, names, steps)?;

@@ -1,9 +1,9 @@
 //! Findings that are gathered about records, sides of edges and identifiers.
 
-ghost use Rattle.std.specs.Prelude.{◌≤◌, ◌++◌, MatchResult, length, map};
+ghost use Rattle.std.specs.Prelude.{◌≤◌, length, map};
 ghost use Rattle.std.specs.List.{flat_map};
 ghost use Rattle.cell_spec.specs.declared.key.Subject.TheVariants.{Ident as SubjectIdent, Rec as SubjectRec, Side as SubjectSide};
-ghost use Rattle.cell_findings.specs.Gathered.{IsGathered, IsOver};
+ghost use Rattle.cell_findings.specs.Gathered.{Gathers};
 ghost use Rattle.cell_findings.specs.Judged.{subject_findings};
 
 use crate::gather::push_found;
@@ -21,9 +21,7 @@ impl<'a, 'b> Search<'a, 'b> {
         gathered: &mut Vec<SubjectFinding>,
         name: RecName,
     ) -> Result<(), LoadRefusal>
-        ensures { MatchResult result
-            (λ _. IsGathered self.now.limit (gathered.old.items ++ subject_findings self.now.look.now (SubjectRec name)) gathered.new.items)
-            (IsOver self.now.limit (gathered.old.items ++ subject_findings self.now.look.now (SubjectRec name))) }
+        ensures { Gathers self.now.limit gathered.old.items (subject_findings self.now.look.now (SubjectRec name)) gathered.new.items result }
     {
         let found = findings_of_rec(self.alloc, self.look, name)?;
         push_found(gathered, Subject::Rec(name), &found, self.limit)
@@ -36,10 +34,8 @@ impl<'a, 'b> Search<'a, 'b> {
         names: &[RecName],
     ) -> Result<(), LoadRefusal>
         requires { length gathered.old.items ≤ self.now.limit }
-        ensures { MatchResult result
-            (λ _. IsGathered self.now.limit (gathered.old.items ++ flat_map (subject_findings self.now.look.now) (map SubjectRec names.now))
-            gathered.new.items)
-            (IsOver self.now.limit (gathered.old.items ++ flat_map (subject_findings self.now.look.now) (map SubjectRec names.now))) }
+        ensures { Gathers self.now.limit gathered.old.items (flat_map (subject_findings self.now.look.now) (map SubjectRec names.now))
+            gathered.new.items result }
     {
         for name in names {
             self.push_record(gathered, *name)?;
@@ -52,9 +48,7 @@ impl<'a, 'b> Search<'a, 'b> {
         gathered: &mut Vec<SubjectFinding>,
         edge: RecName,
     ) -> Result<(), LoadRefusal>
-        ensures { MatchResult result
-            (λ _. IsGathered self.now.limit (gathered.old.items ++ subject_findings self.now.look.now (SubjectSide edge)) gathered.new.items)
-            (IsOver self.now.limit (gathered.old.items ++ subject_findings self.now.look.now (SubjectSide edge))) }
+        ensures { Gathers self.now.limit gathered.old.items (subject_findings self.now.look.now (SubjectSide edge)) gathered.new.items result }
     {
         let found = findings_of_side(self.alloc, self.look, edge)?;
         push_found(gathered, Subject::Side(edge), &found, self.limit)
@@ -67,10 +61,8 @@ impl<'a, 'b> Search<'a, 'b> {
         edges: &[RecName],
     ) -> Result<(), LoadRefusal>
         requires { length gathered.old.items ≤ self.now.limit }
-        ensures { MatchResult result
-            (λ _. IsGathered self.now.limit (gathered.old.items ++ flat_map (subject_findings self.now.look.now) (map SubjectSide edges.now))
-            gathered.new.items)
-            (IsOver self.now.limit (gathered.old.items ++ flat_map (subject_findings self.now.look.now) (map SubjectSide edges.now))) }
+        ensures { Gathers self.now.limit gathered.old.items (flat_map (subject_findings self.now.look.now) (map SubjectSide edges.now))
+            gathered.new.items result }
     {
         for edge in edges {
             self.push_side(gathered, *edge)?;
@@ -83,9 +75,7 @@ impl<'a, 'b> Search<'a, 'b> {
         gathered: &mut Vec<SubjectFinding>,
         identity: Lnam,
     ) -> Result<(), LoadRefusal>
-        ensures { MatchResult result
-            (λ _. IsGathered self.now.limit (gathered.old.items ++ subject_findings self.now.look.now (SubjectIdent identity)) gathered.new.items)
-            (IsOver self.now.limit (gathered.old.items ++ subject_findings self.now.look.now (SubjectIdent identity))) }
+        ensures { Gathers self.now.limit gathered.old.items (subject_findings self.now.look.now (SubjectIdent identity)) gathered.new.items result }
     {
         let found = findings_of_ident(self.alloc, self.look, identity)?;
         push_found(
@@ -103,10 +93,8 @@ impl<'a, 'b> Search<'a, 'b> {
         identities: &[Lnam],
     ) -> Result<(), LoadRefusal>
         requires { length gathered.old.items ≤ self.now.limit }
-        ensures { MatchResult result
-            (λ _. IsGathered self.now.limit (gathered.old.items ++ flat_map (subject_findings self.now.look.now) (map SubjectIdent identities.now))
-            gathered.new.items)
-            (IsOver self.now.limit (gathered.old.items ++ flat_map (subject_findings self.now.look.now) (map SubjectIdent identities.now))) }
+        ensures { Gathers self.now.limit gathered.old.items (flat_map (subject_findings self.now.look.now) (map SubjectIdent identities.now))
+            gathered.new.items result }
     {
         for identity in identities {
             self.push_identity(gathered, *identity)?;

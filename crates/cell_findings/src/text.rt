@@ -124,8 +124,10 @@ fn push_lines_about(
     Ok(())
 }
 
-/// Appends a list's word and its number of records.
-fn push_count(out: &mut Vec<u8>, word: &str, count: usize) -> Result<(), AllocError>
+/// Appends a word and a number, each behind a space.
+///
+/// An `Err` means out of memory, and after it perhaps the word stands there alone.
+pub fn push_count(out: &mut Vec<u8>, word: &str, count: usize) -> Result<(), AllocError>
     ensures { OnOk result (out.new.items ≡ out.old.items ++ spaced_words (word.now ∷ decimal count ∷ [])) }
 {
     let mut buffer = Buffer::new();

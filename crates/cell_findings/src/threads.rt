@@ -5,7 +5,7 @@ ghost use Rattle.std.specs.List.{flat_map};
 ghost use Rattle.cell_spec.specs.Writable.{IsWritable};
 ghost use Rattle.cell_findings.specs.AllFindings.{IsAllOf, IsFindingRefusal};
 ghost use Rattle.cell_findings.specs.Cut.{AreSubjects, IsJudgedOf, block_findings};
-ghost use Rattle.cell_findings.specs.Gathered.{IsGathered, IsOver};
+ghost use Rattle.cell_findings.specs.Gathered.{Gathers, IsGathered, IsOver};
 ghost use Rattle.cell_findings.specs.Judged.{judged_subjects, subject_findings};
 ghost use Rattle.cell_findings.specs.Parts.{AreParts};
 
@@ -173,7 +173,7 @@ fn push_part(
     part: &[SubjectFinding],
     limit: usize,
 ) -> Result<(), LoadRefusal>
-    ensures { MatchResult result (λ _. IsGathered limit (all.old.items ++ part.now) all.new.items) (IsOver limit (all.old.items ++ part.now)) }
+    ensures { Gathers limit all.old.items part.now all.new.items result }
 {
     all.extend_from_slice(part)?;
     if all.len() > limit {

@@ -1,6 +1,6 @@
 //! What stands around the picture: its names, its style, its key and its frame.
 
-ghost use Rattle.std.specs.Prelude.{◌≡◌, ◌++◌, ◌∷◌, [], OnOk, codes, decimal};
+ghost use Rattle.std.specs.Prelude.{◌≡◌, ◌++◌, OnOk, codes};
 ghost use Rattle.text_spec.specs.Lines.{spaced_words};
 ghost use Rattle.cell_picture.specs.Picture.{corner_text, counted_text, description_head, description_tail, description_text, frame_text};
 ghost use Rattle.cell_picture.specs.Picture.{hatch_text, head_text, heading_text, key_entry, key_text, names_text, north_west_text};
@@ -10,6 +10,7 @@ ghost use Rattle.cell_picture.specs.ShapeText.{text_at};
 use crate::escape::push_escaped;
 use crate::shape::{LIST_TOP, ROW_HEIGHT};
 use crate::text::{push_pair, push_text_at};
+use cell_findings::push_count;
 use geometry_spec::Box4;
 use itoa::Buffer;
 use picture_places::{PAGE_LEFT, PAGE_WIDTH};
@@ -47,14 +48,6 @@ fn push_svg(out: &mut Vec<u8>, total: u32) -> Result<(), AllocError>
     push_text(out, "' viewBox='0 0")?;
     push_pair(out, PAGE_WIDTH, height)?;
     push_text(out, "'>\n")
-}
-
-fn push_count(out: &mut Vec<u8>, word: &str, count: usize) -> Result<(), AllocError>
-    ensures { OnOk result (out.new.items ≡ out.old.items ++ spaced_words (word.now ∷ decimal count ∷ [])) }
-{
-    let mut buffer = Buffer::new();
-    push_word(out, word)?;
-    push_word(out, buffer.format(count))
 }
 
 /// Appends the name of the data set, and what was counted.

@@ -5,7 +5,7 @@ ghost use Rattle.cell_spec.specs.Lookup.{all_records};
 ghost use Rattle.file_spec.specs.DescriptiveRecord.{descriptive_fields};
 ghost use Rattle.frame_spec.specs.WrittenRecord.{record_length, written_record};
 ghost use Rattle.s57_types.specs.Fitness.{unfitness};
-ghost use Rattle.s57_types.specs.RecordFields.{record_fields};
+ghost use Rattle.s57_types.specs.RecordFields.{length_limit, record_fields};
 ghost use Rattle.cell_spec.specs.Writable.{AreFit, IsWritable};
 ghost use Rattle.file_spec.specs.EncodedCell.{encoded_cell, head_bytes, record_bytes, records_bytes};
 ghost use Rattle.frame_write.specs.OutFields.{fields_of, is_first, lengths_of};
@@ -22,8 +22,8 @@ use std::alloc::{AllocError, Global};
 /// The number of the first record behind the two head records.
 const FIRST_NUMBER: usize = 3;
 
-/// Record numbers have two bytes.
-const NUMBERS: usize = 65_536;
+/// How many record numbers there are: they have two bytes.
+const RECORD_NUMBER_MODULUS: usize = 65_536;
 
 /// Appends the record of these fields, which isn't too long.
 fn put_fields(
@@ -32,7 +32,7 @@ fn put_fields(
     fields: &[OutField],
     out: &mut Vec<u8>,
 ) -> Result<(), AllocError>
-    requires { record_length (lengths_of fields.now) ≤ 99999 }
+    requires { record_length (lengths_of fields.now) ≤ length_limit }
     ensures { OnOk result (out.new.items ≡ out.old.items ++ written_record (is_first kind) (fields_of fields.now)) }
 {
     match write_record(alloc, kind, fields, out) {
@@ -73,7 +73,13 @@ fn put_record(
     requires { unfitness nall rec.now ≡ None }
     ensures { OnOk result (out.new.items ≡ out.old.items ++ record_bytes nall number rec.now) }
 {
-    let fields = record_fields(alloc, nall, (number % NUMBERS) as u16, rec, spare)?;
+    let fields = record_fields(
+        alloc,
+        nall,
+        (number % RECORD_NUMBER_MODULUS) as u16,
+        rec,
+        spare,
+    )?;
     put_fields(alloc, LeaderKind::Dr, fields.as_slice(), out)?;
     keep_memory(fields, spare)
 }

@@ -5,6 +5,7 @@ ghost use Rattle.s57_types.specs.FieldRows.{dsid_row, dssi_row};
 ghost use Rattle.s57_types.specs.RecordFields.{dsid_of_head, dspm_of_head, dssi_of_head, identification_fields, parameter_fields};
 ghost use Rattle.s57_types.specs.RecordFields.{field_of as row_field};
 ghost use Rattle.cell_spec.specs.Lookup.{all_records};
+ghost use Rattle.cell_spec.specs.Writable.{record_limit};
 ghost use Rattle.file_spec.specs.EncodedCell.{has_class_from, record_counts};
 ghost use Rattle.frame_write.specs.OutFields.{field_of, fields_of};
 
@@ -76,7 +77,7 @@ fn has_class_from(rec: &Rec, low: u16, high: u16) -> bool
 
 /// How many records are features of an object class from one code to another.
 fn count_classes(records: &[Rec], low: u16, high: u16) -> u32
-    requires { length records.now ≤ 262144 }
+    requires { length records.now ≤ record_limit }
     ensures { result ≡ count_by (has_class_from low high) records.now }
 {
     records
@@ -87,7 +88,7 @@ fn count_classes(records: &[Rec], low: u16, high: u16) -> u32
 
 /// How many records aren't features of an object class from one code to another.
 fn count_other_classes(records: &[Rec], low: u16, high: u16) -> u32
-    requires { length records.now ≤ 262144 }
+    requires { length records.now ≤ record_limit }
     ensures { result ≡ count_by (λ rec. not (has_class_from low high rec)) records.now }
 {
     records
@@ -99,7 +100,7 @@ fn count_other_classes(records: &[Rec], low: u16, high: u16) -> u32
 /// NOMR, NOCR, NOGR, NOLR, NOIN, NOCN, NOED and NOFA: the numbers of meta, cartographic, geo and collection objects by the
 /// codes of their classes, of nodes and of edges. There are no faces.
 fn record_counts(cell: &Cell) -> [u32; 8]
-    requires { length (all_records cell.now) ≤ 262144 }
+    requires { length (all_records cell.now) ≤ record_limit }
     ensures { result ≡ record_counts cell.now }
 {
     let features = cell.fe.as_slice();
@@ -149,7 +150,7 @@ fn structure_field(alloc: Global, head: &Head, counts: [u32; 8]) -> Result<OutFi
 /// The fields of the data set general information record, whose number is 1. The counts are taken from the cell's
 /// records.
 pub fn identification_fields(alloc: Global, cell: &Cell) -> Result<Vec<OutField>, AllocError>
-    requires { length (all_records cell.now) ≤ 262144 }
+    requires { length (all_records cell.now) ≤ record_limit }
     ensures { IfOk result (λ fields. fields_of fields.items ≡ identification_fields 1 cell.now.head (record_counts cell.now)) }
 {
     let mut fields = Vec::new(alloc);

@@ -27,7 +27,7 @@ use Rattle.rule_spec.specs.EdgePoints.{edge_line_of, line_between, line_of, node
 use Rattle.rule_spec.specs.Features.{bad_codes, dangling_ref, prim_refs, target}
 use Rattle.rule_spec.specs.Findings.{finding}
 use Rattle.rule_spec.specs.Records.{edge_named}
-use Rattle.check_area.specs.declared.part.Part.{Part}
+use Rattle.check_area.specs.declared.part.BoundaryEdge.{BoundaryEdge}
 use Rattle.check_area.specs.declared.sweep.LineSweep.{LineSweep}
 use Rattle.check_area.specs.Lines.{AsksForLine, HoldsSweeps, part_along, part_at, parts_of}
 use Rattle.check_area.specs.Parts.{findings_of_parts, part_of}
@@ -37,12 +37,12 @@ use Rattle.check_area.proofs.Turns.{HasPoints, sweep-along}
 
 -- ---- place after place
 -- what is known after some places
-pub record IsSoFar (c : Cell) (known : BTreeMap ℕ LineSweep) (parts : List Part) (k : ℕ) (places : List Spot) : Type 0 where
+pub record IsSoFar (c : Cell) (known : BTreeMap ℕ LineSweep) (parts : List BoundaryEdge) (k : ℕ) (places : List Spot) : Type 0 where
   pub held : HoldsSweeps c known
   pub usable : list_all (has_points c) (drop k places) ≡ list_all (has_points c) places
   pub parted : parts ++ filter_map (part_at c) (enumerate_from (k + 1) (drop k places)) ≡ filter_map (part_at c) (enumerate_from 1 places)
 
-has_by : (s : Spot) (place : ℕ) (line : Option EdgeLine) (part : Part) → Some part ≡ option_map (part_along place s) (option_map sweep_of line)
+has_by : (s : Spot) (place : ℕ) (line : Option EdgeLine) (part : BoundaryEdge) → Some part ≡ option_map (part_along place s) (option_map sweep_of line)
     → is_some line ≡ true
 has_by s place None part e = absurd cc
 has_by s place (Some line) part e = refl
@@ -51,7 +51,7 @@ has_not_by : (s : Spot) (place : ℕ) (line : Option EdgeLine) → None ≡ opti
 has_not_by s place None e = refl
 has_not_by s place (Some line) e = absurd cc
 
-one_taken : (c : Cell) (s : Spot) (rest : List Spot) (parts all : List Part) (k : ℕ) (part : Part) → Some part ≡ part_at c (k + 1, s)
+one_taken : (c : Cell) (s : Spot) (rest : List Spot) (parts all : List BoundaryEdge) (k : ℕ) (part : BoundaryEdge) → Some part ≡ part_at c (k + 1, s)
     → parts ++ filter_map (part_at c) (enumerate_from (k + 1) (s ∷ rest)) ≡ all → (parts ++ part ∷ [])
     ++ filter_map (part_at c) (enumerate_from (k + 1 + 1) rest) ≡ all
 one_taken c s rest parts all k part e h =
@@ -60,8 +60,8 @@ one_taken c s rest parts all k part e h =
     ∙ h
 
 -- one place on
-pub place_taken : (c : Cell) (known next : BTreeMap ℕ LineSweep) (parts : List Part) (k : ℕ) (places : List Spot) (d : Spot)
-    (place : ℕ) (part : Part) → k < length places
+pub place_taken : (c : Cell) (known next : BTreeMap ℕ LineSweep) (parts : List BoundaryEdge) (k : ℕ) (places : List Spot) (d : Spot)
+    (place : ℕ) (part : BoundaryEdge) → k < length places
     → IsSoFar c known parts k places → HoldsSweeps c next → place ≡ k + 1 → Some part ≡ part_at c (place, get_or places k d)
     → IsSoFar c next (parts ++ part ∷ []) (k + 1) places
 place_taken c known next parts k places d place part within so_far held number found =
@@ -77,8 +77,8 @@ place_taken c known next parts k places d place part within so_far held number f
     }
 
 -- a place that names no edge with points
-pub place_refused : (c : Cell) (known : BTreeMap ℕ LineSweep) (parts : List Part) (k : ℕ) (places : List Spot) (d : Spot) (place : ℕ) → k < length places
-    → IsSoFar c known parts k places → place ≡ k + 1 → None ≡ part_at c (place, get_or places k d) → None ≡ parts_of c places
+pub place_refused : (c : Cell) (known : BTreeMap ℕ LineSweep) (parts : List BoundaryEdge) (k : ℕ) (places : List Spot) (d : Spot) (place : ℕ)
+    → k < length places → IsSoFar c known parts k places → place ≡ k + 1 → None ≡ part_at c (place, get_or places k d) → None ≡ parts_of c places
 place_refused c known parts k places d place within so_far number found =
     let s = get_or places k d in
     let is = found ∙ ap (λ n. part_at c (n, s)) number in
@@ -87,7 +87,7 @@ place_refused c known parts k places d place within so_far number found =
     ∙ ap (list_all (has_points c)) (sym left) ∙ so_far.usable in
     ap (λ b. if b then Some (filter_map (part_at c) (enumerate_from 1 places)) else None) none
 
-none_left : (c : Cell) (known : BTreeMap ℕ LineSweep) (parts : List Part) (k : ℕ) (places rest : List Spot) → length rest ≡ 0
+none_left : (c : Cell) (known : BTreeMap ℕ LineSweep) (parts : List BoundaryEdge) (k : ℕ) (places rest : List Spot) → length rest ≡ 0
     → drop k places ≡ rest → IsSoFar c known parts k places
     → Some parts ≡ parts_of c places
 none_left c known parts k places [] h left so_far =
@@ -97,7 +97,7 @@ none_left c known parts k places [] h left so_far =
 none_left c known parts k places (s ∷ rest) h left so_far = absurd (omega (arith, h))
 
 -- all places
-pub all_taken : (c : Cell) (known : BTreeMap ℕ LineSweep) (parts : List Part) (k : ℕ) (places : List Spot) → length (drop k places) ≡ 0
+pub all_taken : (c : Cell) (known : BTreeMap ℕ LineSweep) (parts : List BoundaryEdge) (k : ℕ) (places : List Spot) → length (drop k places) ≡ 0
     → IsSoFar c known parts k places
     → Some parts ≡ parts_of c places
 all_taken c known parts k places h so_far = none_left c known parts k places (drop k places) h refl so_far
@@ -118,7 +118,7 @@ row_by : (place : ℕ) (s : Spot) (line : Option EdgeLine)
 row_by place s None = refl
 row_by place s (Some line) = λ i. Some (record { place = place; usag = s.usag; sweep = sym (sweep-along s.ornt line) i })
 
-parts_by : (found : Option Part) (row : Option BoundaryRow) (parts : List Part) (rows : List BoundaryRow) → found ≡ option_map part_of row
+parts_by : (found : Option BoundaryEdge) (row : Option BoundaryRow) (parts : List BoundaryEdge) (rows : List BoundaryRow) → found ≡ option_map part_of row
     → parts ≡ map part_of rows
     → cons_option found parts ≡ map part_of (cons_option row rows)
 parts_by found None parts rows e h = (λ i. cons_option (e i) (h i))
@@ -187,7 +187,7 @@ module _ (c : Cell) (f : Feature) (area : (f.prim == 3) ≡ true) (fits : prim_r
   unfolding has_usable_boundary
   usable_by = λ i. area i && (is_clean (fits i) && is_clean (there i) && is_clean (coded i)) && list_all (has_points c) f.places
 
-  some_parts : (usable : Bool) (parts : List Part) → list_all (has_points c) f.places ≡ usable
+  some_parts : (usable : Bool) (parts : List BoundaryEdge) → list_all (has_points c) f.places ≡ usable
       → Some parts ≡ (if usable then Some (filter_map (part_at c) (enumerate_from 1 f.places)) else None) → findings_of_parts parts ≡ area_rules c f
   unfolding boundary_of
   some_parts true parts all is =
@@ -206,7 +206,7 @@ module _ (c : Cell) (f : Feature) (area : (f.prim == 3) ≡ true) (fits : prim_r
       sym (rules_unusable (has_usable_boundary c f) (open_ring_of rows) (mixed_ring_of rows) (outer_count_of rows) (wrong_turn_of rows) (usable_by ∙ all))
 
   -- what is found of the parts of an area is what the four rules find
-  pub parts_found : (parts : List Part) → Some parts ≡ parts_of c f.places → findings_of_parts parts ≡ area_rules c f
+  pub parts_found : (parts : List BoundaryEdge) → Some parts ≡ parts_of c f.places → findings_of_parts parts ≡ area_rules c f
   parts_found parts is = some_parts (list_all (has_points c) f.places) parts refl is
 
   -- without parts the four rules find nothing

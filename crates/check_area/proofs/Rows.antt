@@ -12,7 +12,7 @@ use Rattle.rule_spec.specs.Boundary.{none_interior, open_ring_of, outer_count_of
 use Rattle.rule_spec.specs.Findings.{finding}
 use Rattle.rule_spec.specs.Loops.{blocks_of, first_open_place, loop_lengths}
 use Rattle.rule_spec.specs.Rule.{Found, found_at, found_if}
-use Rattle.check_area.specs.declared.part.Part.{Part}
+use Rattle.check_area.specs.declared.part.BoundaryEdge.{BoundaryEdge}
 use Rattle.check_area.specs.Parts.{arc_of_part, exterior_count, findings_by, findings_of_parts}
 use Rattle.check_area.specs.Parts.{loops_of_parts, mixed_loops, part_of, place_of_loop, turns_against_usage, usage_of_part, wrong_loops}
 use Rattle.check_area.proofs.Turns.{HasPoints, turn-rows}
@@ -49,7 +49,7 @@ place-map : (loop : List BoundaryRow) → place_of_loop (map part_of loop) ≡ f
 place-map [] = refl
 place-map (row ∷ rows) = refl
 
-places_by : (p q : Bool) (loop : List BoundaryRow) (parts : List (List Part)) (rows : List (List BoundaryRow)) → p ≡ q
+places_by : (p q : Bool) (loop : List BoundaryRow) (parts : List (List BoundaryEdge)) (rows : List (List BoundaryRow)) → p ≡ q
     → map place_of_loop parts ≡ map first_place rows
     → map place_of_loop (cond p (map part_of loop ∷ parts) parts) ≡ map first_place (cond q (loop ∷ rows) rows)
 places_by true true loop parts rows e h = λ i. place-map loop i ∷ h i
@@ -57,21 +57,21 @@ places_by false false loop parts rows e h = h
 places_by true false loop parts rows e h = cc
 places_by false true loop parts rows e h = cc
 
-places-map : (p : List Part → Bool) (q : List BoundaryRow → Bool) (loops : List (List BoundaryRow))
+places-map : (p : List BoundaryEdge → Bool) (q : List BoundaryRow → Bool) (loops : List (List BoundaryRow))
     → AllByRecursion (λ loop. p (map part_of loop) ≡ q loop) loops
     → map place_of_loop (filter p (map (map part_of) loops)) ≡ map first_place (filter q loops)
 places-map p q [] h = refl
 places-map p q (loop ∷ loops) h =
     places_by (p (map part_of loop)) (q loop) loop (filter p (map (map part_of) loops)) (filter q loops) h.0 (places-map p q loops h.1)
 
-count_by : (p q : Bool) (loop : List BoundaryRow) (parts : List (List Part)) (rows : List (List BoundaryRow)) → p ≡ q → length parts ≡ length rows
+count_by : (p q : Bool) (loop : List BoundaryRow) (parts : List (List BoundaryEdge)) (rows : List (List BoundaryRow)) → p ≡ q → length parts ≡ length rows
     → length (cond p (map part_of loop ∷ parts) parts) ≡ length (cond q (loop ∷ rows) rows)
 count_by true true loop parts rows e h = ap suc h
 count_by false false loop parts rows e h = h
 count_by true false loop parts rows e h = cc
 count_by false true loop parts rows e h = cc
 
-count-map : (p : List Part → Bool) (q : List BoundaryRow → Bool) (loops : List (List BoundaryRow))
+count-map : (p : List BoundaryEdge → Bool) (q : List BoundaryRow → Bool) (loops : List (List BoundaryRow))
     → AllByRecursion (λ loop. p (map part_of loop) ≡ q loop) loops
     → length (filter p (map (map part_of) loops)) ≡ length (filter q loops)
 count-map p q [] h = refl
@@ -83,7 +83,7 @@ interior-map : (loop : List BoundaryRow) → all_interior usage_of_part (map par
 interior-map [] = refl
 interior-map (row ∷ rows) = ap (λ b. (row.usag == 2) && b) (interior-map rows)
 
-any-map : (loop : List BoundaryRow) → list_any (λ (p : Part). usage_of_part p == 2) (map part_of loop) ≡
+any-map : (loop : List BoundaryRow) → list_any (λ (p : BoundaryEdge). usage_of_part p == 2) (map part_of loop) ≡
     list_any (λ (row : BoundaryRow). usage_of_row row == 2) loop
 any-map [] = refl
 any-map (row ∷ rows) = ap (λ b. (row.usag == 2) || b) (any-map rows)
@@ -106,7 +106,7 @@ each_if P Q h [] all = tt
 each_if P Q h (x ∷ xs) all = (h x all.0, each_if P Q h xs all.1)
 
 -- ---- the rules
-abbrev parted : List (List BoundaryRow) → List (List Part)
+abbrev parted : List (List BoundaryRow) → List (List BoundaryEdge)
 parted loops = map (map part_of) loops
 
 mixed_same : (loops : List (List BoundaryRow)) → mixed_loops (parted loops) ≡ map first_place (filter is_mixed loops)
@@ -145,7 +145,7 @@ loops_by mixed outer wrong true e = ap (λ ms. map (finding MIXED_RING) ms ++ (m
     (sym (clean_empty mixed e))
 loops_by mixed outer wrong false e = sym (append-nil (map (finding MIXED_RING) mixed))
 
-found_by : (loops : List (List Part)) (place : Option ℕ) → findings_by loops place ≡ four_rules (found_at place) (mixed_loops loops)
+found_by : (loops : List (List BoundaryEdge)) (place : Option ℕ) → findings_by loops place ≡ four_rules (found_at place) (mixed_loops loops)
     (exterior_count loops) (wrong_loops loops)
 found_by loops None = loops_by (mixed_loops loops) (exterior_count loops) (wrong_loops loops) (is_clean (mixed_loops loops)) refl
 found_by loops (Some place) = refl

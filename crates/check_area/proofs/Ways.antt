@@ -4,7 +4,7 @@ use Rattle.std.proofs.Math.IntN.{+ℤ_assoc}
 use Rattle.std.proofs.lemmas.List.{drop_more}
 use Rattle.geometry_spec.specs.Areas.{twice_area_step, twice_area_along}
 use Rattle.geometry_spec.specs.Points.{Point}
-use Rattle.check_area.specs.declared.part.Part.{Part}
+use Rattle.check_area.specs.declared.part.BoundaryEdge.{BoundaryEdge}
 use Rattle.check_area.specs.Parts.{area_home}
 use Rattle.check_area.specs.Sweeps.{last_point}
 
@@ -23,7 +23,8 @@ pub last_on : (at next : Point) (rest : List Point) (k : ℕ) (d : Point) → k 
 last_on at next rest k d h e = ap (λ p. last_point (p ∷ drop (k + 1) rest)) e ∙ ap (λ l. last_point (at ∷ l)) (sym (drop_more rest k d h))
 
 -- the sum along the parts that are left, one part on
-pub home_on : (home at next : Point) (swept further : ℤ) (parts : List Part) (k : ℕ) (d : Part) → k < length parts → next ≡ (get_or parts k d).sweep.last
+pub home_on : (home at next : Point) (swept further : ℤ) (parts : List BoundaryEdge) (k : ℕ) (d : BoundaryEdge) → k < length parts
+    → next ≡ (get_or parts k d).sweep.last
     → further ≡ ((swept +ℤ twice_area_step at (get_or parts k d).sweep.first) +ℤ (get_or parts k d).sweep.swept)
     → (further +ℤ area_home home next (drop (k + 1) parts)) ≡ (swept +ℤ area_home home at (drop k parts))
 home_on home at next swept further parts k d h e f =

@@ -16,7 +16,7 @@ use Rattle.rule_spec.specs.Boundary.{has_points}
 use Rattle.rule_spec.specs.EdgePoints.{edge_line_of, line_of}
 use Rattle.rule_spec.specs.Features.{target}
 use Rattle.rule_spec.specs.Records.{edge_named}
-use Rattle.check_area.specs.declared.part.Part.{Part}
+use Rattle.check_area.specs.declared.part.BoundaryEdge.{BoundaryEdge}
 use Rattle.check_area.specs.declared.sweep.LineSweep.{LineSweep}
 use Rattle.check_area.specs.Sweeps.{sweep_along, sweep_of}
 
@@ -28,14 +28,14 @@ abbrev pub edge_name : ℕ → RecName
 edge_name id = record { kind = Ve; id = id }
 
 -- the part that a spatial pointer makes of what its edge sweeps
-abbrev pub part_along : ℕ → Spot → LineSweep → Part
+abbrev pub part_along : ℕ → Spot → LineSweep → BoundaryEdge
 part_along place s sweep = record { place = place; usag = s.usag; sweep = sweep_along s.ornt sweep }
 
-abbrev pub part_at : Cell → ℕ × Spot → Option Part
+abbrev pub part_at : Cell → ℕ × Spot → Option BoundaryEdge
 part_at c pointer = option_map (part_along pointer.0 pointer.1) (sweep_named c (target pointer.1))
 
 -- the parts of a boundary whose spatial pointers name edges with points
-abbrev pub parts_of : Cell → List Spot → Option (List Part)
+abbrev pub parts_of : Cell → List Spot → Option (List BoundaryEdge)
 parts_of c places = if list_all (has_points c) places then Some (filter_map (part_at c) (enumerate_from 1 places)) else None
 
 -- keys ask for an edge and for the records that its ends name

@@ -16,7 +16,7 @@ ghost use Rattle.check_area.specs.Lines.{parts_of as spec_parts_of, sweep_named 
 ghost use Rattle.check_area.specs.NearFeature.{WhereNear};
 
 use crate::line::{edge_named, sweep_of_edge};
-use crate::part::Part;
+use crate::part::BoundaryEdge;
 use crate::ring::ring_findings;
 use crate::sweep::{LineSweep, sweep_along};
 use cell_spec::Finding;
@@ -84,11 +84,11 @@ fn sweep_at<N: Near>(
     }
 }
 
-fn part_along(place: u32, spot: &Spot, sweep: LineSweep) -> Result<Part, AllocError>
+fn part_along(place: u32, spot: &Spot, sweep: LineSweep) -> Result<BoundaryEdge, AllocError>
     ensures { IfOk result (λ part. part ≡ spec_part_along place spot.now sweep) }
 {
     let sweep = sweep_along(spot.ornt, sweep)?;
-    Ok(Part {
+    Ok(BoundaryEdge {
         place,
         usag: spot.usag,
         sweep,
@@ -101,7 +101,7 @@ fn part_at<N: Near>(
     known: &mut BTreeMap<u32, LineSweep>,
     place: u32,
     spot: &Spot,
-) -> Result<Option<Part>, AllocError>
+) -> Result<Option<BoundaryEdge>, AllocError>
     ensures part { (c : SpecCell) (keys : List SpecKey) → N.tells near.now c keys → AsksForLine c keys spot.now.to → HoldsSweeps c known.old
         → IfOk result (λ part. part ≡ spec_part_at c (place, spot.now)) }
     ensures known { (c : SpecCell) (keys : List SpecKey) → N.tells near.now c keys → AsksForLine c keys spot.now.to → HoldsSweeps c known.old
@@ -120,7 +120,7 @@ fn parts_of<N: Near>(
     alloc: Global,
     near: &N,
     places: &[Spot],
-) -> Result<Option<Vec<Part>>, AllocError>
+) -> Result<Option<Vec<BoundaryEdge>>, AllocError>
     ensures { (c : SpecCell) (keys : List SpecKey) → N.tells near.now c keys → All (λ (s : SpecSpot). AsksForLine c keys s.to) places.now
         → IfOk result (λ parts. option_map (λ list. list.items) parts ≡ spec_parts_of c places.now) }
 {

@@ -16,21 +16,21 @@ const INTERIOR: u8 = 2;
 /// A part of an area's boundary: the place of its spatial pointer from 1, its usage indicator (USAG), and its line in
 /// the pointer's direction.
 #[derive(Clone, Copy)]
-pub(crate) struct Part {
+pub(crate) struct BoundaryEdge {
     pub(crate) place: u32,
     pub(crate) usag: u8,
     pub(crate) sweep: LineSweep,
 }
 
 /// Whether every part of a loop is interior.
-pub(crate) fn is_interior(parts: &[Part]) -> bool
+pub(crate) fn is_interior(parts: &[BoundaryEdge]) -> bool
     ensures { result ≡ all_interior usage_of_part parts.now }
 {
     parts.iter().all(|part| part.usag == INTERIOR)
 }
 
 /// Whether no part of a loop is interior.
-pub(crate) fn is_exterior(parts: &[Part]) -> bool
+pub(crate) fn is_exterior(parts: &[BoundaryEdge]) -> bool
     ensures { result ≡ none_interior usage_of_part parts.now }
 {
     for part in parts {
@@ -42,7 +42,7 @@ pub(crate) fn is_exterior(parts: &[Part]) -> bool
 }
 
 /// Whether a loop has interior and other parts.
-pub(crate) fn is_mixed(parts: &[Part]) -> bool
+pub(crate) fn is_mixed(parts: &[BoundaryEdge]) -> bool
     ensures { result ≡ partly_interior usage_of_part parts.now }
 {
     let interior = is_interior(parts);
@@ -64,7 +64,7 @@ fn way_through(way: Way, sweep: LineSweep) -> Result<Way, AllocError>
 }
 
 /// Twice the signed area that a loop goes round: negative where it goes clockwise.
-pub(crate) fn turn_of(parts: &[Part]) -> Result<i128, AllocError>
+pub(crate) fn turn_of(parts: &[BoundaryEdge]) -> Result<i128, AllocError>
     ensures { IfOk result (λ turn. turn ≡ turn_of_parts parts.now) }
 {
     let [first, ..] = parts else { return Ok(0) };
@@ -78,7 +78,7 @@ pub(crate) fn turn_of(parts: &[Part]) -> Result<i128, AllocError>
 }
 
 /// Whether an exterior loop isn't clockwise, or an interior one isn't counterclockwise.
-pub(crate) fn turns_wrongly(parts: &[Part]) -> Result<bool, AllocError>
+pub(crate) fn turns_wrongly(parts: &[BoundaryEdge]) -> Result<bool, AllocError>
     ensures { IfOk result (λ wrong. wrong ≡ turns_against_usage parts.now) }
 {
     let turn = turn_of(parts)?;

@@ -1,34 +1,29 @@
 //! What is found of the loops that the parts of a boundary make.
 
-ghost use Rattle.std.specs.Prelude.{◌≡◌, ◌++◌, ◌∷◌, [], IfOk, OnOk, map, filter, take, drop, length};
+ghost use Rattle.std.specs.Prelude.{◌≡◌, ◌++◌, ◌∷◌, [], IfOk, OnOk, map, filter, length};
 ghost use Rattle.rule_spec.specs.declared.kind.TheConstants.{MIXED_RING, OPEN_RING, OUTER_COUNT, WRONG_TURN};
 ghost use Rattle.rule_spec.specs.Boundary.{none_interior};
 ghost use Rattle.rule_spec.specs.Findings.{finding};
 ghost use Rattle.rule_spec.specs.Loops.{blocks_of};
+ghost use Rattle.ring_build.specs.Partition.{length_of_block};
 ghost use Rattle.check_area.specs.Parts.{arc_of_part, exterior_count as spec_exterior_count, findings_of_loops, findings_of_parts};
-ghost use Rattle.check_area.specs.Parts.{length_of_block, mixed_loops, place_of_loop, usage_of_part, wrong_loops};
+ghost use Rattle.check_area.specs.Parts.{mixed_loops, place_of_loop, usage_of_part, wrong_loops};
 
-use crate::part::{Part, is_exterior, is_mixed, turns_wrongly};
+use crate::part::{BoundaryEdge, is_exterior, is_mixed, turns_wrongly};
 use cell_spec::Finding;
 use check_words::number;
-use ring_build::{Block, RingCut, cut};
+use ring_build::{Block, RingCut, block_length, cut, split_loop};
 use rule_spec::{MIXED_RING, OPEN_RING, OUTER_COUNT, WRONG_TURN};
 use s57_types::RecName;
 use std::alloc::{AllocError, Global};
 
-fn arcs_of(alloc: Global, parts: &[Part]) -> Result<Vec<(RecName, RecName)>, AllocError>
+fn arcs_of(alloc: Global, parts: &[BoundaryEdge]) -> Result<Vec<(RecName, RecName)>, AllocError>
     ensures { IfOk result (λ arcs. arcs.items ≡ map arc_of_part parts.now) }
 {
     parts
         .iter()
         .map(|part| (part.sweep.begins, part.sweep.ends))
         .collect(alloc)
-}
-
-fn block_length(block: Block) -> usize
-    ensures { result ≡ length_of_block block }
-{
-    (block.to as usize + 1).saturating_sub(block.from as usize)
 }
 
 /// The lengths of loops that stand one after the other.
@@ -41,16 +36,12 @@ fn lengths_of(alloc: Global, blocks: &[Block]) -> Result<Vec<usize>, AllocError>
         .collect(alloc)
 }
 
-/// The loop of so many parts at the front, and the parts after it.
-fn split_loop(parts: &[Part], n: usize) -> (&[Part], &[Part])
-    ensures front { result.0.now ≡ take n parts.now }
-    ensures after { result.1.now ≡ drop n parts.now }
-{
-    parts.split_at(n.min(parts.len()))
-}
-
 /// Appends a finding of a kind about a loop, by its first place.
-fn push_loop(findings: &mut Vec<Finding>, kind: u8, parts: &[Part]) -> Result<(), AllocError>
+fn push_loop(
+    findings: &mut Vec<Finding>,
+    kind: u8,
+    parts: &[BoundaryEdge],
+) -> Result<(), AllocError>
     ensures { OnOk result (findings.new.items ≡ findings.old.items ++ finding kind (place_of_loop parts.now) ∷ []) }
 {
     let place = match parts {
@@ -68,7 +59,7 @@ fn push_loop(findings: &mut Vec<Finding>, kind: u8, parts: &[Part]) -> Result<()
 fn push_mixed(
     findings: &mut Vec<Finding>,
     lengths: &[usize],
-    parts: &[Part],
+    parts: &[BoundaryEdge],
 ) -> Result<(), AllocError>
     ensures { OnOk result (findings.new.items ≡ findings.old.items ++ map (finding MIXED_RING) (mixed_loops (blocks_of lengths.now parts.now))) }
 {
@@ -83,7 +74,7 @@ fn push_mixed(
     Ok(())
 }
 
-fn exterior_count(lengths: &[usize], parts: &[Part]) -> usize
+fn exterior_count(lengths: &[usize], parts: &[BoundaryEdge]) -> usize
     ensures { result ≡ length (filter (none_interior usage_of_part) (blocks_of lengths.now parts.now)) }
 {
     let mut count = 0usize;
@@ -102,7 +93,7 @@ fn exterior_count(lengths: &[usize], parts: &[Part]) -> usize
 fn push_outer_count(
     findings: &mut Vec<Finding>,
     lengths: &[usize],
-    parts: &[Part],
+    parts: &[BoundaryEdge],
 ) -> Result<(), AllocError>
     ensures { OnOk result (findings.new.items ≡ findings.old.items ++ map (finding OUTER_COUNT) (spec_exterior_count (blocks_of lengths.now parts.now))) }
 {
@@ -120,7 +111,7 @@ fn push_outer_count(
 fn push_wrong_turns(
     findings: &mut Vec<Finding>,
     lengths: &[usize],
-    parts: &[Part],
+    parts: &[BoundaryEdge],
 ) -> Result<(), AllocError>
     ensures { OnOk result (findings.new.items ≡ findings.old.items ++ map (finding WRONG_TURN) (wrong_loops (blocks_of lengths.now parts.now))) }
 {
@@ -139,7 +130,7 @@ fn push_wrong_turns(
 fn loop_findings(
     alloc: Global,
     lengths: &[usize],
-    parts: &[Part],
+    parts: &[BoundaryEdge],
 ) -> Result<Vec<Finding>, AllocError>
     ensures { IfOk result (λ findings. findings.items ≡ findings_of_loops (blocks_of lengths.now parts.now)) }
 {
@@ -167,7 +158,10 @@ fn open_ring(alloc: Global, place: u32) -> Result<Vec<Finding>, AllocError>
 /// OpenRing, or what is found of the closed loops that the parts make one after the other.
 ///
 /// An `Err` means out of memory.
-pub(crate) fn ring_findings(alloc: Global, parts: &[Part]) -> Result<Vec<Finding>, AllocError>
+pub(crate) fn ring_findings(
+    alloc: Global,
+    parts: &[BoundaryEdge],
+) -> Result<Vec<Finding>, AllocError>
     ensures { IfOk result (λ findings. findings.items ≡ findings_of_parts parts.now) }
 {
     let arcs = arcs_of(alloc, parts)?;

@@ -9,6 +9,9 @@ use geo_exact::{Point, twice_area_step};
 use s57_types::RecName;
 use std::alloc::AllocError;
 
+/// The orientation (ORNT) of a spatial pointer that goes along its edge in reverse.
+const REVERSE: u8 = 2;
+
 /// What the loops of a boundary need of a line: its beginning node and its end node, its first and its last point, and
 /// twice the signed area that the way from the one to the other sweeps, seen from the origin, in square coordinate
 /// units.
@@ -39,7 +42,7 @@ fn turned(sweep: LineSweep) -> Result<LineSweep, AllocError>
 pub(crate) fn sweep_along(ornt: u8, sweep: LineSweep) -> Result<LineSweep, AllocError>
     ensures { IfOk result (λ along. along ≡ spec_sweep_along ornt sweep) }
 {
-    if ornt == 2 {
+    if ornt == REVERSE {
         return turned(sweep);
     }
     Ok(sweep)

@@ -12,30 +12,51 @@ ghost use Rattle.rule_spec.specs.Findings.{finding};
 ghost use Rattle.near_records.specs.Near.{has_key};
 
 use crate::found::push_place_if;
+use crate::places::{LINE, POINT};
 use cell_spec::Finding;
+use check_words::AREA;
 use near_records::Near;
 use rule_spec::{BAD_CODES, BAD_LEVEL};
 use s57_types::{Attr, Feature, Rec, RecName, Spot};
 use std::alloc::AllocError;
 
-/// No code.
-const NONE: u8 = 255;
+/// No indicator.
+const NULL: u8 = 255;
 
-/// The usage USAG of a boundary that is cut off by the data limit.
+/// The orientation ORNT of a pointer that goes along its edge forward.
+const FORWARD: u8 = 1;
+
+/// The orientation ORNT of a pointer that goes along its edge in reverse.
+const REVERSE: u8 = 2;
+
+/// The usage USAG of an exterior boundary.
+const EXTERIOR: u8 = 1;
+
+/// The usage USAG of an interior boundary.
+const INTERIOR: u8 = 2;
+
+/// The usage USAG of an exterior boundary that is truncated by the data limit.
 const TRUNCATED: u8 = 3;
+
+/// The masking MASK of what isn't to be drawn.
+const MASK: u8 = 1;
+
+/// The masking MASK of what is to be drawn.
+const SHOW: u8 = 2;
 
 fn has_line_codes(spot: &Spot) -> bool
     ensures { result ≡ spec_codes 2 spot.now }
 {
-    matches!(spot.ornt, 1 | 2 | NONE) && spot.usag == NONE && matches!(spot.mask, 1 | 2 | NONE)
+    let oriented = matches!(spot.ornt, FORWARD | REVERSE | NULL);
+    oriented && spot.usag == NULL && matches!(spot.mask, MASK | SHOW | NULL)
 }
 
 fn has_area_codes(spot: &Spot) -> bool
     ensures { result ≡ spec_codes 3 spot.now }
 {
-    let shown = matches!(spot.usag, 1 | 2) && matches!(spot.mask, 1 | 2 | NONE);
-    let truncated = spot.usag == TRUNCATED && spot.mask == NONE;
-    matches!(spot.ornt, 1 | 2) && (shown || truncated)
+    let whole = matches!(spot.usag, EXTERIOR | INTERIOR) && matches!(spot.mask, MASK | SHOW | NULL);
+    let truncated = spot.usag == TRUNCATED && spot.mask == NULL;
+    matches!(spot.ornt, FORWARD | REVERSE) && (whole || truncated)
 }
 
 /// Whether a spatial pointer has codes that its primitive PRIM may have.
@@ -43,9 +64,9 @@ fn has_its_codes(prim: u8, spot: &Spot) -> bool
     ensures { result ≡ spec_codes prim spot.now }
 {
     match prim {
-        1 => spot.ornt == NONE && spot.usag == NONE && spot.mask == NONE,
-        2 => has_line_codes(spot),
-        3 => has_area_codes(spot),
+        POINT => spot.ornt == NULL && spot.usag == NULL && spot.mask == NULL,
+        LINE => has_line_codes(spot),
+        AREA => has_area_codes(spot),
         _ => true,
     }
 }

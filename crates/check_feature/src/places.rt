@@ -11,10 +11,20 @@ ghost use Rattle.rule_spec.specs.Records.{is_edge_name, is_node_name};
 use crate::found::push_if;
 use crate::naming::Naming;
 use cell_spec::Finding;
+use check_words::AREA;
 use near_records::Near;
 use rule_spec::PRIM_REFS;
 use s57_types::{Feature, Kind, Spot};
 use std::alloc::AllocError;
+
+/// The geometric primitive PRIM of a point (S-57 Part 3, 7.6.1).
+pub(crate) const POINT: u8 = 1;
+
+/// That of a line.
+pub(crate) const LINE: u8 = 2;
+
+/// That of a feature which references no geometry.
+const NO_GEOMETRY: u8 = 255;
 
 fn name_an_edge(places: &[Spot]) -> bool
     ensures { result ≡ list_any is_edge_name (map target places.now) }
@@ -38,14 +48,14 @@ fn name_a_node(places: &[Spot]) -> bool
     false
 }
 
-/// Whether spatial pointers fit a geometric primitive PRIM: 1 for a point, 2 for a line, 3 for an area, 255 for none.
+/// Whether spatial pointers fit a geometric primitive PRIM.
 fn fit_primitive(prim: u8, places: &[Spot]) -> bool
     ensures { result ≡ spec_fits prim (map target places.now) }
 {
     match prim {
-        1 => places.len() == 1 && !name_an_edge(places),
-        2 | 3 => !places.is_empty() && !name_a_node(places),
-        255 => places.is_empty(),
+        POINT => places.len() == 1 && !name_an_edge(places),
+        LINE | AREA => !places.is_empty() && !name_a_node(places),
+        NO_GEOMETRY => places.is_empty(),
         _ => false,
     }
 }

@@ -30,7 +30,7 @@ fn read_words(rt: &(impl Env + AllocGlobal)) -> Result<Vec<String>, Status> {
     Ok(words)
 }
 
-/// Does what the words say on the real file store and standard output. The journal that `keep` names is a file of its own, which is none of the
+/// Runs the command line on the real file store and standard output. The journal that `keep` names is a file of its own, which is none of the
 /// others.
 fn run_words<R: Threads + Wait + Sync + Files<File = File> + Print + AllocGlobal>(
     rt: &R,

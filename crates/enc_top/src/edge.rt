@@ -62,14 +62,9 @@ fn edit<R: Threads + Sync, H: Shelf>(
     ensures told_reads { TellsReads (H.read_faults shelf.old) (H.read_faults shelf.new) result }
     ensures write_faults { H.write_faults shelf.new ≡ H.write_faults shelf.old }
 {
-    let bench = match read_bench(rt, alloc, shelf, cell) {
-        Ok(bench) => bench,
-        Err(status) => return Err(status),
-    };
-    match operate::<R, Brand>(rt, alloc, bench, operation, Blank::new(1)) {
-        Ok(left) => Ok(left_work(alloc, left, out)?),
-        Err(status) => Err(status),
-    }
+    let bench = read_bench(rt, alloc, shelf, cell)?;
+    let left = operate::<R, Brand>(rt, alloc, bench, operation, Blank::new(1))?;
+    Ok(left_work(alloc, left, out)?)
 }
 
 /// The bench of the cell that an operation leaves.

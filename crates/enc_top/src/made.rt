@@ -7,6 +7,7 @@ ghost use Rattle.enc_top.specs.Inputs.{drill_answer};
 ghost use Rattle.enc_top.specs.Outcome.{IsAskedBy, IsMakeOf};
 ghost use Rattle.call_files.specs.Task.{task_of};
 ghost use Rattle.enc_top.specs.Words.{drill_among, make_among};
+ghost use Rattle.sessions.specs.Replays.{session_limit};
 
 use crate::words::number_up_to;
 use call_files::{Export, Work};
@@ -16,6 +17,7 @@ use cell_write::write_cell;
 use drill_run::{push_drill, push_made};
 use file_spec::writable_cell_is_read_back;
 use report_text::Status;
+use sessions::SESSION_LIMIT;
 use std::alloc::{AllocError, Global};
 use std::thread::Threads;
 
@@ -23,7 +25,7 @@ use std::thread::Threads;
 const SIZE_LIMIT: u32 = 100;
 
 /// How many sessions a drill may have.
-const SESSION_LIMIT: u32 = 16;
+const DRILL_LIMIT: u32 = SESSION_LIMIT as u32;
 
 /// The line of the generated cell that the words behind `make` ask for, and its file.
 pub(crate) fn make(alloc: Global, others: &[String]) -> Result<Work, Status>
@@ -71,7 +73,7 @@ pub(crate) fn drill<R: Threads + Sync>(
     let Some(size) = number_up_to(size.as_str(), SIZE_LIMIT) else {
         return Err(Status::Usage);
     };
-    let Some(sessions) = number_up_to(sessions.as_str(), SESSION_LIMIT) else {
+    let Some(sessions) = number_up_to(sessions.as_str(), DRILL_LIMIT) else {
         return Err(Status::Usage);
     };
     drilled_work(rt, alloc, size, sessions)
@@ -87,7 +89,7 @@ fn drilled_work<R: Threads + Sync>(
     requires some { 1 ≤ size }
     requires few { size ≤ 100 }
     requires one_session { 1 ≤ sessions }
-    requires sessions { sessions ≤ 16 }
+    requires sessions { sessions ≤ session_limit }
     ensures { IsJudged task_of (drill_answer size sessions) result }
 {
     let drilled = match drill_run::drill(rt, alloc, size, sessions) {

@@ -58,10 +58,7 @@ fn probe_at<R: Threads + Sync, H: Shelf>(
     ensures told_reads { TellsReads (H.read_faults shelf.old) (H.read_faults shelf.new) result }
     ensures write_faults { H.write_faults shelf.new ≡ H.write_faults shelf.old }
 {
-    let bench = match read_bench(rt, alloc, shelf, cell) {
-        Ok(bench) => bench,
-        Err(status) => return Err(status),
-    };
+    let bench = read_bench(rt, alloc, shelf, cell)?;
     Ok(probed_work::<Brand>(alloc, &bench, y, x, Blank::new(1))?)
 }
 

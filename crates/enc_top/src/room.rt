@@ -69,14 +69,8 @@ fn room_on<R: Threads + Wait + Sync, H: Shelf, M: Meet + Sync>(
     ensures asked { IsAskedBy (M.sticks meet.now) (room_form cell.now out.now (map string_bytes names.now))
         (H.files shelf.old) (H.read_faults shelf.old) (H.read_faults shelf.new) result }
 {
-    let bench = match read_bench(rt, alloc, shelf, cell) {
-        Ok(bench) => bench,
-        Err(status) => return Err(status),
-    };
-    let scripts = match scripts_in_files(alloc, shelf, names) {
-        Ok(scripts) => scripts,
-        Err(status) => return Err(status),
-    };
+    let bench = read_bench(rt, alloc, shelf, cell)?;
+    let scripts = scripts_in_files(alloc, shelf, names)?;
     match room_work(rt, alloc, bench, out, scripts, meet) {
         Ok(work) => Ok(work),
         Err(RunEnd::Stuck(stuck)) => Err(Status::Stuck(stuck.desk, stuck.serial)),
@@ -107,10 +101,7 @@ fn room_work<R: Threads + Wait + Sync, M: Meet + Sync>(
     entries_are_in_order();
     runs_take_their_course();
     let room = Workroom::of_bench(alloc, bench)?;
-    let held = match run_sessions(rt, alloc, room, scripts, meet) {
-        Ok(held) => held,
-        Err(end) => return Err(end),
-    };
+    let held = run_sessions(rt, alloc, room, scripts, meet)?;
     let (book, transcripts) = held.into_parts();
     Ok(work_of(alloc, out, book, transcripts)?)
 }

@@ -40,7 +40,7 @@ use std::alloc::Global;
 use std::sync::Wait;
 use std::thread::Threads;
 
-/// Does what the words say: `check CELL` puts the numbers of records and all findings of the cell; `replay CELL OUT ORDER S1 .. Sk` puts the
+/// Runs the command line: `check CELL` puts the numbers of records and all findings of the cell; `replay CELL OUT ORDER S1 .. Sk` puts the
 /// report of running k scripts on it in the order of the order file, and then writes the cell that is left as the file OUT;
 /// `room CELL OUT S1 .. Sk` does the same with each script in a thread of its own, in the order that comes about; `make N OUT` puts the line
 /// of the generated cell of N rows of N squares, and then writes the cell as the file OUT; `drill N K` puts the line of the run of K generated
@@ -180,7 +180,7 @@ fn asked_work<R: Threads + Sync, H: Shelf>(
         return check(rt, alloc, others, shelf);
     }
     if first == "replay" {
-        return run_scripts(rt, alloc, others, shelf);
+        return replay_work(rt, alloc, others, shelf);
     }
     if first == "make" {
         return make(alloc, others);
@@ -219,17 +219,14 @@ fn check<R: Threads + Sync, H: Shelf>(
     let [name] = others else {
         return Err(Status::Usage);
     };
-    let checked = match read_cell(rt, alloc, shelf, name.as_str()) {
-        Ok(checked) => checked,
-        Err(status) => return Err(status),
-    };
+    let checked = read_cell(rt, alloc, shelf, name.as_str())?;
     let mut text = Vec::new(alloc);
     push_cell(&mut text, &checked.cell, &checked.findings)?;
     Ok(Work { text, export: None })
 }
 
 /// The report of the run that the words behind `replay` name, and the file of the cell that is left.
-fn run_scripts<R: Threads + Sync, H: Shelf>(
+fn replay_work<R: Threads + Sync, H: Shelf>(
     rt: &R,
     alloc: Global,
     others: &[String],
@@ -247,15 +244,12 @@ fn run_scripts<R: Threads + Sync, H: Shelf>(
     if names.is_empty() || names.len() > SESSION_LIMIT {
         return Err(Status::Usage);
     }
-    let bench = match read_bench(rt, alloc, shelf, cell.as_str()) {
-        Ok(bench) => bench,
-        Err(status) => return Err(status),
-    };
-    run_on(rt, alloc, shelf, bench, out.as_str(), order.as_str(), names)
+    let bench = read_bench(rt, alloc, shelf, cell.as_str())?;
+    replay_scripts(rt, alloc, shelf, bench, out.as_str(), order.as_str(), names)
 }
 
 /// The report of running the scripts of input files on the cell of a bench in the order of another, and the file of the cell that is left.
-fn run_on<R: Threads + Sync, H: Shelf>(
+fn replay_scripts<R: Threads + Sync, H: Shelf>(
     rt: &R,
     alloc: Global,
     shelf: &mut H,
@@ -276,15 +270,12 @@ fn run_on<R: Threads + Sync, H: Shelf>(
     ensures told_reads { TellsReads (H.read_faults shelf.old) (H.read_faults shelf.new) result }
     ensures write_faults { H.write_faults shelf.new ≡ H.write_faults shelf.old }
 {
-    let scripts = match scripts_in_files(alloc, shelf, names) {
-        Ok(scripts) => scripts,
-        Err(status) => return Err(status),
-    };
-    run_in_order_of(rt, alloc, shelf, bench, out, order, scripts)
+    let scripts = scripts_in_files(alloc, shelf, names)?;
+    replay_in_file_order(rt, alloc, shelf, bench, out, order, scripts)
 }
 
 /// The report of running scripts on the cell of a bench in the order of an input file, and the file of the cell that is left.
-fn run_in_order_of<R: Threads + Sync, H: Shelf>(
+fn replay_in_file_order<R: Threads + Sync, H: Shelf>(
     rt: &R,
     alloc: Global,
     shelf: &mut H,
@@ -309,15 +300,12 @@ fn run_in_order_of<R: Threads + Sync, H: Shelf>(
     exports_are_read_back();
     runs_take_their_course();
     let quotas = quotas_of(alloc, &scripts)?;
-    let sessions = match order_in_file(alloc, shelf, order, &quotas) {
-        Ok(sessions) => sessions,
-        Err(status) => return Err(status),
-    };
-    run_of(rt, alloc, bench, out, scripts, sessions)
+    let sessions = order_in_file(alloc, shelf, order, &quotas)?;
+    replay_and_export(rt, alloc, bench, out, scripts, sessions)
 }
 
 /// The report of running scripts on the cell of a bench in an order, and the file of the cell that is left.
-fn run_of<R: Threads + Sync>(
+fn replay_and_export<R: Threads + Sync>(
     rt: &R,
     alloc: Global,
     bench: Bench,

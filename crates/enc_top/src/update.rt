@@ -3,7 +3,7 @@
 ghost use Rattle.std.specs.Prelude.{◌≡◌, ◌<◌, ◌≤◌, IfErr, IfOk, MatchResult, Ok, length, map, string_bytes};
 ghost use Rattle.update_apply.specs.Gives.{IsUpdate, IsUpdateRefusal};
 ghost use Rattle.update_spec.specs.UpdatedCell.{updated_cell};
-ghost use Rattle.call_files.specs.Inputs.{IsJudged, TellsReads};
+ghost use Rattle.call_files.specs.Inputs.{IsJudged, TellsReads, cell_limit};
 ghost use Rattle.enc_top.specs.Outcome.{IsAskedBy};
 ghost use Rattle.enc_top.specs.Updates.{IsUpdateEnd, updated};
 ghost use Rattle.enc_top.specs.Words.{apply_among, apply_form};
@@ -62,18 +62,10 @@ fn apply_file<R: Threads + Sync, H: Shelf>(
     ensures told_reads { TellsReads (H.read_faults shelf.old) (H.read_faults shelf.new) result }
     ensures write_faults { H.write_faults shelf.new ≡ H.write_faults shelf.old }
 {
-    let bench = match read_bench(rt, alloc, shelf, cell) {
-        Ok(bench) => bench,
-        Err(status) => return Err(status),
-    };
-    let bytes = match read_update(alloc, shelf, update) {
-        Ok(bytes) => bytes,
-        Err(status) => return Err(status),
-    };
-    match leave::<R, Brand>(rt, alloc, bench, bytes, Blank::new(1)) {
-        Ok(left) => Ok(left_work(alloc, left, out)?),
-        Err(status) => Err(status),
-    }
+    let bench = read_bench(rt, alloc, shelf, cell)?;
+    let bytes = read_update(alloc, shelf, update)?;
+    let left = leave::<R, Brand>(rt, alloc, bench, bytes, Blank::new(1))?;
+    Ok(left_work(alloc, left, out)?)
 }
 
 /// The bench of the cell that an update file leaves. The file's bytes are given back before its edits are judged.
@@ -84,7 +76,7 @@ fn leave<R: Threads + Sync, L: Ledger>(
     bytes: Vec<u8>,
     blank: Blank,
 ) -> Result<Bench, Status>
-    requires small { length bytes.items ≤ 16777216 }
+    requires small { length bytes.items ≤ cell_limit }
     requires name { blank.name ≡ L.name }
     requires parts { blank.parts ≡ L.parts }
     requires some_part { 0 < L.parts }
@@ -102,7 +94,7 @@ fn leave<R: Threads + Sync, L: Ledger>(
 
 /// The edits that an update file stands for on the cell of a bench.
 fn edits_of(alloc: Global, bench: &Bench, bytes: Vec<u8>) -> Result<EditSet, UpdateRefusal>
-    requires { length bytes.items ≤ 16777216 }
+    requires { length bytes.items ≤ cell_limit }
     ensures { MatchResult result (IsUpdate bench.now bytes.items) (IsUpdateRefusal bench.now bytes.items) }
 {
     bench.known();

@@ -8,6 +8,7 @@ ghost use Rattle.crash_disk.specs.Disk.{LeavesOnly};
 ghost use Rattle.history_spec.specs.Steps.{commit as commit_event, faulty, view};
 ghost use Rattle.keep_run.specs.Sessions.{IsAround, IsEntered, IsUnasked, offered};
 ghost use Rattle.keep_run.specs.Stops.{IsReplyOf, IsStop};
+ghost use Rattle.text_spec.specs.ScriptLines.{command_limit};
 
 use crate::session::Session;
 use book_journal::{Journal, KeepRefusal};
@@ -116,8 +117,8 @@ impl Session {
         requires room { length journal.old.book.entries < entry_limit }
         requires lines { HaveLines self.now.edits.items }
         requires short { length (edit_lines self.now.edits.items) ≤ text_limit }
-        requires few { length self.now.edits.items ≤ 50000 }
-        requires few_guards { length self.now.guards.items ≤ 50000 }
+        requires few { length self.now.edits.items ≤ command_limit }
+        requires few_guards { length self.now.guards.items ≤ command_limit }
         ensures still { IsStill D.content D.images journal.new }
         ensures same_reference { journal.new.disk.ghost_name ≡ journal.old.disk.ghost_name }
         ensures whole { OnOk result (journal.new.broken ≡ false) }

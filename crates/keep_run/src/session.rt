@@ -49,8 +49,8 @@ impl Session {
         ensures guards { self.new.guards.items ≡ self.old.guards.items }
         ensures lines { OnOk result (self.new.transcript ≡ self.old.transcript ++ draft_line (length self.old.edits.items + 1)) }
     {
-        let twin = edit.copy(alloc)?;
-        self.edits.push(twin)?;
+        let copy = edit.copy(alloc)?;
+        self.edits.push(copy)?;
         self.transcript.push_draft(self.edits.len() as u32)
     }
 

@@ -23,8 +23,8 @@ use std::marker::Brand;
 use std::sync::ledger::Blank;
 use std::thread::Threads;
 
-/// Does what the words `keep CELL OUT JOURNAL S` say: runs the script S as one session, of desk 1, over the commits that the journal on the disk has,
-/// and has each commit that is accepted on the disk before it goes on. The text that is put tells how many commits the journal had, the session's
+/// Runs the command line `keep CELL OUT JOURNAL S`: the script S is run as one session, of desk 1, over the commits that the journal on the disk
+/// has, and each commit that is accepted is on the disk before the session goes on. The text that is put tells how many commits the journal had, the session's
 /// lines, and the cell that is left, which is then written as the file OUT. The words are those after the program's name.
 ///
 /// What a crash leaves of the disk at any moment has the commits that the journal had and the first of those that the script has accepted, with all
@@ -119,14 +119,8 @@ fn kept_work<R: Threads + Sync, H: Shelf, D: Disk>(
     ensures told_reads { TellsReads (H.read_faults shelf.old) (H.read_faults shelf.new) result }
     ensures told_disk { TellsDisk (D.faults disk.old) (D.faults disk.new) result }
 {
-    let checked = match read_cell(rt, alloc, shelf, cell) {
-        Ok(checked) => checked,
-        Err(status) => return Err(status),
-    };
-    let script = match script_in_file(alloc, shelf, script, DESK) {
-        Ok(script) => script,
-        Err(status) => return Err(status),
-    };
+    let checked = read_cell(rt, alloc, shelf, cell)?;
+    let script = script_in_file(alloc, shelf, script, DESK)?;
     decoded_cell_is_writable();
     work_of(
         alloc,
@@ -139,11 +133,7 @@ fn kept_work<R: Threads + Sync, H: Shelf, D: Disk>(
 fn work_of(alloc: Global, kept: Result<Kept, Status>, out: &str) -> Result<Work, Status>
     ensures { IsWorkOf out.now kept result }
 {
-    let kept = match kept {
-        Ok(kept) => kept,
-        Err(status) => return Err(status),
-    };
-    let (text, bench) = kept.into_parts();
+    let (text, bench) = kept?.into_parts();
     let export = Export::of_bench(alloc, bench, out)?;
     Ok(Work {
         text,

@@ -1,10 +1,9 @@
 -- How great weighed numbers are, and the sum round a triangle.
-use Rattle.std.proofs.Common.{◌≡◌, ℕ, ◌+◌, ◌*◌, ◌/◌, ◌^◌, ◌<◌, ◌≤◌, ℤ, pos, ◌+ℤ◌, [], ◌∷◌, unsigned_abs, FitsSigned, w32, arith, subst, sym}
+use Rattle.std.proofs.Common.{◌≡◌, ℕ, ◌+◌, ◌*◌, ◌/◌, ◌^◌, ◌<◌, ◌≤◌, ℤ, pos, ◌+ℤ◌, [], ◌∷◌, arith}
 use Rattle.std.proofs.lemmas.Int.{ints}
 use Rattle.geometry_spec.specs.Areas.{signed_double_area, twice_area_step}
 use Rattle.geometry_spec.specs.Points.{Point}
 use Rattle.std.proofs.Math.Nat.{div-le_of_le-mul, mul-le-mul}
-use Rattle.ring_build.proofs.TurnSteps.{step_small}
 
 pub product_small : (a t : ℕ) → a < 2 ^ 32 → t ≤ 2 ^ 65 → a * t ≤ 2 ^ 97
 product_small a t first second =
@@ -23,11 +22,6 @@ mean_small a b s t first second =
     let times_b : b * t ≤ 4294967295 * t = mul-le-mul {n₂ = 4294967295} {m₂ = t} most_b same_t in
     let within : (a * s + b * t) / (s + t) ≤ 4294967295 = div-le_of_le-mul (s + t) (omega (arith, times_a, times_b)) in
     omega (arith, within)
-
--- one step round a triangle
-pub step_fits : (a b : Point) (step : ℤ) → FitsSigned w32 a.0 → FitsSigned w32 a.1 → FitsSigned w32 b.0 → FitsSigned w32 b.1 → step ≡ twice_area_step a b
-    → unsigned_abs step ≤ 2 ^ 63
-step_fits a b step a0 a1 b0 b1 is = subst (λ z. unsigned_abs z ≤ 2 ^ 63) (sym is) (step_small a b a0 a1 b0 b1)
 
 sum_of_three : (x y z : ℤ) → (x +ℤ y) +ℤ z ≡ x +ℤ (y +ℤ (z +ℤ pos 0))
 sum_of_three x y z = omega (arith, ints)

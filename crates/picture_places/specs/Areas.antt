@@ -5,10 +5,9 @@ use Rattle.s57_types.specs.declared.record.Feature.{Feature}
 use Rattle.s57_types.specs.declared.record.Spot.{Spot}
 use Rattle.geometry_spec.specs.Points.{Point}
 use Rattle.geometry_spec.specs.declared.tile.Box4.{Box4}
-use Rattle.ring_build.specs.Partition.{cut_of}
+use Rattle.ring_build.specs.Partition.{cut_of, length_of_block}
 use Rattle.ring_build.specs.declared.ring.RingCut.{RingCut}
 use Rattle.ring_build.specs.declared.ring.RingCut.TheVariants.{Whole, OpenAt}
-use Rattle.check_area.specs.Parts.{length_of_block}
 use Rattle.rule_spec.specs.Boundary.{line_along}
 use Rattle.rule_spec.specs.EdgePoints.{edge_line_of}
 use Rattle.rule_spec.specs.Loops.{Arc, blocks_of}

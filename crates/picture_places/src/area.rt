@@ -1,9 +1,9 @@
 //! The loops that fill an area.
 
-ghost use Rattle.std.specs.Prelude.{◌≡◌, ◌++◌, ◌∷◌, [], IfOk, OnOk, drop, flat_map, map, take};
-ghost use Rattle.check_area.specs.Parts.{length_of_block};
+ghost use Rattle.std.specs.Prelude.{◌≡◌, ◌++◌, ◌∷◌, [], IfOk, OnOk, flat_map, map};
 ghost use Rattle.rule_spec.specs.Boundary.{line_along as spec_line_along};
 ghost use Rattle.rule_spec.specs.Loops.{blocks_of};
+ghost use Rattle.ring_build.specs.Partition.{length_of_block};
 ghost use Rattle.picture_places.specs.Areas.{arc_of_line, area_strokes, boundary_lines, boundary_strokes, lines_at, loop_stroke, points_of_line};
 
 use crate::stroke::Strokes;
@@ -11,7 +11,7 @@ use crate::view::View;
 use chain_topo::{Steps, edge_line};
 use check_words::number;
 use geometry_spec::Point;
-use ring_build::{Block, RingCut, cut};
+use ring_build::{Block, RingCut, block_length, cut, split_loop};
 use rule_spec::EdgeLine;
 use s57_types::{Feature, Plane, RecName, Spot};
 use std::alloc::{AllocError, Global};
@@ -53,20 +53,6 @@ fn push_points(points: &mut Vec<Point>, lines: &[EdgeLine]) -> Result<(), AllocE
         points.extend_from_slice(line.points.as_slice())?;
     }
     Ok(())
-}
-
-fn block_length(block: Block) -> usize
-    ensures { result ≡ length_of_block block }
-{
-    (block.to as usize + 1).saturating_sub(block.from as usize)
-}
-
-/// The loop of so many lines at the front, and the lines after it.
-fn split_loop(lines: &[EdgeLine], n: usize) -> (&[EdgeLine], &[EdgeLine])
-    ensures front { result.0.now ≡ take n lines.now }
-    ensures after { result.1.now ≡ drop n lines.now }
-{
-    lines.split_at(n.min(lines.len()))
 }
 
 impl<'a, 'b> View<'a, 'b> {

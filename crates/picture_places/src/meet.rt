@@ -1,23 +1,16 @@
 //! The common point of two segments on the page, rounded.
 
 ghost use Rattle.std.specs.Prelude.{◌≡◌, ◌<◌, ◌≤◌, ◌+◌, ◌+ℤ◌, ◌^◌, ◌∷◌, [], ◌++◌, OnOk, unsigned_abs};
-ghost use Rattle.geometry_spec.specs.Areas.{signed_double_area as spec_signed_double_area, twice_area_step as spec_area_step};
+ghost use Rattle.geometry_spec.specs.Areas.{signed_double_area as spec_signed_double_area};
 ghost use Rattle.picture_places.specs.Places.{common_dots, common_point as spec_common_point, double_area as spec_double_area};
 ghost use Rattle.picture_places.specs.Places.{point_between as spec_point_between, shared_end as spec_shared_end, weighed as spec_weighed};
 
 use crate::page::{PagePoint, page_point};
 use crate::stroke::{Stroke, Strokes};
-use geo_exact::{on_segment, twice_area_step};
+use geo_exact::on_segment;
 use geometry_spec::{Box4, Point};
+use ring_build::area_step;
 use std::alloc::{AllocError, Global};
-
-/// One step round a triangle.
-fn area_step(a: Point, b: Point) -> i128
-    ensures value { result ≡ spec_area_step a b }
-    ensures small { unsigned_abs result ≤ 2 ^ 63 }
-{
-    twice_area_step(a, b)
-}
 
 /// A sum of steps.
 fn plus(a: i128, b: i128) -> i128

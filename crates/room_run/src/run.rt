@@ -138,9 +138,6 @@ pub fn run_sessions<R: Threads + Wait + Sync, M: Meet + Sync>(
     let mut compilers = open_all(alloc, &mut room, scripts)?;
     run_all(rt, &room, alloc, meet, &mut compilers);
     let (book, outcomes) = gather(rt, alloc, room, compilers)?;
-    let transcripts = match transcripts_of(alloc, outcomes) {
-        Ok(transcripts) => transcripts,
-        Err(end) => return Err(end),
-    };
+    let transcripts = transcripts_of(alloc, outcomes)?;
     Ok(Replayed { book, transcripts })
 }

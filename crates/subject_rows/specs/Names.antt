@@ -1,11 +1,12 @@
 -- The connected nodes and edges of pairs. This project's own.
-use Rattle.std.specs.Prelude.{◌≡◌, Bool, true, List, [], ◌∷◌, Option, IfSome}
+use Rattle.std.specs.Prelude.{◌≡◌, Bool, true, List, [], ◌∷◌, IfSome}
 use Rattle.std.specs.List.{list_any}
 use Rattle.std.specs.Ordering.{is_eq}
 use Rattle.s57_types.specs.declared.name.RecName.{RecName}
 use Rattle.cell_spec.specs.declared.key.Subject.{Subject}
 use Rattle.cell_spec.specs.declared.key.Subject.TheVariants.{Rec, Side, Pair, Ident}
 use Rattle.cell_spec.specs.Names.{name_order}
+use Rattle.subject_rows.specs.declared.names.PairNames.{PairNames}
 
 -- both names of a pair
 abbrev pub names_of_pair : Subject → List RecName
@@ -19,6 +20,6 @@ abbrev pub is_among : List RecName → RecName → Bool
 is_among names n = list_any (λ m. is_eq (name_order n m)) names
 
 -- the names of a pair, as far as there are some, stand among others
-pub record AreThere (pair : Option RecName × Option RecName) (names : List RecName) : Type 0 where
-  pub first : IfSome pair.0 (λ n. is_among names n ≡ true)
-  pub second : IfSome pair.1 (λ n. is_among names n ≡ true)
+pub record AreThere (pair : PairNames) (names : List RecName) : Type 0 where
+  pub first : IfSome pair.first (λ n. is_among names n ≡ true)
+  pub second : IfSome pair.second (λ n. is_among names n ≡ true)

@@ -28,8 +28,12 @@ fn push_unless(
     Ok(())
 }
 
-/// Names of a pair, each if there is one.
-type PairNames = (Option<RecName>, Option<RecName>);
+/// The names of a pair, each if there is one.
+#[derive(Clone, Copy)]
+struct PairNames {
+    first: Option<RecName>,
+    second: Option<RecName>,
+}
 
 /// Appends the names of a subject, if it is a pair, but for those that the pair before it has in the same place.
 fn push_names_of(
@@ -44,9 +48,12 @@ fn push_names_of(
     match subject {
         Subject::Rec(_) | Subject::Side(_) | Subject::Ident(_) => Ok(()),
         Subject::Pair(first, second) => {
-            push_unless(names, first, before.0)?;
-            push_unless(names, second, before.1)?;
-            *before = (Some(first), Some(second));
+            push_unless(names, first, before.first)?;
+            push_unless(names, second, before.second)?;
+            *before = PairNames {
+                first: Some(first),
+                second: Some(second),
+            };
             Ok(())
         }
     }
@@ -57,7 +64,10 @@ fn push_pair_names(names: &mut Vec<RecName>, subjects: &[Subject]) -> Result<(),
     ensures { OnOk result ((n : SpecRecName) → is_among names.new.items n
         ≡ (is_among names.old.items n || is_among (flat_map names_of_pair subjects.now) n)) }
 {
-    let mut before = (None, None);
+    let mut before = PairNames {
+        first: None,
+        second: None,
+    };
     for subject in subjects {
         push_names_of(names, &mut before, *subject)?;
     }

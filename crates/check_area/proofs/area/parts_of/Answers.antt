@@ -1,5 +1,5 @@
 use Rattle.std.proofs.Common.{◌+◌, List, sym, subst, ◌∙◌}
-use Rattle.check_area.specs.declared.part.Part.{Part}
+use Rattle.check_area.specs.declared.part.BoundaryEdge.{BoundaryEdge}
 use Rattle.check_area.proofs.Places.{IsSoFar, place_refused, place_taken}
 use Rattle.check_area.proofs.area.parts_of.Goals as goal
 
@@ -20,6 +20,6 @@ loop-k-preserved g c = λ cell keys near asks.
     let so_far = c.loop-k.invariant cell keys near asks in
     let found = c.in_ok-part.ensures.part cell keys near (asks k _ within) so_far.held in
     let held = c.in_ok-part.ensures.known cell keys near (asks k _ within) so_far.held in
-    subst (λ (parts : List Part). IsSoFar cell c.part_at.new.known parts (k + 1) places) (sym c.in_ok-push.ensures.items)
+    subst (λ (parts : List BoundaryEdge). IsSoFar cell c.part_at.new.known parts (k + 1) places) (sym c.in_ok-push.ensures.items)
     (place_taken cell c.loop-k.known c.part_at.new.known c.loop-k.parts.items k places _ _ c.in-Some.part within so_far held c.in_ok-place.ensures
     (sym c.in-Some.is ∙ found))

@@ -1,8 +1,8 @@
 use Rattle.std.proofs.Common.{◌≡◌, List, map, subst, sym, ap, ◌∙◌, IfOk}
 use Rattle.cell_spec.specs.declared.finding.Finding.{Finding}
-use Rattle.ring_build.specs.Partition.{cut_of}
+use Rattle.ring_build.specs.Partition.{cut_of, length_of_block}
 use Rattle.ring_build.specs.declared.ring.RingCut.TheVariants.{OpenAt, Whole}
-use Rattle.check_area.specs.Parts.{arc_of_part, length_of_block}
+use Rattle.check_area.specs.Parts.{arc_of_part}
 use Rattle.check_area.proofs.Loops.{open_found, whole_found}
 use Rattle.check_area.proofs.ring.ring_findings.Goals as goal
 

@@ -1,10 +1,21 @@
-use Rattle.enc_top.proofs.EdgeWork.{operation_ends}
+use Rattle.std.proofs.lemmas.Result.{err_from_is_err_and}
+use Rattle.enc_top.proofs.EdgeWork.{cell_ends, operation_ends}
 use Rattle.enc_top.proofs.edge.edit.Goals as goal
 
-pub returns-in-Err-operate-clause-asked : goal.returns-in-Err-operate-clause-asked
-returns-in-Err-operate-clause-asked g c =
+pub returns-in_err-bench-clause-asked : goal.returns-in_err-bench-clause-asked
+returns-in_err-bench-clause-asked g c =
     let files = g.H.Shelf.files in
     let faults = g.H.Shelf.read_faults in
     let old = c.args.shelf.now in
-    operation_ends c.args.cell.now c.args.out.now c.args.operation (files old) (faults old) (faults c.read_bench.new.shelf) c.in-Ok.bench
-    c.in-Ok.ensures.tells c.in-Err-operate.status c.in-Err-operate.ensures.judged c.in-Err-operate.ensures.ends
+    let refused = err_from_is_err_and c.from_residual.result c.from_residual.ensures.1 in
+    rw (refused.1, refused.2) (cell_ends c.args.cell.now c.args.out.now c.args.operation (files old) (faults old) (faults c.read_bench.new.shelf)
+    c.in_err-bench.field-0.0 c.in_err-bench.ensures.text c.in_err-bench.ensures.status c.in_err-bench.ensures.tells)
+
+pub returns-in_err-left-clause-asked : goal.returns-in_err-left-clause-asked
+returns-in_err-left-clause-asked g c =
+    let files = g.H.Shelf.files in
+    let faults = g.H.Shelf.read_faults in
+    let old = c.args.shelf.now in
+    let refused = err_from_is_err_and c.from_residual-in_err-left.result c.from_residual-in_err-left.ensures.1 in
+    rw (refused.1, refused.2) (operation_ends c.args.cell.now c.args.out.now c.args.operation (files old) (faults old) (faults c.read_bench.new.shelf)
+    c.in_ok-bench.bench c.in_ok-bench.ensures.tells c.in_err-left.field-0.0 c.in_err-left.ensures.judged c.in_err-left.ensures.ends)

@@ -16,9 +16,9 @@ pub returns-clause-run : goal.returns-clause-run
 returns-clause-run g c =
     let bench = c.args.bench in
     let scripts = c.args.scripts.items in
-    let held = c.in-Ok.held in
+    let held = c.in_ok-held.held in
     let entries = held.book.entries in
-    let is : IsHeld bench scripts held = subst (λ (cell : Cell). IsHeld cell scripts held) c.in_ok-room.ensures.opening c.in-Ok.ensures.held in
+    let is : IsHeld bench scripts held = subst (λ (cell : Cell). IsHeld cell scripts held) c.in_ok-room.ensures.opening c.in_ok-held.ensures.held in
     let few : length (quotas_of scripts) < 2 ^ 32 = (let many = length-map scripts (count_by is_shared) in let limit = c.requires.few in
     omega (arith, many, limit)) in
     let out = c.args.out.now in

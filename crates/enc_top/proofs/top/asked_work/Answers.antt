@@ -17,10 +17,10 @@ returns-then-eq-clause-asked g c =
 
 pub returns-then-eq-2-clause-asked : goal.returns-then-eq-2-clause-asked
 returns-then-eq-2-clause-asked g c =
-    subst (λ f. IsAskedBy ⊥ f (g.H.Shelf.files c.args.shelf.now) (g.H.Shelf.read_faults c.args.shelf.now) (g.H.Shelf.read_faults c.run_scripts.new.shelf)
-    c.run_scripts.result) (sym (run_words c.args.words.now c.first-item.result (take (length c.args.words.now - 1) (drop 1 c.args.words.now))
+    subst (λ f. IsAskedBy ⊥ f (g.H.Shelf.files c.args.shelf.now) (g.H.Shelf.read_faults c.args.shelf.now) (g.H.Shelf.read_faults c.replay_work.new.shelf)
+    c.replay_work.result) (sym (run_words c.args.words.now c.first-item.result (take (length c.args.words.now - 1) (drop 1 c.args.words.now))
     c.in-len1-up.len_at_least c.first-item.is (behind 1 c.args.words.now) c.requires c.as_str-first.result.now c.as_str-first.ensures.value c.if-eq.ensures
-    c.if-eq-2.ensures)) c.run_scripts.ensures.asked
+    c.if-eq-2.ensures)) c.replay_work.ensures.asked
 
 pub returns-then-eq-3-clause-asked : goal.returns-then-eq-3-clause-asked
 returns-then-eq-3-clause-asked g c =

@@ -19,31 +19,33 @@ pub returns-clause-asked : goal.returns-clause-asked
 returns-clause-asked g c =
     let one : length c.args.others.now ≡ 1 = omega (arith, c.in-len1.len_at_least, c.in-len1.len_below) in
     let form = one_word c.args.others.now c.name-item.result one c.name-item.is ∙ ap check_form (sym c.as_str.ensures.value) in
-    let cell = c.in-Ok.checked.cell in
+    let cell = c.in_ok-checked.checked.cell in
     let text : c.push_cell.new.out.items ≡ cell_text cell =
-    c.in_ok-push_cell.ensures.ok (all_findings cell) c.in-Ok.ensures.findings.all
+    c.in_ok-push_cell.ensures.ok (all_findings cell) c.in_ok-checked.ensures.findings.all
     ∙ ap (λ before. before ++ text_with cell (all_findings cell)) c.new-text.ensures.items in
     let is : task_of (record { text = c.push_cell.new.out; export = None }) ≡ check_task cell =
     ap (λ (text : List ℕ). record { text = text; file = None }) text in
-    let told = both_told (g.H.Shelf.files c.args.shelf.now) c.in-Ok.ensures.tells c.in-Ok.ensures.tells (λ fs step _. inl (cell, step, ap Ok is)) in
+    let told = both_told (g.H.Shelf.files c.args.shelf.now) c.in_ok-checked.ensures.tells c.in_ok-checked.ensures.tells
+    (λ fs step _. inl (cell, step, ap Ok is)) in
     subst (λ f. IsAskedBy ⊥ f (g.H.Shelf.files c.args.shelf.now) (g.H.Shelf.read_faults c.args.shelf.now)
     (g.H.Shelf.read_faults c.read_cell.new.shelf) (Ok (record { text = c.push_cell.new.out; export = None }))) (sym form)
-    (record { start = cell; told = c.in-Ok.ensures.tells; is = is }, told)
+    (record { start = cell; told = c.in_ok-checked.ensures.tells; is = is }, told)
 
-pub returns-in-Err-clause-asked : goal.returns-in-Err-clause-asked
-returns-in-Err-clause-asked g c =
+pub returns-in_err-checked-clause-asked : goal.returns-in_err-checked-clause-asked
+returns-in_err-checked-clause-asked g c =
     let one : length c.args.others.now ≡ 1 = omega (arith, c.in-len1.len_at_least, c.in-len1.len_below) in
     let form = one_word c.args.others.now c.name-item.result one c.name-item.is ∙ ap check_form (sym c.as_str.ensures.value) in
     let cell = c.as_str.result.now in
     let files = g.H.Shelf.files c.args.shelf.now in
     let before = g.H.Shelf.read_faults c.args.shelf.now in
     let after = g.H.Shelf.read_faults c.read_cell.new.shelf in
-    let status = c.in-Err.status in
-    subst (λ f. IsAskedBy ⊥ f files before after (Err status)) (sym form)
-    (asked_status ⊥ (check_form cell) files before after status tt (fits_no_text (check_form cell) status c.in-Err.ensures.text)
-    (status_of_more (λ n. n ≡ cell) (IsInputOf (check_form cell)) status (λ n same. same) c.in-Err.ensures.status)
+    let status = c.in_err-checked.field-0.0 in
+    let refused = err_from_is_err_and c.from_residual.result c.from_residual.ensures.1 in
+    rw (refused.1, refused.2) (subst (λ f. IsAskedBy ⊥ f files before after (Err status)) (sym form)
+    (asked_status ⊥ (check_form cell) files before after status tt (fits_no_text (check_form cell) status c.in_err-checked.ensures.text)
+    (status_of_more (λ n. n ≡ cell) (IsInputOf (check_form cell)) status (λ n same. same) c.in_err-checked.ensures.status)
     (tells_first (λ (checked : Checked). checked.cell) task_of (CellIs cell) (OutputIs (check_form cell)) (IsFile cell) (IsReached (check_form cell))
-    files before after status (λ fs bad. inr (status, bad, refl)) (λ fs n is. is) c.in-Err.ensures.tells))
+    files before after status (λ fs bad. inr (status, bad, refl)) (λ fs n is. is) c.in_err-checked.ensures.tells)))
 
 pub returns-in_err-push_cell-clause-asked : goal.returns-in_err-push_cell-clause-asked
 returns-in_err-push_cell-clause-asked g c =
@@ -53,5 +55,5 @@ returns-in_err-push_cell-clause-asked g c =
     let files = g.H.Shelf.files c.args.shelf.now in
     let before = g.H.Shelf.read_faults c.args.shelf.now in
     let after = g.H.Shelf.read_faults c.read_cell.new.shelf in
-    let refused = err_from_is_err_and c.from_residual.result c.from_residual.ensures.1 in
+    let refused = err_from_is_err_and c.from_residual-in_err-push_cell.result c.from_residual-in_err-push_cell.ensures.1 in
     rw (refused.1, refused.2) (subst (λ f. IsAskedBy ⊥ f files before after (Err NoMemory)) (sym form) tt)

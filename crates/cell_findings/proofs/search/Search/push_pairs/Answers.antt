@@ -1,14 +1,13 @@
-use Rattle.std.proofs.Common.{◌≡◌, ◌++◌, ◌∙◌, IsTrue, List, ap, subst, sym}
+use Rattle.std.proofs.Common.{◌≡◌, ◌∙◌, IsTrue, List, ap, subst, sym}
 use Rattle.std.specs.List.{All, flat_map}
 use Rattle.std.specs.List.Sorted.{IsPermutation, IsStrictlySortedBy}
-use Rattle.std.specs.Prelude.{MatchResult}
 use Rattle.s57_types.specs.declared.cell.Cell.{Cell}
 use Rattle.s57_types.specs.declared.name.RecName.{RecName}
 use Rattle.box_tree.specs.declared.leaf.Leaf.{Leaf}
 use Rattle.cell_spec.specs.Names.{name_order}
 use Rattle.cell_spec.specs.declared.key.Subject.{Subject}
 use Rattle.rule_spec.specs.Findings.{is_subject}
-use Rattle.cell_findings.specs.Gathered.{IsGathered, IsOver}
+use Rattle.cell_findings.specs.Gathered.{Gathers}
 use Rattle.cell_findings.specs.Judged.{subject_findings}
 use Rattle.cell_findings.specs.Near.{leaf_names, leaves_in, near_pairs, pairs_near}
 use Rattle.cell_findings.proofs.LeafPairs.{all_by_part, flat_of_flat, pairs_by_leaf}
@@ -37,7 +36,6 @@ push_near_pairs-requires-clause-subjects g c =
 pub returns : goal.returns
 returns g c =
     let cell = c.args.self.now.look.now in
-    let before = c.args.gathered.now.items in
     let leaves = c.as_slice-leaves.result.now in
     let tree = c.in_ok-tree.tree in
     let is = c.as_slice-leaves.ensures.value ∙ c.in_ok-placed.ensures.leaves in
@@ -47,6 +45,5 @@ returns g c =
     ∙ ap (flat_map (subject_findings cell)) by_leaf
     ∙ ap (λ ls. flat_map (subject_findings cell) (near_pairs ls)) is
     ∙ near_pairs_tell cell c.apart_pairs_are_clean.ensures c.args.names.now in
-    subst (λ found. MatchResult c.push_near_pairs.result
-    (λ _. IsGathered c.args.self.now.limit (before ++ found) c.push_near_pairs.new.gathered.items) (IsOver c.args.self.now.limit (before ++ found)))
+    subst (λ found. Gathers c.args.self.now.limit c.args.gathered.now.items found c.push_near_pairs.new.gathered.items c.push_near_pairs.result)
     tell c.push_near_pairs.ensures

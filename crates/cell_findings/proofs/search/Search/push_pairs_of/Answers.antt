@@ -1,11 +1,10 @@
-use Rattle.std.proofs.Common.{◌++◌, ◌∙◌, IsTrue, List, map, subst, sym}
+use Rattle.std.proofs.Common.{◌∙◌, IsTrue, List, map, subst, sym}
 use Rattle.std.specs.List.{All, flat_map}
-use Rattle.std.specs.Prelude.{MatchResult}
 use Rattle.s57_types.specs.declared.name.RecName.{RecName}
 use Rattle.cell_spec.specs.declared.key.Subject.{Subject}
 use Rattle.cell_spec.specs.declared.key.Subject.TheVariants.{Pair}
 use Rattle.rule_spec.specs.Findings.{is_subject}
-use Rattle.cell_findings.specs.Gathered.{IsGathered, IsOver}
+use Rattle.cell_findings.specs.Gathered.{Gathers}
 use Rattle.cell_findings.specs.Judged.{subject_findings}
 use Rattle.cell_findings.specs.Near.{names_near}
 use Rattle.cell_findings.specs.declared.list.SubjectFinding.{SubjectFinding}
@@ -20,8 +19,6 @@ push_pairs_with-requires-clause-subjects g c =
 
 pub returns : goal.returns
 returns g c =
-    let before = c.args.gathered.now.items in
     let tell : List RecName → List SubjectFinding = λ names. flat_map (subject_findings c.args.self.now.look.now) (map (Pair c.args.leaf.name) names) in
-    subst (λ names. MatchResult c.push_pairs_with.result
-    (λ _. IsGathered c.args.self.now.limit (before ++ tell names) c.push_pairs_with.new.gathered.items) (IsOver c.args.self.now.limit (before ++ tell names)))
+    subst (λ names. Gathers c.args.self.now.limit c.args.gathered.now.items (tell names) c.push_pairs_with.new.gathered.items c.push_pairs_with.result)
     (c.as_slice-others.ensures ∙ c.in_ok-others.ensures) c.push_pairs_with.ensures

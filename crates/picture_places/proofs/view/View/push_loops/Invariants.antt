@@ -1,5 +1,5 @@
 use Rattle.std.proofs.Common.{◌≡◌, ◌++◌, drop, map}
-use Rattle.check_area.specs.Parts.{length_of_block}
+use Rattle.ring_build.specs.Partition.{length_of_block}
 use Rattle.rule_spec.specs.Loops.{blocks_of}
 use Rattle.picture_places.specs.Areas.{loop_stroke}
 use Rattle.picture_places.proofs.view.View.push_loops.Given as goal
