@@ -169,10 +169,7 @@ pub fn feature_edit(
 {
     match instruction {
         Instruction::Insert => feature_insertion(case, ids),
-        Instruction::Delete => match feature_deletion(case.look, ids) {
-            Ok(edit) => Ok(edit),
-            Err(fault) => Err(StepRefusal::Fault(fault)),
-        },
+        Instruction::Delete => Ok(feature_deletion(case.look, ids)?),
         Instruction::Modify => feature_modification(case, ids),
     }
 }

@@ -64,10 +64,7 @@ fn read_next(
         level,
         frame: &frame,
     };
-    let edit = match record_update(&case, number, &earlier) {
-        Ok(edit) => edit,
-        Err(refusal) => return Err(refusal),
-    };
+    let edit = record_update(&case, number, &earlier)?;
     let more = with_edit(earlier, edit)?;
     Ok((more, frame.length()))
 }
@@ -111,10 +108,8 @@ fn identification_at(
     ensures within { IfOk result (λ x. x.1 ≤ length bytes.now) }
 {
     let frame = next_record(bytes, at, false)?;
-    match update_identification(alloc, head, &frame) {
-        Ok(general) => Ok((general, at + frame.length())),
-        Err(refusal) => Err(refusal),
-    }
+    let general = update_identification(alloc, head, &frame)?;
+    Ok((general, at + frame.length()))
 }
 
 /// The edits of the records behind the identification, which begin at a place, and that of the head.
@@ -129,10 +124,8 @@ fn read_behind(
     requires small { length update.now.bytes.now ≤ 16777216 }
     ensures { GivesFile result (edits_behind update.now.cell.now (edit, level) (records_after update.now.bytes.now at false)) }
 {
-    match read_following(update, level, at) {
-        Ok(earlier) => Ok(earlier.with(Edit::Head(edit))?),
-        Err(refusal) => Err(refusal),
-    }
+    let earlier = read_following(update, level, at)?;
+    Ok(earlier.with(Edit::Head(edit))?)
 }
 
 /// The edits of the data records, which begin at a place.
@@ -198,8 +191,6 @@ pub fn update_edits(alloc: Global, cell: &Cell, bytes: &[u8]) -> Result<EditSet,
         look: &look,
         bytes,
     };
-    match read_edits(&update) {
-        Ok(edits) => set_of(alloc, cell, bytes, edits.as_slice()),
-        Err(refusal) => Err(refusal),
-    }
+    let edits = read_edits(&update)?;
+    set_of(alloc, cell, bytes, edits.as_slice())
 }

@@ -141,11 +141,7 @@ pub fn record_update(
     requires { case.now.nall ≡ case.now.look.now.head.nall }
     ensures { GivesUpdate result (record_update case.now.look.now case.now.level number earlier.now case.now.frame.now.fields) }
 {
-    let kind = match record_type(case.frame) {
-        Ok(kind) => kind,
-        Err(fault) => return Err(StepRefusal::Fault(UpdateFault::Record(fault))),
-    };
-    match kind {
+    match record_type(case.frame)? {
         RecordType::GeneralInformation => {
             Err(StepRefusal::Fault(UpdateFault::Record(RecordFault::HeadOrder)))
         }

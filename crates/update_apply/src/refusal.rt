@@ -5,6 +5,7 @@ ghost use Rattle.update_apply.specs.Gives.{refusal_at};
 ghost use Rattle.update_apply.specs.declared.refusal.StepRefusal.TheVariants.{Fault, NoMemory};
 
 use cell_read::fault_of_frame;
+use file_spec::RecordFault;
 use iso_frame::FrameFault;
 use s57_types::CellFault;
 use std::alloc::AllocError;
@@ -49,6 +50,24 @@ impl From<AllocError> for StepRefusal {
 
     fn from(_error: AllocError) -> StepRefusal {
         StepRefusal::NoMemory
+    }
+}
+
+impl From<UpdateFault> for StepRefusal {
+    ghost from_gives = { λ fault refusal. refusal ≡ Fault fault };
+
+    fn from(fault: UpdateFault) -> StepRefusal {
+        StepRefusal::Fault(fault)
+    }
+}
+
+impl From<RecordFault> for StepRefusal {
+    ghost use Rattle.update_spec.specs.declared.fault.UpdateFault.TheVariants.{Record};
+
+    ghost from_gives = { λ fault refusal. refusal ≡ Fault (Record fault) };
+
+    fn from(fault: RecordFault) -> StepRefusal {
+        StepRefusal::Fault(UpdateFault::Record(fault))
     }
 }
 

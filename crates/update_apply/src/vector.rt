@@ -152,10 +152,7 @@ pub fn vector_edit(
 {
     match instruction {
         Instruction::Insert => vector_insertion(case, vrid),
-        Instruction::Delete => match vector_deletion(case.look, vrid) {
-            Ok(edit) => Ok(edit),
-            Err(fault) => Err(StepRefusal::Fault(fault)),
-        },
+        Instruction::Delete => Ok(vector_deletion(case.look, vrid)?),
         Instruction::Modify => vector_modification(case, vrid),
     }
 }
