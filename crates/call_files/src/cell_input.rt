@@ -54,6 +54,7 @@ impl Checked {
 fn are_file_bytes(bytes: &[u8])
     ensures { AreFileBytes bytes.now }
 {
+    // (Each byte that is read is one.)
     let _ = bytes;
 }
 

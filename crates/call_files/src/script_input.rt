@@ -3,7 +3,7 @@
 ghost use Rattle.std.specs.Prelude.{◌≡◌, ◌≤◌, ◌++◌, ◌∷◌, [], All, IfErr, IfOk, OnOk, length, map, string_bytes};
 ghost use Rattle.export_laws.specs.ExportedCells.{IsScriptOfText};
 ghost use Rattle.sessions.specs.Replays.{IsShortScript, session_limit};
-ghost use Rattle.room_laws.specs.Orders.{quotas_of as quotas_of_lem};
+ghost use Rattle.room_laws.specs.Orders.{quotas_of as spec_quotas_of};
 ghost use Rattle.call_files.specs.Inputs.{IsAmong, IsFile, IsInputStatus, IsJudgedScript, IsReachedScript, IsScriptWithin, ScriptIs, ScriptsAre, Tells};
 ghost use Rattle.call_files.specs.Inputs.{IsNotOfOrder, TellsReads, script_limit};
 
@@ -94,7 +94,7 @@ pub fn scripts_in_files<H: Shelf>(
 
 /// How many views and commits each script has. An `Err` means out of memory.
 pub fn quotas_of(alloc: Global, scripts: &[Script]) -> Result<Vec<u32>, AllocError>
-    ensures { IfOk result (λ quotas. quotas.items ≡ quotas_of_lem scripts.now) }
+    ensures { IfOk result (λ quotas. quotas.items ≡ spec_quotas_of scripts.now) }
 {
     let mut quotas = Vec::new(alloc);
     for script in scripts {

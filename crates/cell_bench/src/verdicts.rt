@@ -131,6 +131,7 @@ fn put_found(
     ensures ascending { IsAscending subject_order table.old }
 {
     orders_are_by_parts();
+    // (That a table's rows ascend is known where they are counted.)
     let _rows = table.len();
     if found.is_empty() {
         return table.take(alloc, &subject);

@@ -2,7 +2,7 @@
 
 ghost use Rattle.std.specs.Prelude.{◌≡◌, ◌<◌, ◌≤◌, IfSome, map, string_bytes, nat_eq, decimal};
 ghost use Rattle.std.specs.Cmp.Lexicographic.{pointwise};
-ghost use Rattle.enc_top.specs.Words.{begins_with_room as begins_with_room_lem, coordinate_of, number_in, number_up_to as number_up_to_lem};
+ghost use Rattle.enc_top.specs.Words.{begins_with_room as spec_begins_with_room, coordinate_of, number_in, number_up_to as spec_number_up_to};
 
 use itoa::Buffer;
 use text_lines::{read_signed, read_unsigned};
@@ -18,7 +18,7 @@ fn is_number(word: &str, number: u32) -> bool
 /// The number from 1 to a limit that a word is, decimal without leading zeros.
 pub fn number_up_to(word: &str, limit: u32) -> Option<u32>
     requires { limit < 1000 }
-    ensures number { result ≡ number_up_to_lem limit word.now }
+    ensures number { result ≡ spec_number_up_to limit word.now }
     ensures within { IfSome result (λ number. (1 ≤ number) × (number ≤ limit)) }
 {
     for number in 1..limit + 1 {
@@ -45,7 +45,7 @@ pub fn coordinate(word: &str) -> Option<i32>
 
 /// Whether the first word is `room`.
 pub fn begins_with_room(words: &[String]) -> bool
-    ensures { result ≡ begins_with_room_lem (map string_bytes words.now) }
+    ensures { result ≡ spec_begins_with_room (map string_bytes words.now) }
 {
     match words {
         [first, ..] => first.as_str() == "room",

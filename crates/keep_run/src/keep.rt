@@ -8,7 +8,7 @@ ghost use Rattle.crash_disk.specs.Disk.{LeavesOnly};
 ghost use Rattle.call_files.specs.Inputs.{IsScriptWithin};
 ghost use Rattle.history_spec.specs.Steps.{finding_limit};
 ghost use Rattle.rule_spec.specs.Findings.{finding_total};
-ghost use Rattle.keep_run.specs.{Causes.{TellsDisk}, Keeps.{IsKeepEnd, IsKept, IsKeptImage, IsKeptOn, IsOpenEnd, status_of as status_of_lem, stop_status}};
+ghost use Rattle.keep_run.specs.{Causes.{TellsDisk}, Keeps.{IsKeepEnd, IsKept, IsKeptImage, IsKeptOn, IsOpenEnd, status_of as spec_status_of, stop_status}};
 ghost use Rattle.keep_run.specs.{Runs.{IsKeptTo}, Stops.{IsStop, IsStopOf}};
 
 use crate::report::{Kept, report};
@@ -29,7 +29,7 @@ use std::thread::Threads;
 /// The status of a journal that isn't opened. Its cell has not too many findings.
 fn status_of(why: OpenRefusal) -> Status
     requires { IsOpenEnd why }
-    ensures { result ≡ status_of_lem why }
+    ensures { result ≡ spec_status_of why }
 {
     match why {
         OpenRefusal::BadJournal(place) => Status::BadJournal(place),

@@ -3,7 +3,7 @@
 ghost use Rattle.std.specs.Prelude.{◌≡◌, ◌<◌, ◌≤◌, ◌+◌, ◌==◌, ◌∷◌, [], map, length, nat_eq, take, drop, IfOk, MatchOption, codes, true, false};
 ghost use Rattle.std.specs.Cmp.Lexicographic.{pointwise};
 ghost use Rattle.std.specs.List.{position, position_or_len};
-ghost use Rattle.text_spec.specs.OrderLine.{before_feed, ends_well as ends_well_lem, from_feed, order_items as order_items_lem, pieces};
+ghost use Rattle.text_spec.specs.OrderLine.{before_feed, ends_well as spec_ends_well, from_feed, order_items as spec_order_items, pieces};
 
 use std::alloc::{AllocError, Global};
 
@@ -90,7 +90,7 @@ fn cut_pieces(alloc: Global, text: &[u8]) -> Result<Vec<&[u8]>, AllocError>
 
 /// The items behind `order`.
 pub fn order_items(alloc: Global, behind: &[u8]) -> Result<Vec<&[u8]>, AllocError>
-    ensures items { IfOk result (λ items. map (λ item. item.now) items.items ≡ order_items_lem behind.now) }
+    ensures items { IfOk result (λ items. map (λ item. item.now) items.items ≡ spec_order_items behind.now) }
     ensures few { IfOk result (λ items. length items.items ≤ length behind.now) }
 {
     let mut found = cut_pieces(alloc, before_line_feed(behind))?;
@@ -103,7 +103,7 @@ pub fn order_items(alloc: Global, behind: &[u8]) -> Result<Vec<&[u8]>, AllocErro
 
 /// Whether exactly one line feed follows the last item, or `order` where there is none.
 pub fn ends_well(behind: &[u8], items: usize) -> bool
-    ensures { result ≡ ends_well_lem behind.now items }
+    ensures { result ≡ spec_ends_well behind.now items }
 {
     let tail = if items == 0 {
         behind

@@ -1,7 +1,7 @@
 //! Orders.
 
 ghost use Rattle.std.specs.Prelude.{◌≡◌, ℕ, ◌<◌, ◌^◌, ◌&&◌, List, length, MatchResult, Ok};
-ghost use Rattle.text_spec.specs.OrderLine.{are_all_used as are_all_used_lem, ends_well as ends_well_lem, order_of};
+ghost use Rattle.text_spec.specs.OrderLine.{are_all_used as spec_are_all_used, ends_well as spec_ends_well, order_of};
 ghost use Rattle.order_text.specs.Counts.{AreCounts, IsOrderRefusal};
 
 use crate::items::{behind_order, ends_well, order_items};
@@ -35,7 +35,7 @@ impl From<AllocError> for OrderRefusal {
 /// Whether an order of so many items ends where it should.
 fn is_ended(behind: &[u8], items: usize, quotas: &[u32], used: &[u32]) -> bool
     requires { length used.now ≡ length quotas.now }
-    ensures { (order : List ℕ) → AreCounts order used.now → result ≡ (are_all_used_lem quotas.now order && ends_well_lem behind.now items) }
+    ensures { (order : List ℕ) → AreCounts order used.now → result ≡ (spec_are_all_used quotas.now order && spec_ends_well behind.now items) }
 {
     are_all_used(quotas, used) && ends_well(behind, items)
 }

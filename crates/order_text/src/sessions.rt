@@ -2,7 +2,7 @@
 
 ghost use Rattle.std.specs.Prelude.{◌≡◌, ℕ, ◌<◌, ◌≤◌, ◌+◌, ◌-◌, ◌^◌, ◌∷◌, [], ◌++◌, map, length, not, true};
 ghost use Rattle.std.specs.Prelude.{option_to_list, List, IfSome, IfOk, OnOk, MatchResult, slice_index};
-ghost use Rattle.text_spec.specs.OrderLine.{are_all_used as are_all_used_lem, is_bad_session, session_of};
+ghost use Rattle.text_spec.specs.OrderLine.{are_all_used as spec_are_all_used, is_bad_session, session_of};
 ghost use Rattle.order_text.specs.Counts.{AreCounts, AreTaken, IsItemRefusal};
 
 use crate::order::OrderRefusal;
@@ -91,7 +91,7 @@ pub fn read_sessions(
 /// Whether the sessions have used all their shared commands.
 pub fn are_all_used(quotas: &[u32], used: &[u32]) -> bool
     requires { length used.now ≡ length quotas.now }
-    ensures { (order : List ℕ) → AreCounts order used.now → result ≡ are_all_used_lem quotas.now order }
+    ensures { (order : List ℕ) → AreCounts order used.now → result ≡ spec_are_all_used quotas.now order }
 {
     for (k, quota) in quotas.iter().enumerate() {
         if used[k] < *quota {
