@@ -89,7 +89,7 @@ impl Rejudged {
         ensures { OnOk result (self.new ≡ without_all self.old gone.now) }
     {
         for subject in gone {
-            // (That a table has room for its own rows is known where its room is asked.)
+            // (That fresh findings are within the limit is known where the room for more is asked.)
             let _room = self.room();
             self.give(alloc, *subject, Findings::make(alloc), None)?;
         }
