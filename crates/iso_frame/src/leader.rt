@@ -12,23 +12,6 @@ const NUMBER: usize = 5;
 
 const TAG: usize = 4;
 
-/// Where the parts of a leader stand: its identifier, the base address of the fields, and the entry map, which has the sizes of a field's
-/// length, of its position and of its tag.
-const IDENTIFIER: usize = 6;
-
-const BASE_ADDRESS: usize = 12;
-
-const LENGTH_SIZE: usize = 20;
-
-const POSITION_SIZE: usize = 21;
-
-const TAG_SIZE: usize = 23;
-
-/// A leader and the terminator of a directory without entries.
-const LEADER_AND_TERMINATOR: usize = 25;
-
-const FIELD_TERMINATOR: u8 = 0x1e;
-
 /// The number that digits write, if they are digits.
 fn decimal(digits: &[u8]) -> Option<usize>
     requires { length digits.now ≤ 9 }
@@ -45,6 +28,21 @@ fn decimal(digits: &[u8]) -> Option<usize>
     }
     Some(number)
 }
+
+/// Where the parts of a leader stand: its identifier, the base address of the fields, and the entry map, which has the sizes of a field's
+/// length, of its position and of its tag.
+const IDENTIFIER: usize = 6;
+
+const BASE_ADDRESS: usize = 12;
+
+const LENGTH_SIZE: usize = 20;
+
+const POSITION_SIZE: usize = 21;
+
+const TAG_SIZE: usize = 23;
+
+/// A leader and the terminator of a directory without entries.
+const LEADER_AND_TERMINATOR: usize = 25;
 
 /// What a leader says.
 #[derive(Clone, Copy)]
@@ -114,6 +112,9 @@ pub fn read_entry(bytes: &[u8], at: usize, leader: Leader, k: usize) -> Option<E
         position,
     })
 }
+
+/// What a directory ends with.
+const FIELD_TERMINATOR: u8 = 0x1e;
 
 /// How many entries the directory of a record has, if it is one.
 pub fn read_directory(bytes: &[u8], at: usize, leader: Leader) -> Option<usize>

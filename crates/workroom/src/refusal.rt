@@ -1,9 +1,5 @@
 //! Why a workroom answers nothing.
 
-ghost use Rattle.std.specs.Prelude.{◌≡◌};
-
-use std::alloc::AllocError;
-
 /// Why there is no new desk.
 #[derive(Clone, Copy, Debug, PartialEq, Eq)]
 pub enum DeskRefusal {
@@ -11,16 +7,6 @@ pub enum DeskRefusal {
     NoDesk,
     /// Out of memory.
     NoMemory,
-}
-
-impl From<AllocError> for DeskRefusal {
-    ghost use Rattle.workroom.specs.declared.refusal.DeskRefusal.TheVariants.{NoMemory};
-
-    ghost from_gives = { λ _ refusal. refusal ≡ NoMemory };
-
-    fn from(_error: AllocError) -> DeskRefusal {
-        DeskRefusal::NoMemory
-    }
 }
 
 /// Why a desk gets no answer.

@@ -98,8 +98,11 @@ impl Workroom {
         if self.root.given() >= DESK_LIMIT {
             return Err(DeskRefusal::NoDesk);
         }
-        let bench = self.bench.copy(alloc)?;
-        let seat = self.gate.seat(alloc, &mut self.root)?;
+        let bench = self.bench.copy(alloc).map_err(|_| DeskRefusal::NoMemory)?;
+        let seat = self
+            .gate
+            .seat(alloc, &mut self.root)
+            .map_err(|_| DeskRefusal::NoMemory)?;
         Ok(Desk::open(seat, bench))
     }
 

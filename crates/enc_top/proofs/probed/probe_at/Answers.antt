@@ -7,13 +7,10 @@ use Rattle.enc_top.proofs.ProbedWork.{passed_is, probe_done, probe_ends}
 use Rattle.enc_top.proofs.probed.probe_at.Goals as goal
 
 pub returns-in_err-bench-clause-asked : goal.returns-in_err-bench-clause-asked
-returns-in_err-bench-clause-asked g c =
-    let files = g.H.Shelf.files in
-    let faults = g.H.Shelf.read_faults in
-    let old = c.args.shelf.now in
-    let refused = err_from_is_err_and c.from_residual.result c.from_residual.ensures.1 in
-    rw (refused.1, refused.2) (probe_ends c.args.cell.now (c.args.y, c.args.x) (files old) (faults old) (faults c.read_bench.new.shelf)
-    c.in_err-bench.field-0.0 c.in_err-bench.ensures.text c.in_err-bench.ensures.status c.in_err-bench.ensures.tells)
+returns-in_err-bench-clause-asked g c = let refused = err_from_is_err_and c.from_residual.result c.from_residual.ensures.1 in
+    rw (refused.1, refused.2) (probe_ends c.args.cell.now (c.args.y, c.args.x) (g.H.Shelf.files c.args.shelf.now) (g.H.Shelf.read_faults c.args.shelf.now)
+    (g.H.Shelf.read_faults c.read_bench.new.shelf) c.in_err-bench.field-0.0 c.in_err-bench.ensures.text c.in_err-bench.ensures.status
+    c.in_err-bench.ensures.tells)
 
 pub returns-in_err-probed_work-clause-asked : goal.returns-in_err-probed_work-clause-asked
 returns-in_err-probed_work-clause-asked g c =
