@@ -41,9 +41,6 @@ const POSITION_SIZE: usize = 21;
 
 const TAG_SIZE: usize = 23;
 
-/// A leader and the terminator of a directory without entries.
-const LEADER_AND_TERMINATOR: usize = 25;
-
 /// What a leader says.
 #[derive(Clone, Copy)]
 pub struct Leader {
@@ -115,6 +112,9 @@ pub fn read_entry(bytes: &[u8], at: usize, leader: Leader, k: usize) -> Option<E
 
 /// What a directory ends with.
 const FIELD_TERMINATOR: u8 = 0x1e;
+
+/// A leader and the terminator of a directory without entries.
+const LEADER_AND_TERMINATOR: usize = 25;
 
 /// How many entries the directory of a record has, if it is one.
 pub fn read_directory(bytes: &[u8], at: usize, leader: Leader) -> Option<usize>
