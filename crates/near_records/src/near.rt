@@ -3,7 +3,10 @@
 ghost use Rattle.std.specs.Prelude.{◌≡◌, ◌+◌, ◌≤◌, IfOk, List, Some, length, map, option_map, true};
 ghost use Rattle.std.specs.Option.{option_copied};
 ghost use Rattle.s57_types.specs.declared.cell.Cell.{Cell as SpecCell};
-ghost use Rattle.cell_spec.specs.{declared.key.Key.{Key as SpecKey}, Ascending.{ascending}, Names.{key_order}};
+ghost use Rattle.std.specs.List.Sorted.{IsBinarySearchResult, IsSearchInRange};
+ghost use Rattle.cell_spec.specs.{declared.key.Key.{Key as SpecKey}, declared.key.Key.TheVariants.{Name as KeyName}, Ascending.{ascending}};
+ghost use Rattle.cell_spec.specs.Names.{key_order};
+ghost use Rattle.near_records.specs.declared.near.Answer.{Answer as SpecAnswer};
 ghost use Rattle.near_records.specs.Near.{AreAnswers, IsNear, answer_held, answer_to as spec_answer, has_key};
 
 use crate::told::Near;
@@ -11,6 +14,7 @@ use cell_spec::{Key, Keys, ascending_keys, keys_ascend, orders_are_by_parts};
 use chain_topo::{Look, Steps};
 use s57_types::{Lnam, Rec, RecName};
 use std::alloc::{AllocError, Global};
+use std::cmp::Ordering;
 use std::sync::ledger::Ledger;
 
 /// What a cell answers to a key: the record of a name, and whether a feature bears an identifier.
@@ -194,11 +198,33 @@ pub fn gather_beside<'a, B: Look, L: Ledger>(
     })
 }
 
+/// The order of a key and that of a name. Names are compared here, without a call.
+fn order_to_name(key: &Key, name: &RecName) -> Ordering
+    ensures { result ≡ key_order key.now (KeyName name.now) }
+{
+    orders_are_by_parts();
+    match key {
+        Key::Name(other) => other.cmp(name),
+        _ => Ordering::Greater,
+    }
+}
+
+/// Where the answer to a key is among answers in order, or would be.
+fn place_of(answers: &[Answer<'_>], key: Key) -> Result<usize, usize>
+    ensures bound { IsSearchInRange result (length answers.now) }
+    ensures position { IsBinarySearchResult (λ (a : SpecAnswer). key_order a.key key) answers.now result }
+{
+    match key {
+        Key::Name(name) => answers.binary_search_by(|answer| order_to_name(&answer.key, &name)),
+        _ => answers.binary_search_by(|answer| answer.key.cmp(&key)),
+    }
+}
+
 fn find_answer<'a, 'b>(answers: &'b [Answer<'a>], key: Key) -> Option<&'b Answer<'a>>
     ensures { (c : SpecCell) (keys : List SpecKey) → map answer_held answers.now ≡ map (spec_answer c) (ascending key_order keys)
         → has_key keys key ≡ true → option_map answer_held (option_copied result) ≡ Some (spec_answer c key) }
 {
-    match answers.binary_search_by(|answer| answer.key.cmp(&key)) {
+    match place_of(answers, key) {
         Ok(k) => Some(&answers[k]),
         Err(_) => None,
     }
