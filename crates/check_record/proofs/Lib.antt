@@ -3,3 +3,4 @@ pub mod BlockRows
 pub mod Findings
 pub mod ReadSets
 pub mod ShortLines
+pub mod NameKeys

@@ -1,17 +1,18 @@
 //! The read set of a record.
 
-ghost use Rattle.std.specs.Prelude.{◌≡◌, ◌==◌, ◌++◌, [], IfOk, OnOk, Some, flat_map, if◌then◌else◌};
+ghost use Rattle.std.specs.Prelude.{◌≡◌, ◌==◌, ◌++◌, [], IfOk, OnOk, Some, flat_map, if◌then◌else◌, map};
 ghost use Rattle.s57_types.specs.{declared.cell.Cell.{Cell as SpecCell}, declared.name.RecName.{RecName as SpecName}, declared.record.Rec.TheVariants.{F, V}};
 ghost use Rattle.cell_spec.specs.{declared.key.Subject.TheVariants.{Rec as SubjectRec}, Ascending.{ascending}, Lookup.{lookup_record}, Names.{key_order}};
-ghost use Rattle.rule_spec.specs.Reads.{read_set};
+ghost use Rattle.cell_spec.specs.declared.key.Key.TheVariants.{Name as KeyName};
+ghost use Rattle.rule_spec.specs.Reads.{end_keys, read_set};
 ghost use Rattle.near_records.specs.Near.{IsNear};
 ghost use Rattle.check_record.specs.EndKeys.{ends_of_answer, named_by, partner_keys};
 
-use cell_spec::{Key, Keys, ascending_keys};
+use cell_spec::{Key, Keys, ascending_keys, ascending_names};
 use check_words::AREA;
 use near_records::{Answer, NearRecords};
-use read_sets::{push_end_keys, push_vector_keys};
-use s57_types::{Feature, Kind, Rec, RecName, Vector};
+use read_sets::push_vector_keys;
+use s57_types::{Feature, Items, Kind, Rec, RecName, Vector};
 use std::alloc::{AllocError, Global};
 
 /// The read set of a node or an edge: its name, and for an edge the names of the records that its ends name.
@@ -28,6 +29,26 @@ pub(crate) fn vector_reads(
     Ok(ascending_keys(keys))
 }
 
+/// Appends the keys of names.
+fn push_name_keys(keys: &mut Vec<Key>, names: &[RecName]) -> Result<(), AllocError>
+    ensures { OnOk result (keys.new.items ≡ keys.old.items ++ map KeyName names.now) }
+{
+    for name in names {
+        keys.push(Key::Name(*name))?;
+    }
+    Ok(())
+}
+
+/// The keys of names in order, each once, with room for `more`. Names take less to put in order than their keys.
+fn keys_of_names(alloc: Global, names: Vec<RecName>, more: usize) -> Result<Keys, AllocError>
+    ensures { IfOk result (λ keys. keys ≡ ascending key_order (map KeyName names.items)) }
+{
+    let names = ascending_names(names);
+    let mut keys = Vec::with_capacity(alloc, names.len().saturating_add(more))?;
+    push_name_keys(&mut keys, names.as_slice())?;
+    Ok(Items::of_vec(keys))
+}
+
 /// The names of a feature, of the head and of the records that its spatial pointers name, each once.
 pub(crate) fn named_keys(
     alloc: Global,
@@ -37,27 +58,36 @@ pub(crate) fn named_keys(
     ensures { IfOk result (λ keys. keys ≡ named_by name feature.now) }
 {
     let room = feature.places.len().saturating_add(2);
-    let mut keys = Vec::with_capacity(alloc, room)?;
-    keys.push(Key::Name(name))?;
-    keys.push(Key::Name(RecName::of_head()))?;
+    let mut names = Vec::with_capacity(alloc, room)?;
+    names.push(name)?;
+    names.push(RecName::of_head())?;
     for spot in feature.places.as_slice() {
-        keys.push(Key::Name(spot.to))?;
+        names.push(spot.to)?;
     }
-    Ok(ascending_keys(keys))
+    keys_of_names(alloc, names, 0)
+}
+
+/// Appends the names that the ends of an edge name.
+fn push_end_names(names: &mut Vec<RecName>, edge: &Vector) -> Result<(), AllocError>
+    ensures { OnOk result (map KeyName names.new.items ≡ map KeyName names.old.items ++ end_keys edge.now) }
+{
+    for end in edge.ends.as_slice() {
+        names.push(end.to)?;
+    }
+    Ok(())
 }
 
 /// Appends the names that the ends of an edge name that is an answer.
-fn push_ends_of(keys: &mut Vec<Key>, answer: &Answer<'_>) -> Result<(), AllocError>
-    ensures { OnOk result (keys.new.items ≡ keys.old.items ++ ends_of_answer answer.now) }
+fn push_ends_of(names: &mut Vec<RecName>, answer: &Answer<'_>) -> Result<(), AllocError>
+    ensures { OnOk result (map KeyName names.new.items ≡ map KeyName names.old.items ++ ends_of_answer answer.now) }
 {
     match answer.record() {
-        Some(Rec::V(edge)) if edge.name.kind == Kind::Ve => push_end_keys(keys, edge),
+        Some(Rec::V(edge)) if edge.name.kind == Kind::Ve => push_end_names(names, edge),
         _ => Ok(()),
     }
 }
 
-/// The names that the ends of an area's edges name, each once; of another feature none. There is room for as many keys as there are answers
-/// and for `more`, where each edge has two ends.
+/// The names that the ends of an area's edges name, each once; of another feature none. There is room for `more` keys.
 fn boundary_keys(
     alloc: Global,
     prim: u8,
@@ -69,12 +99,12 @@ fn boundary_keys(
     if prim != AREA {
         return Ok(Keys::of_vec(Vec::with_capacity(alloc, more)?));
     }
-    let room = answers.len().saturating_mul(2).saturating_add(more);
-    let mut keys = Vec::with_capacity(alloc, room)?;
+    // Mostly an edge has two ends.
+    let mut names = Vec::with_capacity(alloc, answers.len().saturating_mul(2))?;
     for answer in answers {
-        push_ends_of(&mut keys, answer)?;
+        push_ends_of(&mut names, answer)?;
     }
-    Ok(ascending_keys(keys))
+    keys_of_names(alloc, names, more)
 }
 
 /// Appends the identifiers of the features that a feature points to (FFPT, S-57 Part 3, 7.6.6).
