@@ -125,7 +125,7 @@ fn parts_of<N: Near>(
         → IfOk result (λ parts. option_map (λ list. list.items) parts ≡ spec_parts_of c places.now) }
 {
     let mut known = BTreeMap::new(alloc);
-    let mut parts = Vec::new(alloc);
+    let mut parts = Vec::with_capacity(alloc, places.len())?;
     for (k, spot) in places.iter().enumerate() {
         let place = number(k + 1)?;
         let Some(part) = part_at(near, &mut known, place, spot)? else {
