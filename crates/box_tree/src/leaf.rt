@@ -1,7 +1,7 @@
 //! Names with boxes.
 
 ghost use Rattle.std.specs.Prelude.{◌≡◌, ◌++◌, OnOk};
-ghost use Rattle.box_tree.specs.Leaves.{box_with as spec_box_with, names_meeting};
+ghost use Rattle.box_tree.specs.Leaves.{box_with as spec_box_with, leaves_meeting, meets as spec_meets, names_meeting};
 
 use geometry_spec::Box4;
 use line_boxes::{are_disjoint, united};
@@ -13,6 +13,15 @@ use std::alloc::AllocError;
 pub struct Leaf {
     pub name: RecName,
     pub around: Box4,
+}
+
+impl Leaf {
+    /// Whether the leaf's box has a point in common with a box.
+    pub fn meets(&self, around: Box4) -> bool
+        ensures { result ≡ spec_meets around self.now }
+    {
+        !are_disjoint(around, self.around)
+    }
 }
 
 /// The least box that holds a box and those of leaves.
@@ -35,9 +44,26 @@ pub(crate) fn push_names(
     ensures { OnOk result (out.new.items ≡ out.old.items ++ names_meeting around leaves.now) }
 {
     for leaf in leaves {
-        if !are_disjoint(around, leaf.around) {
+        if leaf.meets(around) {
             out.push(leaf.name)?;
         }
+    }
+    Ok(())
+}
+
+/// Appends those leaves whose boxes meet a box.
+pub(crate) fn push_leaves(
+    out: &mut Vec<Leaf>,
+    around: Box4,
+    leaves: &[Leaf],
+) -> Result<(), AllocError>
+    ensures { OnOk result (out.new.items ≡ out.old.items ++ leaves_meeting around leaves.now) }
+{
+    for leaf in leaves {
+        if !leaf.meets(around) {
+            continue;
+        }
+        out.push(*leaf)?;
     }
     Ok(())
 }

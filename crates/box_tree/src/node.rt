@@ -1,10 +1,10 @@
 //! Leaves in halves, each two of which have a box around them.
 
-ghost use Rattle.std.specs.Prelude.{◌≡◌, ◌++◌, IfOk, OnOk};
-ghost use Rattle.box_tree.specs.Leaves.{names_meeting};
+ghost use Rattle.std.specs.Prelude.{◌≡◌, ◌++◌, IfOk, IsTrue, OnOk};
+ghost use Rattle.box_tree.specs.Leaves.{leaves_meeting, names_meeting};
 ghost use Rattle.box_tree.specs.Nodes.{AreHeld, leaves_of};
 
-use crate::leaf::{Leaf, box_with, push_names};
+use crate::leaf::{Leaf, box_with, push_leaves, push_names};
 use geometry_spec::Box4;
 use line_boxes::are_disjoint;
 use s57_types::RecName;
@@ -56,6 +56,36 @@ impl Node {
                     back.push_meeting(out, around)?;
                 }
                 Ok(())
+            }
+        }
+    }
+
+    /// Appends those leaves whose boxes meet a box, until there are more than `most` of them: whether all are there.
+    pub(crate) fn push_few(
+        &self,
+        out: &mut Vec<Leaf>,
+        around: Box4,
+        most: usize,
+    ) -> Result<bool, AllocError>
+        requires { AreHeld self.now }
+        ensures { IfOk result (λ all. IsTrue all → out.new.items ≡ out.old.items ++ leaves_meeting around (leaves_of self.now)) }
+    {
+        match self {
+            Node::Few(leaves) => {
+                push_leaves(out, around, leaves)?;
+                Ok(out.len() <= most)
+            }
+            Node::Halves(front_box, front, back_box, back) => {
+                let front_too = are_disjoint(around, *front_box)
+                    || front.push_few(out, around, most)?;
+                if !front_too {
+                    return Ok(false);
+                }
+                if are_disjoint(around, *back_box) {
+                    return Ok(true);
+                }
+                let back_too = back.push_few(out, around, most)?;
+                Ok(back_too)
             }
         }
     }

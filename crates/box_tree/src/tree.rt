@@ -1,9 +1,9 @@
 //! A tree of boxes.
 
-ghost use Rattle.std.specs.Prelude.{◌≡◌, ◌++◌, IfOk, IsPermutation, OnOk};
-ghost use Rattle.box_tree.specs.Leaves.{names_meeting};
+ghost use Rattle.std.specs.Prelude.{◌≡◌, ◌++◌, All, IfOk, IfSome, IsPermutation, OnOk};
+ghost use Rattle.box_tree.specs.Leaves.{IsNear, names_meeting};
 
-use crate::leaf::Leaf;
+use crate::leaf::{Leaf, box_with};
 use crate::node::Node;
 use crate::order::place_on_curve;
 use geometry_spec::Box4;
@@ -54,5 +54,28 @@ impl BoxTree {
         ensures { OnOk result (out.new.items ≡ out.old.items ++ names_meeting around self.now) }
     {
         self.root.push_meeting(out, around)
+    }
+
+    /// Leaves among which are all that meet one of these, if at most `most` meet the box around these.
+    ///
+    /// An `Err` is out of memory.
+    pub fn few_near(
+        &self,
+        alloc: Global,
+        leaves: &[Leaf],
+        most: usize,
+    ) -> Result<Option<Vec<Leaf>>, AllocError>
+        ensures { IfOk result (λ few. IfSome few (λ near. All (IsNear self.now near.items) leaves.now)) }
+    {
+        let [first, ..] = leaves else {
+            return Ok(None);
+        };
+        let around = box_with(first.around, leaves);
+        let mut near = Vec::with_capacity(alloc, most)?;
+        let all = self.root.push_few(&mut near, around, most)?;
+        if !all {
+            return Ok(None);
+        }
+        Ok(Some(near))
     }
 }

@@ -29,9 +29,13 @@ leaves_in c names = flat_map (leaves_at c) names
 abbrev pub leaf_names : List Leaf → List RecName
 leaf_names leaves = map (λ (leaf : Leaf). leaf.name) leaves
 
--- the names above a leaf's own whose boxes have a point in common with its box, ascending
+-- the names above a leaf's own whose boxes have a point in common with its box
+abbrev pub names_above : Leaf → List Leaf → List RecName
+names_above leaf leaves = filter (is_below leaf.name) (names_meeting leaf.around leaves)
+
+-- these names, ascending
 abbrev pub names_near : Leaf → List Leaf → List RecName
-names_near leaf leaves = ascending name_order (filter (is_below leaf.name) (names_meeting leaf.around leaves))
+names_near leaf leaves = ascending name_order (names_above leaf leaves)
 
 -- each two leaves whose boxes have a point in common, the one that stands first with each behind it
 abbrev pub near_pairs : List Leaf → List Subject

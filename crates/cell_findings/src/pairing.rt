@@ -1,6 +1,6 @@
 //! Findings that are gathered about each two connected nodes or edges.
 
-ghost use Rattle.std.specs.Prelude.{◌≡◌, ◌≤◌, All, IfOk, IsTrue, length, map};
+ghost use Rattle.std.specs.Prelude.{◌≡◌, ◌≤◌, All, IfOk, IfSome, IsTrue, length, map};
 ghost use Rattle.std.specs.List.{flat_map};
 ghost use Rattle.std.specs.List.Sorted.{IsStrictlySortedBy};
 ghost use Rattle.s57_types.specs.declared.name.RecName.{RecName as SpecRecName};
@@ -9,9 +9,10 @@ ghost use Rattle.cell_spec.specs.declared.key.Subject.{Subject as SpecSubject};
 ghost use Rattle.cell_spec.specs.declared.key.Subject.TheVariants.{Pair as SubjectPair};
 ghost use Rattle.rule_spec.specs.Findings.{findings_of_subject, is_subject};
 ghost use Rattle.rule_spec.specs.Records.{is_chain_part};
+ghost use Rattle.box_tree.specs.Leaves.{IsNear};
 ghost use Rattle.cell_findings.specs.Gathered.{Gathers};
 ghost use Rattle.cell_findings.specs.Judged.{pairs_among, subject_findings};
-ghost use Rattle.cell_findings.specs.Near.{AreNearSubjects, leaf_findings, names_near as spec_names_near};
+ghost use Rattle.cell_findings.specs.Near.{AreNearSubjects, leaf_findings, names_above, names_near as spec_names_near};
 ghost use Rattle.cell_findings.specs.Parts.{AreParts};
 
 use crate::gather::push_found;
@@ -32,13 +33,49 @@ use std::sync::ledger::Ledger;
 /// How many names there is room for at first: about as many as meet a box in a chart, so that a list mostly is made once.
 const LIKELY_NEAR: usize = 16;
 
-/// The names above a leaf's own whose boxes meet its box, ascending.
-fn names_near(alloc: Global, tree: &BoxTree, leaf: Leaf) -> Result<Names, AllocError>
-    ensures { IfOk result (λ names. names ≡ spec_names_near leaf tree.now) }
+/// How many leaves, one after the other, ask the tree together.
+const TOGETHER: usize = 8;
+
+/// How many may meet the box around these, so that each looks at them and not at the tree.
+const MOST_NEAR: usize = 64;
+
+/// The names above a leaf's own among some leaves whose boxes meet its box.
+fn names_among(alloc: Global, near: &[Leaf], leaf: Leaf) -> Result<Vec<RecName>, AllocError>
+    ensures { IfOk result (λ names. names.items ≡ names_above leaf near.now) }
+{
+    let mut names = Vec::with_capacity(alloc, LIKELY_NEAR)?;
+    for other in near {
+        if other.meets(leaf.around) && is_below(leaf.name, other.name) {
+            names.push(other.name)?;
+        }
+    }
+    Ok(names)
+}
+
+/// The names above a leaf's own whose boxes meet its box, in the tree's order.
+fn names_in_tree(alloc: Global, tree: &BoxTree, leaf: Leaf) -> Result<Vec<RecName>, AllocError>
+    ensures { IfOk result (λ names. names.items ≡ names_above leaf tree.now) }
 {
     let mut names = Vec::with_capacity(alloc, LIKELY_NEAR)?;
     tree.push_meeting(&mut names, leaf.around)?;
     names.retain(|name| is_below(leaf.name, *name));
+    Ok(names)
+}
+
+/// The names above a leaf's own whose boxes meet its box, ascending. They are sought among leaves near it, if these are told.
+fn names_near(
+    alloc: Global,
+    tree: &BoxTree,
+    near: Option<&[Leaf]>,
+    leaf: Leaf,
+) -> Result<Names, AllocError>
+    requires { IfSome near (λ leaves. IsNear tree.now leaves.now leaf) }
+    ensures { IfOk result (λ names. names ≡ spec_names_near leaf tree.now) }
+{
+    let names = match near {
+        Some(leaves) => names_among(alloc, leaves, leaf)?,
+        None => names_in_tree(alloc, tree, leaf)?,
+    };
     Ok(ascending_names(names))
 }
 
@@ -112,17 +149,42 @@ impl<'a, 'b> Search<'a, 'b> {
         gathered: &mut Vec<SubjectFinding>,
         placed: &PlacedParts,
         tree: &BoxTree,
+        near: Option<&[Leaf]>,
         leaf: Leaf,
         steps: &mut Steps<L>,
     ) -> Result<(), LoadRefusal>
         requires parts { AreParts self.now.look.now placed.now }
+        requires near { IfSome near (λ leaves. IsNear tree.now leaves.now leaf) }
         requires subjects { AreNearSubjects self.now.look.now tree.now leaf }
         requires within { length gathered.old.items ≤ self.now.limit }
         ensures { Gathers self.now.limit gathered.old.items (leaf_findings self.now.look.now tree.now leaf) gathered.new.items result }
     {
-        let others = names_near(self.alloc, tree, leaf)?;
+        let others = names_near(self.alloc, tree, near, leaf)?;
         let others = others.as_slice();
         self.push_pairs_with(gathered, placed, leaf.name, others, steps)
+    }
+
+    /// Appends the findings about the pairs of a few leaves, of which each looks at those that are near all of them.
+    fn push_pairs_together<L: Ledger>(
+        &self,
+        tree: &BoxTree,
+        leaves: &[Leaf],
+        placed: &PlacedParts,
+        steps: &mut Steps<L>,
+        gathered: &mut Vec<SubjectFinding>,
+    ) -> Result<(), LoadRefusal>
+        requires within { length gathered.old.items ≤ self.now.limit }
+        requires subjects { All (AreNearSubjects self.now.look.now tree.now) leaves.now }
+        requires parts { AreParts self.now.look.now placed.now }
+        ensures { Gathers self.now.limit gathered.old.items (flat_map (leaf_findings self.now.look.now tree.now) leaves.now)
+            gathered.new.items result }
+    {
+        let near = tree.few_near(self.alloc, leaves, MOST_NEAR)?;
+        let near = near.as_deref();
+        for leaf in leaves {
+            self.push_pairs_of(gathered, placed, tree, near, *leaf, steps)?;
+        }
+        Ok(())
     }
 
     /// Appends the findings about the pairs of leaves, each with those above it whose boxes meet its box.
@@ -140,8 +202,11 @@ impl<'a, 'b> Search<'a, 'b> {
         ensures { Gathers self.now.limit gathered.old.items (flat_map (leaf_findings self.now.look.now tree.now) leaves.now)
             gathered.new.items result }
     {
-        for leaf in leaves {
-            self.push_pairs_of(gathered, placed, tree, *leaf, steps)?;
+        let mut rest = leaves;
+        while !rest.is_empty() {
+            let (together, behind) = rest.split_at(TOGETHER.min(rest.len()));
+            self.push_pairs_together(tree, together, placed, steps, gathered)?;
+            rest = behind;
         }
         Ok(())
     }

@@ -1,28 +1,34 @@
-use Rattle.std.proofs.Common.{◌+◌, ◌++◌, ◌∙◌, ap, drop, get_or, sym}
+use Rattle.std.proofs.Common.{◌≡◌, ◌≤◌, ◌++◌, ◌∙◌, All, ap, append_assoc, length, subst, sym}
 use Rattle.std.specs.List.{flat_map}
-use Rattle.std.specs.Prelude.{pos}
-use Rattle.std.proofs.lemmas.List.{at_drop_more}
-use Rattle.std.proofs.lemmas.Result.{err_from_is_err_and}
-use Rattle.s57_types.specs.declared.name.Kind.TheVariants.{Vi}
-use Rattle.box_tree.specs.declared.leaf.Leaf.{Leaf}
-use Rattle.cell_findings.specs.Near.{leaf_findings}
-use Rattle.cell_findings.proofs.Gathering.{over_more}
+use Rattle.std.proofs.lemmas.List.{take-append-drop}
+use Rattle.std.proofs.lemmas.List.Concat.{flat_map-append}
+use Rattle.cell_findings.specs.Near.{AreNearSubjects, leaf_findings}
+use Rattle.cell_findings.proofs.Gathering.{all_before, all_behind}
 use Rattle.cell_findings.proofs.search.Search.push_near_pairs.Goals as goal
+use Rattle.cell_findings.proofs.search.Search.push_near_pairs.Goals.{After-split_at}
 
-abbrev default : Leaf
-default = record { name = record { kind = Vi; id = 0 }; around = record { south = pos 0; west = pos 0; north = pos 0; east = pos 0 } }
+-- the leaves that ask together and those behind them are those that were left
+whole : (g : _) → (c : After-split_at g) → c.split_at.result.0.now ++ c.split_at.result.1.now ≡ c.loop-rest.rest.now
+whole g c = (λ i. c.split_at.ensures.front i ++ c.split_at.ensures.back i) ∙ take-append-drop c.min.result c.loop-rest.rest.now
 
-pub push_pairs_of-requires-clause-subjects : goal.push_pairs_of-requires-clause-subjects
-push_pairs_of-requires-clause-subjects g c = c.requires.subjects c.loop-leaf.leaf-index default c.loop-leaf-test.true
+pub push_pairs_together-requires-clause-subjects : goal.push_pairs_together-requires-clause-subjects
+push_pairs_together-requires-clause-subjects g c =
+    let are = AreNearSubjects c.args.self.now.look.now c.args.tree.now in
+    let split = (goal.at.push_pairs_together-requires-clause-subjects g c).After-split_at in
+    all_before are c.split_at.result.0.now c.split_at.result.1.now (subst (All are) (sym (whole g split)) c.loop-rest.invariant.1)
 
-pub returns-in_err-push_pairs_of : goal.returns-in_err-push_pairs_of
-returns-in_err-push_pairs_of g c =
-    let leaves = c.args.leaves.now in
-    let tell = leaf_findings c.args.self.now.look.now c.args.tree.now in
-    let k = c.loop-leaf.leaf-index in
-    let before = c.loop-leaf.gathered.items in
-    let all = c.args.gathered.now.items ++ flat_map tell leaves in
-    let left = ap (λ found. before ++ found) (sym (at_drop_more (flat_map tell) leaves k default c.loop-leaf-test.true)) ∙ c.loop-leaf.invariant.0 in
-    let refused = err_from_is_err_and c.from_residual.result c.from_residual.ensures.1 in
-    rw (refused.1, refused.2)
-    (over_more c.args.self.now.limit before (tell (get_or leaves k default)) (flat_map tell (drop (k + 1) leaves)) all _ left c.in_err-push_pairs_of.ensures)
+pub loop-rest-preserved : goal.loop-rest-preserved
+loop-rest-preserved g c =
+    let are = AreNearSubjects c.args.self.now.look.now c.args.tree.now in
+    let tell = flat_map (leaf_findings c.args.self.now.look.now c.args.tree.now) in
+    let split = whole g (goal.at.loop-rest-preserved g c).After-split_at in
+    let before = c.loop-rest.gathered.items in
+    let front = c.split_at.result.0.now in
+    let back = c.split_at.result.1.now in
+    let gathered = c.in_ok-push_pairs_together.ensures in (
+      ap (λ found. found ++ tell back) gathered.same ∙ append_assoc before (tell front) (tell back)
+          ∙ ap (λ more. before ++ more) (sym (flat_map-append (leaf_findings c.args.self.now.look.now c.args.tree.now) front back) ∙ ap tell split)
+          ∙ c.loop-rest.invariant.0,
+      all_behind are front back (subst (All are) (sym split) c.loop-rest.invariant.1),
+      subst (λ found. length found ≤ c.args.self.now.limit) (sym gathered.same) gathered.within,
+    )
