@@ -62,7 +62,7 @@ pub record IsReachOf (edits : List Edit) (c : Cell) (reach : Reach) : Type 0 whe
 
 -- rows that are still valid are right for the cell that edits leave, where these find their records
 abbrev pub AreReady : Cell → List Edit → List Key → List Row → Type 0
-AreReady c edits stale rows = find_their_records edits c ≡ true → AreExact (apply_edits edits c) (record { rows = rows; stale = stale })
+AreReady c edits stale rows = find_their_records edits c ≡ true → AreExact (apply_edits edits c) stale rows
 
 -- what a prepared commit is seen as
 pub record PreparedCommit : Type 0 where

@@ -86,7 +86,7 @@ impl IndexedCell {
         formed_edits_find_their_records();
         affected_list_is_set();
         let reach = reach_of(alloc, &self.store, &self.tiles, &self.map, edits, steps)?;
-        let ready = ReadyRows::make(alloc, ready, stale)?;
+        let ready = ReadyRows::make(alloc, ready, stale, reach.judged.as_slice())?;
         let look = &self.store;
         let rejudged = rejudge(alloc, look, &self.verdicts, edits, &reach, &ready, steps)?;
         self.renewed(alloc, edits, reach.tiles, rejudged)

@@ -7,7 +7,7 @@ ghost use Rattle.history_spec.specs.Steps.{finding_limit};
 ghost use Rattle.affected_subjects.specs.Reached.{gone_list};
 ghost use Rattle.answer_laws.specs.EditedAnswers.{FindTheirRecords};
 ghost use Rattle.finding_laws.specs.Tables.{IsVerdictTable};
-ghost use Rattle.cell_bench.specs.{Limits.{IsFull}, Ready.{AreExact}};
+ghost use Rattle.cell_bench.specs.{Limits.{IsFull}, Ready.{AreExact, AreOf, IsAt}};
 ghost use Rattle.cell_bench.specs.{Rejudging.{IsRejudgedBy, fresh_among, fresh_in, judged_in, reads_anew, with_row_of, with_rows}, Verdicts.{total_of}};
 
 use crate::ready::ReadyRows;
@@ -30,22 +30,24 @@ use std::alloc::Global;
 use std::sync::ledger::Ledger;
 use subject_rows::row_of;
 
-// Enters the row of a subject: a ready one that is valid, or else as it is judged.
+// Enters the row of the subject at a place: a ready one that is valid, or else as it is judged.
 fn enter_fresh<B: Look, L: Ledger>(
     alloc: Global,
     look: &B,
     ready: &ReadyRows<'_>,
+    place: usize,
     subject: Subject,
     rejudged: &mut Rejudged,
     steps: &mut Steps<L>,
 ) -> Result<(), PlanRefusal>
     requires subject { IsTrue (is_subject (B.cell look.now) subject) }
-    requires exact { AreExact (B.cell look.now) ready.now }
+    requires there { IsAt ready.now place subject }
+    requires exact { AreExact (B.cell look.now) ready.now.stale ready.now.rows }
     ensures ok { OnOk result (rejudged.new ≡ with_row_of rejudged.old (exact_row (B.cell look.now) subject)) }
     ensures err { IfErr result (IsFull (rejudged.old.fresh + length (findings_of_subject (B.cell look.now) subject))) }
     ensures steps { steps.new ≤ steps.old + 4 * reads_anew (B.cell look.now) ready.now.stale ready.now.rows subject }
 {
-    match ready.get(subject) {
+    match ready.get(place, subject) {
         Some(row) => rejudged.enter(alloc, row),
         None => {
             let row = row_of(alloc, look, subject, steps)?;
@@ -66,13 +68,14 @@ pub(crate) fn judge_all<B: Look, L: Ledger>(
     steps: &mut Steps<L>,
 ) -> Result<(), PlanRefusal>
     requires subjects { All (λ s. IsTrue (is_subject (B.cell look.now) s)) judged.now }
-    requires exact { AreExact (B.cell look.now) ready.now }
+    requires ready { AreOf judged.now ready.now }
+    requires exact { AreExact (B.cell look.now) ready.now.stale ready.now.rows }
     ensures ok { OnOk result (rejudged.new ≡ judged_in (B.cell look.now) rejudged.old judged.now) }
     ensures err { IfErr result (IsFull (rejudged.old.fresh + fresh_in (B.cell look.now) judged.now)) }
     ensures steps { steps.new ≤ steps.old + 4 * sum_by (reads_anew (B.cell look.now) ready.now.stale ready.now.rows) judged.now }
 {
-    for subject in judged {
-        enter_fresh(alloc, look, ready, *subject, rejudged, steps)?;
+    for (place, subject) in judged.iter().enumerate() {
+        enter_fresh(alloc, look, ready, place, *subject, rejudged, steps)?;
     }
     Ok(())
 }
@@ -97,7 +100,8 @@ pub(crate) fn rejudge<L: Ledger>(
     requires touched { reach.now.touched ≡ touched_keys edits.now.edits store.now }
     requires gone { reach.now.gone ≡ gone_list (change_by edits.now.edits store.now) }
     requires judged { reach.now.judged ≡ affected_list (change_by edits.now.edits store.now) }
-    requires exact { AreExact (apply_edits edits.now.edits store.now) ready.now }
+    requires ready { AreOf reach.now.judged ready.now }
+    requires exact { AreExact (apply_edits edits.now.edits store.now) ready.now.stale ready.now.rows }
     ensures rejudged { MatchResult result (IsRejudgedBy store.now edits.now.edits)
         (IsFull (fresh_in (apply_edits edits.now.edits store.now) (affected_list (change_by edits.now.edits store.now)))) }
     ensures steps { steps.new ≤ steps.old + (length edits.now.edits + (length (touched_keys edits.now.edits store.now)
