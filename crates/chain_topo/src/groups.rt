@@ -8,8 +8,7 @@ ghost use Rattle.cell_spec.specs.Ascending.{ascending};
 ghost use Rattle.chain_topo.specs.Listed.{pair_order, values_at};
 ghost use Rattle.chain_topo.specs.Span.{IsSpan};
 
-use crate::counted::distinct_by_keys;
-use cell_spec::Key;
+use cell_spec::distinct;
 use std::alloc::{AllocError, Global};
 use std::marker::Model;
 
@@ -32,27 +31,18 @@ impl<K: Ord, V> Model for Groups<K, V> {
 }
 
 impl<K: Ord + Copy, V: Ord + Copy> Groups<K, V> {
-    /// The pairs in ascending order, each once. `places` has for each pair the key of a cell that its own key is.
+    /// The pairs in ascending order, each once. What ascends already is not sorted.
     ///
     /// An `Err` means out of memory.
-    pub(crate) fn make(
-        alloc: Global,
-        pairs: Vec<(K, V)>,
-        places: &[Key],
-    ) -> Result<Groups<K, V>, AllocError>
+    pub(crate) fn make(alloc: Global, pairs: Vec<(K, V)>) -> Result<Groups<K, V>, AllocError>
         requires exact_keys { (a b : K) → K.cmp a b ≡ Equal → a ≡ b }
         requires exact_values { (a b : V) → V.cmp a b ≡ Equal → a ≡ b }
         ensures { IfOk result (λ groups. groups ≡ ascending (pair_order K.cmp V.cmp) pairs.items) }
     {
-        let pairs = distinct_by_keys(alloc, pairs, places)?;
+        let pairs = distinct(pairs);
         let keys = keys_of(alloc, &pairs)?;
         let values = values_of(alloc, &pairs)?;
         Ok(Groups { keys, values })
-    }
-
-    /// The keys of the pairs, in their order.
-    pub(crate) fn keys(&self) -> &[K] {
-        &self.keys
     }
 
     /// The values of a key, which are looked for from one place up to another first.

@@ -13,6 +13,7 @@ ghost use Rattle.chain_topo.specs.Listed.{AreBearersOf, ArePointersOf, HasFewPoi
 ghost use Rattle.chain_topo.specs.Readable.{IsReadable};
 
 use crate::answers::Look;
+use crate::counted::dealt_by_keys;
 use crate::groups::Groups;
 use crate::listed::{list_identities, list_pointers, records_of};
 use crate::starts::Starts;
@@ -69,8 +70,7 @@ impl<'a> ListLook<'a> {
         ensures { IfOk result (λ look. look ≡ cell.now) }
     {
         let records = records_of(alloc, cell)?;
-        let pointers = group_pointers(alloc, &records)?;
-        let starts = Starts::of(alloc, pointers.keys())?;
+        let (pointers, starts) = pointers_with_starts(alloc, &records)?;
         let identities = group_identities(alloc, &records)?;
         let head = Rec::of_head(alloc, cell.head.copy(alloc)?)?;
         Ok(ListLook {
@@ -195,6 +195,21 @@ fn find_sorted<'a>(records: &[&'a Rec], name: RecName) -> Option<&'a Rec>
     }
 }
 
+/// The pointers of records in groups by target, and where those to each name are likely to start.
+fn pointers_with_starts(
+    alloc: Global,
+    records: &[&Rec],
+) -> Result<(Groups<RecName, Ref>, Starts), AllocError>
+    requires { All (λ (r : Bor SpecRec). HasFewPointers r.now) records.now }
+    ensures { IfOk result (λ grouped. ArePointersOf (map (λ (r : Bor SpecRec). r.now) records.now) grouped.0) }
+{
+    orders_are_by_parts();
+    let list = list_pointers(alloc, records)?;
+    let (dealt, starts) = Starts::deal(alloc, list)?;
+    let groups = Groups::make(alloc, dealt)?;
+    Ok((groups, starts))
+}
+
 /// The pointers of records in groups by target.
 ///
 /// An `Err` means out of memory.
@@ -202,10 +217,8 @@ pub fn group_pointers(alloc: Global, records: &[&Rec]) -> Result<Groups<RecName,
     requires { All (λ (r : Bor SpecRec). HasFewPointers r.now) records.now }
     ensures { IfOk result (λ groups. ArePointersOf (map (λ (r : Bor SpecRec). r.now) records.now) groups) }
 {
-    orders_are_by_parts();
-    let list = list_pointers(alloc, records)?;
-    let keys: Vec<Key> = list.iter().map(|row| Key::Name(row.0)).collect(alloc)?;
-    Groups::make(alloc, list, &keys)
+    let (groups, _starts) = pointers_with_starts(alloc, records)?;
+    Ok(groups)
 }
 
 /// The pointers to a name, which are looked for first where they are likely to start.
@@ -229,7 +242,8 @@ pub fn group_identities(
     orders_are_by_parts();
     let list = list_identities(alloc, records)?;
     let keys: Vec<Key> = list.iter().map(|row| Key::Foid(row.0)).collect(alloc)?;
-    Groups::make(alloc, list, &keys)
+    let dealt = dealt_by_keys(alloc, list, &keys)?;
+    Groups::make(alloc, dealt)
 }
 
 fn bearers_of(identities: &Groups<Lnam, RecName>, foid: Lnam) -> &[RecName]

@@ -18,8 +18,8 @@ use Rattle.chain_topo.proofs.Named.{found-moved, distinct-moved}
 use Rattle.chain_topo.proofs.PointerCounts.{all_have_few_pointers}
 use Rattle.chain_topo.proofs.sorted.ListLook.make.Goals as goal
 
-pub group_pointers-requires : goal.group_pointers-requires
-group_pointers-requires c =
+pub pointers_with_starts-requires : goal.pointers_with_starts-requires
+pointers_with_starts-requires c =
     subst (All (λ (r : Bor Rec). HasFewPointers r.now)) (sym c.deref.ensures.value)
     (all_have_few_pointers c.args.cell.now.head.nall (all_records c.args.cell.now) c.in_ok-records.records.items c.in_ok-records.ensures c.requires.fit)
 
