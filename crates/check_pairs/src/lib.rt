@@ -6,6 +6,7 @@ mod ends;
 mod finding;
 mod line;
 mod part;
+mod reads;
 mod threads;
 mod verdict;
 

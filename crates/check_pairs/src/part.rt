@@ -7,28 +7,21 @@ ghost use Rattle.line_boxes.specs.LineBoxes.{line_box};
 ghost use Rattle.s57_types.specs.declared.cell.Cell.{Cell as SpecCell};
 ghost use Rattle.s57_types.specs.declared.name.RecName.{RecName as SpecRecName};
 ghost use Rattle.s57_types.specs.declared.record.Rec.TheVariants.{V as SpecV};
-ghost use Rattle.cell_spec.specs.declared.key.Subject.TheVariants.{Pair as SpecPair};
 ghost use Rattle.cell_spec.specs.Lookup.{lookup_record};
 ghost use Rattle.rule_spec.specs.EdgePoints.{edge_line_of, line_of as spec_line_of, node_position};
 ghost use Rattle.rule_spec.specs.Records.{is_chain_part, is_edge_name};
 ghost use Rattle.rule_spec.specs.Contacts.{names_node as spec_names_node};
-ghost use Rattle.rule_spec.specs.Reads.{read_set};
 ghost use Rattle.check_pairs.specs.Parts.{IsPart, extent_at};
 
 use crate::ends::line_end;
 use crate::line::SegmentedLine;
-use cell_spec::{Key, Keys, ascending_keys};
 use chain_topo::{Look, Steps};
 use check_words::{BEGINNING_NODE, END_NODE};
 use geometry_spec::{Box4, Point};
 use line_boxes::box_of_line;
-use read_sets::{push_vector_keys, put_end_keys, put_key};
-use s57_types::{Items, Kind, Rec, RecName, Vector};
+use s57_types::{Kind, Rec, RecName, Vector};
 use std::alloc::{AllocError, Global};
 use std::sync::ledger::Ledger;
-
-/// How many keys are put in order one by one: far more than two edges with two ends each have.
-const FEW_KEYS: usize = 32;
 
 /// A connected node or an edge of a cell, with all that the rules on two of them ask of each: its record, and the line of an edge.
 pub struct ChainPart<'a> {
@@ -177,30 +170,6 @@ pub(crate) fn names_node(edge: &Vector, name: RecName) -> bool
         }
     }
     false
-}
-
-/// The most keys of a connected node or an edge in a read set: its name, and those of the records that its ends name.
-fn key_count(part: &Vector) -> usize {
-    part.ends.len().saturating_add(1)
-}
-
-/// The read set of two connected nodes or edges. A few keys are put in order one by one, many are sorted at last. What edges' ends name
-/// comes before edges in the order of names, so most keys are put behind the others.
-pub(crate) fn pair_keys(alloc: Global, a: &ChainPart, b: &ChainPart) -> Result<Keys, AllocError>
-    ensures { (c : SpecCell) → IsPart c a.now → IsPart c b.now → IfOk result (λ keys. keys ≡ read_set c (SpecPair a.now.name b.now.name)) }
-{
-    let room = key_count(a.record).saturating_add(key_count(b.record));
-    let mut keys = Vec::with_capacity(alloc, room)?;
-    if room > FEW_KEYS {
-        push_vector_keys(&mut keys, a.name, a.record)?;
-        push_vector_keys(&mut keys, b.name, b.record)?;
-        return Ok(ascending_keys(keys));
-    }
-    put_end_keys(&mut keys, a.name, a.record)?;
-    put_end_keys(&mut keys, b.name, b.record)?;
-    put_key(&mut keys, Key::Name(a.name))?;
-    put_key(&mut keys, Key::Name(b.name))?;
-    Ok(Items::of_vec(keys))
 }
 
 /// The part of a name at a place.

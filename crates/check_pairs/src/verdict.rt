@@ -10,7 +10,8 @@ ghost use Rattle.rule_spec.specs.Reads.{read_set};
 ghost use Rattle.check_pairs.specs.Parts.{IsPart};
 
 use crate::finding::{edge_pair, node_and_edge, node_pair};
-use crate::part::{ChainPart, is_edge, pair_keys};
+use crate::part::{ChainPart, is_edge};
+use crate::reads::pair_keys;
 use cell_spec::{Finding, Row, Subject};
 use chain_topo::{Look, Steps};
 use finding_laws::apart_pairs_are_clean;

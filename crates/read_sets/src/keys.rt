@@ -1,19 +1,20 @@
 //! The keys that the findings about a vector record depend on.
 
-ghost use Rattle.std.specs.Prelude.{◌≡◌, ◌∷◌, ◌++◌, [], List, OnOk, Some, map, true};
-ghost use Rattle.s57_types.specs.declared.record.End.{End as SpecEnd};
+ghost use Rattle.std.specs.Prelude.{◌≡◌, ◌∷◌, ◌++◌, [], IfOk, List, OnOk, Some, map, true};
 ghost use Rattle.s57_types.specs.declared.record.Rec.TheVariants.{V};
 ghost use Rattle.s57_types.specs.declared.cell.Cell.{Cell as SpecCell};
 ghost use Rattle.cell_spec.specs.declared.key.Key.{Key as SpecKey};
 ghost use Rattle.cell_spec.specs.declared.key.Key.TheVariants.{Name};
-ghost use Rattle.cell_spec.specs.Ascending.{ascending, put_in_order};
+ghost use Rattle.cell_spec.specs.Ascending.{ascending};
 ghost use Rattle.cell_spec.specs.Lookup.{lookup_record};
 ghost use Rattle.cell_spec.specs.Names.{key_order};
-ghost use Rattle.rule_spec.specs.Reads.{end_keys, end_keys_at, record_keys};
+ghost use Rattle.rule_spec.specs.Reads.{end_keys, record_keys};
+ghost use Rattle.read_sets.specs.Rising.{IsRising};
 
 use cell_spec::{Key, orders_are_by_parts};
-use s57_types::{End, Kind, RecName, Vector};
+use s57_types::{Kind, RecName, Vector};
 use std::alloc::AllocError;
+use std::cmp::Ordering;
 
 /// Appends the names of the records that an edge's ends name (VRPT, S-57 Part 3, 7.7.1.4), in their order.
 ///
@@ -45,57 +46,41 @@ pub fn push_vector_keys(
     Ok(())
 }
 
-/// Whether a key stands behind all of ascending keys.
-fn comes_last(keys: &[Key], key: Key) -> bool
-    ensures { result ≡ true → (those : List SpecKey) → keys.now ≡ ascending key_order those → put_in_order key_order key keys.now ≡ keys.now ++ key ∷ [] }
+/// Appends the key of a name behind the key of the name before it, if it is the greater one. One that is the same isn't put in again. Whether the names
+/// ascend.
+fn push_next(keys: &mut Vec<Key>, before: RecName, name: RecName) -> Result<bool, AllocError>
+    ensures { (those : List SpecKey) → IsRising those before keys.old.items
+        → IfOk result (λ rising. rising ≡ true → IsRising (those ++ Name name ∷ []) name keys.new.items) }
 {
     orders_are_by_parts();
-    match keys.last() {
-        Some(last) => last.cmp(&key).is_lt(),
-        None => true,
+    match before.cmp(&name) {
+        Ordering::Less => {
+            keys.push(Key::Name(name))?;
+            Ok(true)
+        }
+        Ordering::Equal => Ok(true),
+        Ordering::Greater => Ok(false),
     }
 }
 
-/// Puts a key into ascending keys at its place, unless it is there.
+/// Puts the keys of names into an empty list as long as the names ascend, each once where it comes more than once. Whether they all do: then
+/// they are all in.
 ///
 /// An `Err` means out of memory.
-pub fn put_key(keys: &mut Vec<Key>, key: Key) -> Result<(), AllocError>
-    ensures { (those : List SpecKey) → keys.old.items ≡ ascending key_order those
-        → OnOk result (keys.new.items ≡ ascending key_order (those ++ key ∷ [])) }
+pub fn push_rising(keys: &mut Vec<Key>, names: &[RecName]) -> Result<bool, AllocError>
+    requires { keys.old.items ≡ [] }
+    ensures { IfOk result (λ rising. rising ≡ true → keys.new.items ≡ ascending key_order (map Name names.now)) }
 {
-    // In most lists of a few keys each is put behind the others.
-    if comes_last(keys, key) {
-        keys.push(key)?;
-        return Ok(());
+    let [first, rest @ ..] = names else {
+        return Ok(true);
+    };
+    keys.push(Key::Name(*first))?;
+    let mut before = *first;
+    for name in rest {
+        if !push_next(keys, before, *name)? {
+            return Ok(false);
+        }
+        before = *name;
     }
-    orders_are_by_parts();
-    if let Err(place) = keys.binary_search(&key) {
-        keys.insert(place, key)?;
-    }
-    Ok(())
-}
-
-/// Puts the names of the records that ends name into ascending keys, each at its place.
-fn put_targets(keys: &mut Vec<Key>, ends: &[End]) -> Result<(), AllocError>
-    ensures { (those : List SpecKey) → keys.old.items ≡ ascending key_order those
-        → OnOk result (keys.new.items ≡ ascending key_order (those ++ map (λ (end : SpecEnd). Name end.to) ends.now)) }
-{
-    for end in ends {
-        put_key(keys, Key::Name(end.to))?;
-    }
-    Ok(())
-}
-
-/// Puts the names of the records that the ends of an edge name into ascending keys, each at its place, where `vector` is the record that a
-/// cell has under `name`. A node names none.
-///
-/// An `Err` means out of memory.
-pub fn put_end_keys(keys: &mut Vec<Key>, name: RecName, vector: &Vector) -> Result<(), AllocError>
-    ensures { (c : SpecCell) (those : List SpecKey) → lookup_record c name ≡ Some (V vector.now) → keys.old.items ≡ ascending key_order those
-        → OnOk result (keys.new.items ≡ ascending key_order (those ++ end_keys_at c name)) }
-{
-    if vector.name.kind != Kind::Ve {
-        return Ok(());
-    }
-    put_targets(keys, vector.ends.as_slice())
+    Ok(true)
 }

@@ -3,4 +3,4 @@
 
 mod keys;
 
-pub use keys::{push_end_keys, push_vector_keys, put_end_keys, put_key};
+pub use keys::{push_end_keys, push_rising, push_vector_keys};
