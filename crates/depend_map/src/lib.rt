@@ -2,6 +2,7 @@
 #![tactic(auto)]
 
 mod change;
+mod distance;
 mod law;
 mod map;
 mod readers;

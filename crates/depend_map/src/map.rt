@@ -12,6 +12,7 @@ ghost use Rattle.depend_map.specs.Changes.{after_change, after_changes, kept_of}
 ghost use Rattle.depend_map.specs.Readers.{reader_rows, rows_under};
 
 use crate::change::ReadChange;
+use crate::distance::BySubject;
 use crate::readers::Readers;
 use crate::set::{ReaderRow, ReaderSet, replace_keys, set_of};
 use cell_spec::{Key, Keys, Subject, orders_are_by_parts};
@@ -97,7 +98,7 @@ impl DependMap {
         ensures { option_copied result ≡ value_of subject_order self.now subject.now }
     {
         orders_are_by_parts();
-        Some(self.reads.get(subject)?)
+        Some(self.reads.get_near::<BySubject>(subject)?)
     }
 
     /// The subjects whose reads hold a key, in ascending order.
@@ -232,7 +233,7 @@ fn has_row(reads: &SharedTable<Subject, Shared<Keys>>, subject: &Subject, keys: 
     ensures { IsTrue result ↔ (value_of subject_order reads.now subject.now ≡ Some keys.now) }
 {
     orders_are_by_parts();
-    match reads.get(subject) {
+    match reads.get_near::<BySubject>(subject) {
         Some(old) => are_same(old.as_slice(), keys.as_slice()),
         None => false,
     }
@@ -251,7 +252,7 @@ fn kept_keys<'a>(reads: &'a SharedTable<Subject, Shared<Keys>>, subject: &Subjec
     ensures { result.now ≡ option_map_or (λ keys. keys) (value_of subject_order reads.now subject.now) [] }
 {
     orders_are_by_parts();
-    match reads.get(subject) {
+    match reads.get_near::<BySubject>(subject) {
         Some(keys) => keys.as_slice(),
         None => &[],
     }

@@ -19,7 +19,7 @@ use answer_laws::edits_add_up;
 use cell_spec::{Edit, orders_are_by_parts};
 use edit_answers::edits_leave_their_records;
 use s57_types::{Cell, Duplicate, Head, HeadEdit, Kind, Rec, RecName, Recs};
-use shared_table::{Shared, SharedTable};
+use shared_table::{ByNumber, Shared, SharedTable};
 use std::alloc::{AllocError, Global};
 use std::marker::Model;
 
@@ -285,7 +285,7 @@ fn find(names: &SharedTable<RecName, Held>, name: RecName) -> Option<&Rec>
     ensures { option_copied result ≡ option_map (λ (h : SpecHeld). h.rec) (value_of name_order names.now name) }
 {
     orders_are_by_parts();
-    match names.get(&name) {
+    match names.get_near::<ByNumber>(&name) {
         Some(held) => Some(&held.rec),
         None => None,
     }
@@ -318,7 +318,7 @@ fn place_for(
     ensures { IfOk result (λ place. IsPlaceFor (value_of name_order names.now name) (rows_of name.kind lists.now) place) }
 {
     orders_are_by_parts();
-    match names.get(&name) {
+    match names.get_near::<ByNumber>(&name) {
         Some(held) => Ok(held.place),
         None => lists.next_place(name.kind),
     }

@@ -1,5 +1,6 @@
 -- Where keys that are compared from the front end.
 use Rattle.std.proofs.Common.{◌≡◌, ℕ, zero, suc, ◌<◌, List, [], ◌∷◌, length, get_or, take, drop, sym, ap, subst, ◌∙◌, arith, Ordering, Less, Equal, Greater}
+use Rattle.std.proofs.Common.{refl, true, is_eq, true≢false}
 use Rattle.std.specs.Cmp.{IsTotalOrder}
 use Rattle.std.specs.List.{AllByRecursion, HoldsAt}
 use Rattle.std.specs.Map.{keys_of}
@@ -14,6 +15,11 @@ pub each_next : {X : Type 0} (P : X → Type 0) (xs : List X) (i : ℕ) (x : X) 
 each_next P [] i x lt is here before = absurd (omega arith)
 each_next P (y ∷ ys) zero x lt is here before = (subst P is here, tt)
 each_next P (y ∷ ys) (suc i) x lt is here before = (before.0, each_next P ys i x (omega arith) is here before.1)
+
+pub tied : (answer : Ordering) → is_eq answer ≡ true → answer ≡ Equal
+tied Less is = absurd (true≢false (sym is))
+tied Equal is = refl
+tied Greater is = absurd (true≢false (sym is))
 
 pub holds_there : {X : Type 0} (P : X → Type 0) (xs : List X) (i : ℕ) (x : X) → i < length xs → x ≡ get_or xs i x → P x → HoldsAt P xs i
 holds_there P xs i x lt is here d = subst P (is ∙ get_or_default xs i x d lt) here

@@ -1,10 +1,11 @@
 //! Pieces one after another, each with its first key.
 
-ghost use Rattle.std.specs.Prelude.{◌≡◌, ◌+◌, ◌^◌, ◌<◌, ◌≤◌, [], List, length, IfOk, OnOk, OnErr, false};
+ghost use Rattle.std.specs.Prelude.{◌≡◌, ◌+◌, ◌^◌, ◌<◌, ◌≤◌, [], List, length, IfOk, OnOk, OnErr, IsTrue, false};
 ghost use Rattle.row_spec.specs.Rows.{with_row, without_key};
 ghost use Rattle.row_spec.specs.Blocks.{IsBlockFor, IsBlockAt, rows_before};
 ghost use Rattle.shared_table.specs.Pieces.{AreParts, blocks_of, rows_of};
 
+use crate::distance::Distance;
 use crate::entry::Entry;
 use crate::piece::{ChangingPiece, PIECE_ROWS, Piece};
 use std::alloc::{AllocError, Global};
@@ -41,6 +42,38 @@ impl<K: Ord + Drop, V: Drop, P: Piece<K, V>> Layer<K, V, P> {
             }
         }
         self.entries.len() - 1
+    }
+
+    // The same place, after a look where the piece stands if no key is missing.
+    fn place_near<D: Distance<K>>(&self, key: &K) -> usize
+        requires { 0 < length self.now }
+        ensures { IsBlockFor K.cmp (blocks_of self.now) key.now result }
+    {
+        if let Some(place) = self.guess::<D>(key) {
+            if self.is_place_for(place, key) {
+                return place;
+            }
+        }
+        self.place_for(key)
+    }
+
+    // Where the key's piece stands if no key is missing and all pieces have as many rows as the first.
+    fn guess<D: Distance<K>>(&self, key: &K) -> Option<usize> {
+        let first = self.entries.first()?;
+        let distance = D::between(first.key(), key)?;
+        let rows = u32::try_from(first.len()).ok()?;
+        Some(distance.checked_div(rows)? as usize)
+    }
+
+    // Whether the piece at a place, if there is one, is known to have the key or to be where it goes.
+    fn is_place_for(&self, place: usize, key: &K) -> bool
+        ensures { IsTrue result → IsBlockFor K.cmp (blocks_of self.now) key.now place }
+    {
+        if place >= self.entries.len() || key.cmp(self.entries[place].key()).is_lt() {
+            return false;
+        }
+        let next = place + 1;
+        next >= self.entries.len() || key.cmp(self.entries[next].key()).is_lt()
     }
 
     // How many rows the pieces before a place have.
@@ -215,12 +248,12 @@ impl<K: Ord + Drop, V: Drop, P: Piece<K, V>> Piece<K, V> for Layer<K, V, P> {
         self.entries.first().map(|entry| entry.key())
     }
 
-    fn get(&self, key: &K) -> Option<&V> {
+    fn get<D: Distance<K>>(&self, key: &K) -> Option<&V> {
         if self.entries.is_empty() {
             return None;
         }
-        let place = self.place_for(key);
-        self.entries[place].piece().get(key)
+        let place = self.place_near::<D>(key);
+        self.entries[place].piece().get::<D>(key)
     }
 
     fn place_of(&self, key: &K) -> usize {

@@ -4,6 +4,7 @@ ghost use Rattle.std.specs.Prelude.{◌≡◌, IfOk};
 ghost use Rattle.row_spec.specs.Rows.{IsAscending};
 ghost use Rattle.shared_table.specs.Pieces.{AllBegin, rows_of};
 
+use crate::distance::Distance;
 use crate::entry::Entry;
 use crate::filled::{layers_of, runs_of};
 use crate::layer::Layer;
@@ -41,8 +42,8 @@ impl<K: Ord + Drop, V: Drop> Piece<K, V> for LowerLevels<K, V> {
         self.top.first()
     }
 
-    fn get(&self, key: &K) -> Option<&V> {
-        self.top.get(key)
+    fn get<D: Distance<K>>(&self, key: &K) -> Option<&V> {
+        self.top.get::<D>(key)
     }
 
     fn place_of(&self, key: &K) -> usize {

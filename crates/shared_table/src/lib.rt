@@ -1,6 +1,7 @@
 //! Sorted tables in pieces that copies share, and values that copies share.
 #![tactic(auto)]
 
+mod distance;
 mod entry;
 mod filled;
 mod layer;
@@ -13,6 +14,7 @@ mod table;
 mod threads;
 mod top;
 
+pub use distance::{ByNumber, Distance};
 pub use rows::SharedRows;
 pub use shared::Shared;
 pub use table::SharedTable;

@@ -6,6 +6,7 @@ ghost use Rattle.std.specs.Arc.{arc_value};
 ghost use Rattle.row_spec.specs.Rows.{IsAscending, value_of, with_row, without_key, lower_bound};
 ghost use Rattle.shared_table.specs.Pieces.{IsRunAt, BeginsWith, AreHalves};
 
+use crate::distance::Distance;
 use std::alloc::{AllocError, Global};
 use std::sync::Arc;
 
@@ -25,8 +26,8 @@ pub(crate) trait Piece<K: Ord, V>: Drop {
     fn first(&self) -> Option<&K>
         ensures { MatchOption result (rows self.now ≡ []) (λ key. BeginsWith key.now (rows self.now)) };
 
-    /// The value of a key.
-    fn get(&self, key: &K) -> Option<&V>
+    /// The value of a key, whose place is guessed from distances.
+    fn get<D: Distance<K>>(&self, key: &K) -> Option<&V>
         ensures { option_copied result ≡ value_of K.cmp (rows self.now) key.now };
 
     /// The place of the first key that is not below this one.

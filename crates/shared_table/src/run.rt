@@ -1,8 +1,9 @@
 //! Rows in one vector.
 
-ghost use Rattle.std.specs.Prelude.{◌≡◌, ◌<◌, List, IfOk, MatchResult};
+ghost use Rattle.std.specs.Prelude.{◌≡◌, ◌<◌, List, IfOk, IfSome, MatchResult, length};
 ghost use Rattle.row_spec.specs.Rows.{IsAscending, IsRowAt, IsGapAt};
 
+use crate::distance::Distance;
 use crate::piece::{ChangingPiece, PIECE_ROWS, Piece};
 use s57_types::Duplicate;
 use std::alloc::{AllocError, Global};
@@ -40,6 +41,30 @@ impl<K: Ord + Drop, V: Drop> Run<K, V> {
         }
         Err(self.rows.len())
     }
+
+    // The same search, which looks first where the row stands if no key is missing.
+    fn search_near<D: Distance<K>>(&self, key: &K) -> Result<usize, usize>
+        ensures { MatchResult result (IsRowAt K.cmp self.now key.now) (IsGapAt K.cmp self.now key.now) }
+    {
+        if let Some(place) = self.guess::<D>(key) {
+            if self.rows[place].0.cmp(key).is_eq() {
+                return Ok(place);
+            }
+        }
+        self.search(key)
+    }
+
+    // Where the key's row stands if no key is missing.
+    fn guess<D: Distance<K>>(&self, key: &K) -> Option<usize>
+        ensures { IfSome result (λ place. place < length self.now) }
+    {
+        let place = D::between(&self.rows.first()?.0, key)? as usize;
+        if place < self.rows.len() {
+            Some(place)
+        } else {
+            None
+        }
+    }
 }
 
 impl<K: Ord, V> Run<K, V> {
@@ -63,8 +88,8 @@ impl<K: Ord + Drop, V: Drop> Piece<K, V> for Run<K, V> {
         self.rows.first().map(|row| &row.0)
     }
 
-    fn get(&self, key: &K) -> Option<&V> {
-        match self.search(key) {
+    fn get<D: Distance<K>>(&self, key: &K) -> Option<&V> {
+        match self.search_near::<D>(key) {
             Ok(place) => Some(&self.rows[place].1),
             Err(_) => None,
         }

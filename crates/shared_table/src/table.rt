@@ -6,6 +6,7 @@ ghost use Rattle.std.specs.Arc.{arc_value};
 ghost use Rattle.row_spec.specs.Rows.{IsAscending, value_of, with_row, without_key, lower_bound};
 ghost use Rattle.shared_table.specs.Pieces.{IsRunAt};
 
+use crate::distance::{Distance, Unknown};
 use crate::levels::{LowerLevels, lower_levels_of};
 use crate::piece::Piece;
 use crate::rows::SharedRows;
@@ -75,8 +76,15 @@ impl<K: Ord + Drop, V: Drop> SharedTable<K, V> {
     pub fn get(&self, key: &K) -> Option<&V>
         ensures { option_copied result ≡ value_of K.cmp self.now key.now }
     {
+        self.get_near::<Unknown>(key)
+    }
+
+    /// The same value, found faster where the distances of keys are known.
+    pub fn get_near<D: Distance<K>>(&self, key: &K) -> Option<&V>
+        ensures { option_copied result ≡ value_of K.cmp self.now key.now }
+    {
         match &self.root {
-            Some(root) => root.get(key),
+            Some(root) => root.get::<D>(key),
             None => None,
         }
     }

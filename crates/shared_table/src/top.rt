@@ -5,6 +5,7 @@ ghost use Rattle.std.specs.Arc.{arc_value};
 ghost use Rattle.row_spec.specs.Rows.{with_row, without_key};
 ghost use Rattle.shared_table.specs.Pieces.{AreParts, rows_at, rows_of};
 
+use crate::distance::Unknown;
 use crate::entry::Entry;
 use crate::filled::layers_of;
 use crate::layer::Layer;
@@ -65,7 +66,7 @@ pub(crate) fn take_from_top<K: Ord + Copy + Drop, V: Drop, P: ChangingPiece<K, V
         return Ok(());
     };
     // A key that isn't there changes nothing, so no piece is copied for it.
-    if piece.get(key).is_none() {
+    if piece.get::<Unknown>(key).is_none() {
         return Ok(());
     }
     take_shared(piece, alloc, key)

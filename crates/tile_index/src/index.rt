@@ -18,7 +18,7 @@ use cell_spec::{Names, ascending_names, orders_are_by_parts};
 use geometry_spec::Box4;
 use pair_set::PairSet;
 use s57_types::{Duplicate, RecName};
-use shared_table::{Shared, SharedTable};
+use shared_table::{ByNumber, Shared, SharedTable};
 use std::alloc::{AllocError, Global};
 use std::marker::Model;
 
@@ -114,7 +114,7 @@ impl TileIndex {
         orders_are_by_parts();
         // The rows ascend.
         let _count = self.kept.len();
-        let Some(own) = self.kept.get(&name) else {
+        let Some(own) = self.kept.get_near::<ByNumber>(&name) else {
             return Ok(Names::make(alloc));
         };
         let near = self.near(alloc, own)?;
@@ -138,7 +138,7 @@ impl TileIndex {
         ensures { result ≡ option_and_then (λ (covering : Covering). covering.extent) (value_of name_order self.now name) }
     {
         orders_are_by_parts();
-        self.kept.get(&name)?.extent()
+        self.kept.get_near::<ByNumber>(&name)?.extent()
     }
 
     /// The index after some changes, one after the other. It takes all memory that they need, and an `Err` means that there isn't enough.
@@ -205,7 +205,7 @@ impl TileIndex {
         ensures { result ≡ true → ranges_at self.now name ≡ Some cover.now.ranges }
     {
         orders_are_by_parts();
-        match self.kept.get(&name) {
+        match self.kept.get_near::<ByNumber>(&name) {
             Some(own) => own.has_ranges_of(cover),
             None => false,
         }
@@ -216,7 +216,7 @@ impl TileIndex {
         ensures { result ≡ is_some (value_of name_order self.now name) }
     {
         orders_are_by_parts();
-        self.kept.get(&name).is_some()
+        self.kept.get_near::<ByNumber>(&name).is_some()
     }
 
     // The index after a change.
@@ -367,7 +367,7 @@ fn tiles_at(
     ensures { IfOk result (λ tiles. (t : SpecTile) → is_among tile_order tiles.items t ≡ is_under kept.now t name) }
 {
     orders_are_by_parts();
-    match kept.get(&name) {
+    match kept.get_near::<ByNumber>(&name) {
         Some(cover) => cover.tiles(alloc),
         None => Ok(Vec::new(alloc)),
     }
