@@ -5,6 +5,7 @@ ghost use Rattle.check_pairs.specs.Parts.{IsPart};
 ghost use Rattle.rule_spec.specs.Affected.{exact_row};
 ghost use Rattle.rule_spec.specs.Findings.{is_subject};
 
+use crate::pairs::{PairPlaces, row_by_parts};
 use cell_spec::{Row, Rows, Subject};
 use chain_topo::Look;
 use check_pairs::ChainPart;
@@ -14,7 +15,6 @@ use std::alloc::{AllocError, Global};
 use std::marker::Brand;
 use std::sync::ledger::{Blank, Ledger};
 use std::thread::Threads;
-use subject_rows::row_by_parts;
 
 /// The fewest subjects or parts for which a thread is started: starting one takes as long as judging or finding some of them.
 pub(crate) const FEWEST: usize = 256;
@@ -24,6 +24,7 @@ fn counted<B: Look, L: Ledger>(
     alloc: Global,
     look: &B,
     parts: &[ChainPart<'_>],
+    near: &mut PairPlaces,
     subject: Subject,
     blank: Blank,
 ) -> Result<Row, AllocError>
@@ -35,7 +36,7 @@ fn counted<B: Look, L: Ledger>(
     ensures { IfOk result (λ row. row ≡ exact_row (B.cell look.now) subject) }
 {
     let mut steps = start_counter::<L>(blank);
-    row_by_parts(alloc, look, parts, subject, &mut steps)
+    row_by_parts(alloc, look, parts, near, subject, &mut steps)
 }
 
 /// The row of a subject of a cell. It has a counter of its own, since nobody asks how many look-ups are made before a turn.
@@ -43,13 +44,34 @@ fn judge<B: Look>(
     alloc: Global,
     look: &B,
     parts: &[ChainPart<'_>],
+    near: &mut PairPlaces,
     subject: Subject,
 ) -> Result<Row, AllocError>
     requires subject { IsTrue (is_subject (B.cell look.now) subject) }
     requires parts { All (IsPart (B.cell look.now)) parts.now }
     ensures { IfOk result (λ row. row ≡ exact_row (B.cell look.now) subject) }
 {
-    counted::<B, Brand>(alloc, look, parts, subject, Blank::new(1))
+    counted::<B, Brand>(alloc, look, parts, near, subject, Blank::new(1))
+}
+
+/// The rows of a few subjects of a cell, one after the other.
+fn judge_few<B: Look>(
+    alloc: Global,
+    subjects: &[Subject],
+    look: &B,
+    parts: &[ChainPart<'_>],
+) -> Result<Rows, AllocError>
+    requires parts { All (IsPart (B.cell look.now)) parts.now }
+    requires subjects { All (λ s. IsTrue (is_subject (B.cell look.now) s)) subjects.now }
+    ensures { IfOk result (λ rows. rows ≡ map (exact_row (B.cell look.now)) subjects.now) }
+{
+    let mut rows = Vec::with_capacity(alloc, subjects.len())?;
+    let mut near = PairPlaces::start();
+    for subject in subjects {
+        let row = judge(alloc, look, parts, &mut near, *subject)?;
+        rows.push(row)?;
+    }
+    Ok(Rows::of_vec(rows))
 }
 
 /// The rows of subjects of a cell, in their order. The parts are connected nodes and edges of the cell, in the order of their names: a pair
@@ -67,6 +89,9 @@ pub(crate) fn judge_all<R: Threads + Sync, B: Look + Sync>(
     requires parts { All (IsPart (B.cell look.now)) parts.now }
     ensures { IfOk result (λ rows. rows ≡ map (exact_row (B.cell look.now)) subjects.now) }
 {
+    if subjects.len() < FEWEST {
+        return judge_few(alloc, subjects, look, parts);
+    }
     let rows = subjects
         .par_iter()
         .with_min_len(FEWEST)
@@ -75,7 +100,7 @@ pub(crate) fn judge_all<R: Threads + Sync, B: Look + Sync>(
                 requires subject { IsTrue (is_subject (B.cell look.now) subject.now) }
                 requires parts { All (IsPart (B.cell look.now)) parts.now }
                 ensures { IfOk result (λ row. row ≡ exact_row (B.cell look.entry.now) subject.now) }
-            { judge(alloc, look, parts, *subject) },
+            { judge(alloc, look, parts, &mut PairPlaces::start(), *subject) },
         )
         .collect::<Result<Vec<Row>, AllocError>>(rt, alloc)?;
     Ok(Rows::of_vec(rows?))

@@ -4,6 +4,7 @@
 
 mod judging;
 mod loading;
+mod pairs;
 mod parts;
 mod preparing;
 

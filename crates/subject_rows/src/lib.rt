@@ -5,4 +5,4 @@ mod names;
 mod row;
 
 pub use names::part_names;
-pub use row::{row_by_parts, row_of};
+pub use row::row_of;

@@ -74,7 +74,7 @@ fn push_pair_names(names: &mut Vec<RecName>, subjects: &[Subject]) -> Result<(),
     Ok(())
 }
 
-/// The names of the connected nodes and edges of the pairs among subjects, ascending, each once: those of which `row_by_parts` takes parts.
+/// The names of the connected nodes and edges of the pairs among subjects, ascending, each once: those of which parts are gathered.
 ///
 /// An `Err` means out of memory.
 pub fn part_names(alloc: Global, subjects: &[Subject]) -> Result<Names, AllocError>
