@@ -1,10 +1,10 @@
--- The cell of a file by the frames of its records, and by the windows in which they are decoded.
-use Rattle.std.proofs.Common.{◌≡◌, ◌<◌, ◌+◌, ℕ, false, List, [], ◌∷◌, ◌++◌, length, map, take, get_or, Ok, Err, refl, sym, ap, subst}
-use Rattle.std.proofs.Common.{◌∙◌, Vec, Global}
+-- The cell of a file by the windows in which its records are decoded.
+use Rattle.std.proofs.Common.{◌≡◌, ◌≤◌, ◌+◌, ℕ, false, All, List, [], ◌∷◌, ◌++◌, length, map, Ok, Err, refl, sym, ap, subst}
+use Rattle.std.proofs.Common.{◌∙◌, Vec, Global, arith}
 use Rattle.std.specs.Prelude.{Contains, IfOk, MatchResult, Result}
-use Rattle.std.specs.List.{AllZip, flat_map}
-use Rattle.std.proofs.lemmas.List.{take_more}
+use Rattle.std.specs.List.{AllZip}
 use Rattle.std.proofs.lemmas.List.Elements.{All-cons, All-head, All-nil, All-tail}
+use Rattle.frame_spec.specs.FrameDecision.{frame_at}
 use Rattle.frame_spec.specs.RecordFrame.{FrameView}
 use Rattle.s57_types.specs.declared.cell.Cell.{Cell}
 use Rattle.s57_types.specs.declared.name.Kind.{Kind}
@@ -16,7 +16,8 @@ use Rattle.file_spec.specs.CellRecords.{with_record, with_record_of_kind}
 use Rattle.file_spec.specs.DecodedCell.{with_following}
 use Rattle.file_spec.specs.FileRecords.{records_after}
 use Rattle.cell_read.specs.RecordsFrom.{record_said}
-use Rattle.cell_read.specs.Windows.{AreAdded, AreFrames, AreListed, IsKeptOfFrame, records_in}
+use Rattle.cell_read.specs.Windows.{AreAdded, AreKeptFrom, AreListed, AreWindows, IsKeptOfFrame, records_in}
+use Rattle.cell_read.specs.declared.threads.Window.{Window}
 use Rattle.cell_read.proofs.FileSteps.{following-added, following-end, found_before}
 use Rattle.cell_read.proofs.KeptRecords.{kept_is_listed, kept_of, whole_following}
 
@@ -27,25 +28,23 @@ level_by Ve r c = refl
 level_by Fe r c = refl
 level_by Head r c = refl
 
--- the records of the frames up to the end, each of which may follow, make the cell
-pub followed : (nall number at : ℕ) (b : List ℕ) (c d : Cell) (frames : List FrameView) (recs : List Rec) → c.head.nall ≡ nall → AreFrames b at frames
-    → AllZip (IsKeptOfFrame nall) frames recs → AreAdded c recs d → with_following number c (records_after b at false) ≡ Ok d
-followed nall number at b c d [] [] level past kept added = following-end number c b at past ∙ ap Ok (sym added)
-followed nall number at b c d [] (r ∷ recs) level past kept added = absurd kept
-followed nall number at b c d (frame ∷ frames) [] level stand kept added = absurd kept
-followed nall number at b c d (frame ∷ frames) (r ∷ recs) level stand kept added =
-    let one = kept_of c.head.nall r (record_said c.head.nall frame.fields) (subst (λ n. IsKeptOfFrame n frame r) (sym level) kept.0) in
-    following-added number c b at frame r (found_before b at false frame stand.0) stand.0
+-- the records up to the end, each of which may follow, make the cell
+pub followed : (nall number at : ℕ) (b : List ℕ) (c d : Cell) (recs : List Rec) → c.head.nall ≡ nall → AreKeptFrom nall b at (length b) recs
+    → AreAdded c recs d → with_following number c (records_after b at false) ≡ Ok d
+followed nall number at b c d [] level kept added = following-end number c b at (omega (arith, kept)) ∙ ap Ok (sym added)
+followed nall number at b c d (r ∷ recs) level kept added =
+    let frame = kept.0 in
+    let one = kept_of c.head.nall r (record_said c.head.nall frame.fields) (subst (λ n. IsKeptOfFrame n frame r) (sym level) kept.2) in
+    following-added number c b at frame r (found_before b at false frame kept.1) kept.1
     (one.is ∙ ap Ok (sym (whole_following c r one.whole one.of_it added.0))) added.0
-    ∙ followed nall (number + 1) (at + frame.length) b (with_record r c) d frames recs (level_by (name_of r).kind r c ∙ level) stand.1 kept.1 added.1
+    ∙ followed nall (number + 1) (at + frame.length) b (with_record r c) d recs (level_by (name_of r).kind r c ∙ level) kept.3 added.1
 
 -- they stand in the lists of a cell
-pub listed : (nall : ℕ) (frames : List FrameView) (recs : List Rec) → AllZip (IsKeptOfFrame nall) frames recs → AreListed recs
-listed nall [] [] kept = All-nil (λ (r : Rec). is_of_kind Head (name_of r) ≡ false)
-listed nall [] (r ∷ recs) kept = absurd kept
-listed nall (frame ∷ frames) [] kept = absurd kept
-listed nall (frame ∷ frames) (r ∷ recs) kept =
-    All-cons (λ (r : Rec). is_of_kind Head (name_of r) ≡ false) r recs (kept_is_listed nall frame.fields r kept.0) (listed nall frames recs kept.1)
+pub listed : (nall from to : ℕ) (b : List ℕ) (recs : List Rec) → AreKeptFrom nall b from to recs → AreListed recs
+listed nall from to b [] kept = All-nil (λ (r : Rec). is_of_kind Head (name_of r) ≡ false)
+listed nall from to b (r ∷ recs) kept =
+    All-cons (λ (r : Rec). is_of_kind Head (name_of r) ≡ false) r recs (kept_is_listed nall (kept.0).fields r kept.2)
+    (listed nall (from + (kept.0).length) to b recs kept.3)
 
 -- records are added one window after the other
 pub added_behind : (c d e : Cell) (recs more : List Rec) → AreAdded c recs d → AreAdded d more e → AreAdded c (recs ++ more) e
@@ -70,42 +69,50 @@ pub listed_back : (recs more : List Rec) → AreListed (recs ++ more) → AreLis
 listed_back [] more all = all
 listed_back (r ∷ recs) more all = listed_back recs more (listed_tail r (recs ++ more) all)
 
--- ---- what is kept of the records of frames
-module _ (nall : ℕ) where
-  abbrev AreKept : List FrameView → List Rec → Type 0
-  AreKept frames recs = AllZip (IsKeptOfFrame nall) frames recs
+-- ---- windows
+-- each lies within the whole
+pub within : (from to : ℕ) (windows : List Window) → AreWindows from to windows → All (λ (w : Window). w.to ≤ to) windows
+within from to [] are = All-nil (λ (w : Window). w.to ≤ to)
+within from to (w ∷ windows) are = All-cons (λ (w : Window). w.to ≤ to) w windows are.1 (within w.to to windows are.2)
 
-  joined : (frames more : List FrameView) (recs others : List Rec) → AreKept frames recs → AreKept more others → AreKept (frames ++ more) (recs ++ others)
-  joined [] more [] others kept then_ = then_
-  joined [] more (r ∷ recs) others kept then_ = absurd kept
-  joined (frame ∷ frames) more [] others kept then_ = absurd kept
-  joined (frame ∷ frames) more (r ∷ recs) others kept then_ = (kept.0, joined frames more recs others kept.1 then_)
+-- one window more
+pub windows_more : (from at to : ℕ) (windows : List Window) → AreWindows from at windows → at ≤ to
+    → AreWindows from to (windows ++ record { from = at; to = to } ∷ [])
+windows_more from at to [] are le = (sym are, omega arith, refl)
+windows_more from at to (w ∷ windows) are le =
+    let less : w.to ≤ at = are.1 in
+    (are.0, omega (arith, less), windows_more w.to at to windows are.2 le)
 
-  -- of one frame more
-  pub kept_more : (frames : List FrameView) (recs : List Rec) (k : ℕ) (frame : FrameView) (r : Rec) → k < length frames → frame ≡ get_or frames k frame
-      → AreKept (take k frames) recs → IsKeptOfFrame nall frame r → AreKept (take (k + 1) frames) (recs ++ r ∷ [])
-  kept_more frames recs k frame r within is kept one =
-      subst (λ those. AreKept those (recs ++ r ∷ [])) (ap (λ f. take k frames ++ f ∷ []) is ∙ sym (take_more frames k frame within))
-      (joined (take k frames) (frame ∷ []) recs (r ∷ []) kept (one, tt))
+-- ---- what is kept of the records of windows
+module _ (nall : ℕ) (b : List ℕ) where
+  joined : (from mid to : ℕ) (recs more : List Rec) → AreKeptFrom nall b from mid recs → AreKeptFrom nall b mid to more → AreKeptFrom nall b from to (recs ++ more)
+  joined from mid to [] more kept then_ = subst (λ at. AreKeptFrom nall b at to more) (sym kept) then_
+  joined from mid to (r ∷ recs) more kept then_ = (kept.0, kept.1, kept.2, joined (from + (kept.0).length) mid to recs more kept.3 then_)
+
+  -- of one record more
+  pub kept_more : (from at : ℕ) (recs : List Rec) (frame : FrameView) (r : Rec) → AreKeptFrom nall b from at recs → frame_at b at false ≡ Ok frame
+      → IsKeptOfFrame nall frame r → AreKeptFrom nall b from (at + frame.length) (recs ++ r ∷ [])
+  kept_more from at recs frame r kept is one = joined from at (at + frame.length) recs (r ∷ []) kept (frame, is, one, refl)
 
   module _ (E : Type 0) where
-    abbrev IsWindow : List FrameView → Result (Vec Rec Global) E → Type 0
-    IsWindow frames answer = IfOk answer (λ recs. AreKept frames recs.items)
+    abbrev IsReadOf : Window → Result (Vec Rec Global) E → Type 0
+    IsReadOf window answer = IfOk answer (λ recs. AreKeptFrom nall b window.from window.to recs.items)
 
-    values_kept : (windows : List (List FrameView)) (read : List (Vec Rec Global)) → AllZip IsWindow windows (map Ok read)
-        → AreKept (flat_map (λ window. window) windows) (records_in read)
-    values_kept [] [] each = tt
-    values_kept [] (recs ∷ read) each = absurd each
-    values_kept (window ∷ windows) [] each = absurd each
-    values_kept (window ∷ windows) (recs ∷ read) each =
-        joined window (flat_map (λ w. w) windows) recs.items (records_in read) each.0 (values_kept windows read each.1)
+    values_kept : (from to : ℕ) (windows : List Window) (read : List (Vec Rec Global)) → AreWindows from to windows → AllZip IsReadOf windows (map Ok read)
+        → AreKeptFrom nall b from to (records_in read)
+    values_kept from to [] [] are each = are
+    values_kept from to [] (recs ∷ read) are each = absurd each
+    values_kept from to (window ∷ windows) [] are each = absurd each
+    values_kept from to (window ∷ windows) (recs ∷ read) are each =
+        joined from window.to to recs.items (records_in read) (subst (λ at. AreKeptFrom nall b at window.to recs.items) are.0 each.0)
+        (values_kept window.to to windows read are.2 each.1)
 
-    -- of the frames of windows, where all windows are read
-    pub windows_kept : (windows : List (List FrameView)) (answers : List (Result (Vec Rec Global) E)) → AllZip IsWindow windows answers
+    -- of windows, where all are read
+    pub windows_kept : (windows : List Window) (answers : List (Result (Vec Rec Global) E)) → AllZip IsReadOf windows answers
         → (all : Result (Vec (Vec Rec Global) Global) E)
         → MatchResult all (λ v. (ys : List (Vec Rec Global)) × (answers ≡ map Ok ys) × (v.items ≡ ys)) (λ e. Contains answers (Err e))
-        → IfOk all (λ v. AreKept (flat_map (λ window. window) windows) (records_in v.items))
-    windows_kept windows answers each (Ok v) told =
-        subst (λ read. AreKept (flat_map (λ window. window) windows) (records_in read)) (sym told.2)
-        (values_kept windows told.0 (subst (AllZip IsWindow windows) told.1 each))
+        → IfOk all (λ v. (from to : ℕ) → AreWindows from to windows → AreKeptFrom nall b from to (records_in v.items))
+    windows_kept windows answers each (Ok v) told = λ from to are.
+        subst (λ read. AreKeptFrom nall b from to (records_in read)) (sym told.2)
+        (values_kept from to windows told.0 are (subst (AllZip IsReadOf windows) told.1 each))
     windows_kept windows answers each (Err e) told = tt

@@ -1,5 +1,5 @@
--- The records of a file in frames and windows, one after the other.
-use Rattle.std.specs.Prelude.{◌≡◌, ◌≤◌, ◌+◌, ℕ, false, All, List, [], ◌∷◌, length, None, Ok, Vec}
+-- The records of a file in windows, one after the other.
+use Rattle.std.specs.Prelude.{◌≡◌, ◌≤◌, ◌+◌, ℕ, false, All, List, [], ◌∷◌, None, Ok, Vec}
 use Rattle.std.specs.Global.{Global}
 use Rattle.std.specs.List.{flat_map}
 use Rattle.frame_spec.specs.FrameDecision.{frame_at}
@@ -11,16 +11,23 @@ use Rattle.cell_spec.specs.Lookup.{name_of}
 use Rattle.cell_spec.specs.Names.{is_of_kind}
 use Rattle.file_spec.specs.CellRecords.{with_record}
 use Rattle.cell_read.specs.KeptRecords.{IsKeptOfSaid}
+use Rattle.cell_read.specs.declared.threads.Window.{Window}
 use Rattle.cell_read.specs.RecordsFrom.{following_fault, record_said}
 
--- the frames from a place to the end of a file, each behind the one before
-abbrev pub AreFrames : List ℕ → ℕ → List FrameView → Type 0
-AreFrames b at [] = length b ≤ at
-AreFrames b at (frame ∷ frames) = (frame_at b at false ≡ Ok frame) × AreFrames b (at + frame.length) frames
+-- windows from a place to another, one behind the other
+abbrev pub AreWindows : ℕ → ℕ → List Window → Type 0
+AreWindows from to [] = from ≡ to
+AreWindows from to (window ∷ windows) = (window.from ≡ from) × (window.to ≤ to) × AreWindows window.to to windows
 
 -- what is kept of the record of a frame
 abbrev pub IsKeptOfFrame : ℕ → FrameView → Rec → Type 0
 IsKeptOfFrame nall frame rec = IsKeptOfSaid nall rec (record_said nall frame.fields)
+
+-- what is kept of the records from a place to another, each behind the one before
+abbrev pub AreKeptFrom : ℕ → List ℕ → ℕ → ℕ → List Rec → Type 0
+AreKeptFrom nall b from to [] = from ≡ to
+AreKeptFrom nall b from to (rec ∷ recs) =
+    (frame : FrameView) × (frame_at b from false ≡ Ok frame) × IsKeptOfFrame nall frame rec × AreKeptFrom nall b (from + frame.length) to recs
 
 -- records that stand in the lists of a cell
 abbrev pub AreListed : List Rec → Type 0

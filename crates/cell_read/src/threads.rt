@@ -1,76 +1,121 @@
 //! Cell files, whose records are decoded by several threads.
 
-ghost use Rattle.std.specs.Prelude.{◌≡◌, ◌≤◌, IfOk, Ok, OnOk, false, length};
-ghost use Rattle.std.specs.List.{AllZip};
+ghost use Rattle.std.specs.Prelude.{◌≡◌, ◌<◌, ◌≤◌, All, IfOk, IfSome, Ok, OnOk, false, length};
 ghost use Rattle.file_spec.specs.{CellRecords.{empty_cell}, DecodedCell.{decoded_cell, with_following}, FileRecords.{records_after}};
-ghost use Rattle.cell_read.specs.{Gives.{GivesCell}, NamesSeen.{IsKnown}, Windows.{AreAdded, AreFrames, AreListed, IsKeptOfFrame, records_in}};
+ghost use Rattle.cell_read.specs.{Gives.{GivesCell}, NamesSeen.{IsKnown}, Windows.{AreAdded, AreKeptFrom, AreListed, AreWindows, records_in}};
+ghost use Rattle.cell_read.specs.declared.threads.Window.{Window as SpecWindow};
 
 use crate::file::{read_cell, start_at};
 use crate::reading::{Reading, add_record, empty_reading};
 use crate::records::read_record;
 use crate::refusal::{ReadRefusal, RecordRefusal};
-use iso_frame::{Frame, next_record};
+use file_spec::RecordFault;
+use iso_frame::{next_record, told_length};
 use rayon::prelude::*;
 use s57_types::{Cell, Head, Rec};
-use std::alloc::Global;
+use std::alloc::{AllocError, Global};
 use std::thread::Threads;
 
 /// How many records a thread decodes at a time. A file with fewer starts no thread.
 const WINDOW: usize = 2048;
 
-/// The frames of the records from a place to the end of the file.
-fn frames_from<'a>(
-    alloc: Global,
-    bytes: &'a [u8],
-    start: usize,
-) -> Result<Vec<Frame<'a>>, RecordRefusal>
-    requires { start ≤ length bytes.now }
-    ensures { IfOk result (λ frames. AreFrames bytes.now start frames.items) }
-{
-    let mut frames = Vec::new(alloc);
-    let mut at = start;
-    while at < bytes.len() {
-        let frame = next_record(bytes, at, false)?;
-        at += frame.length();
-        if frames.push(frame).is_err() {
-            return Err(RecordRefusal::NoMemory);
-        }
-    }
-    Ok(frames)
+/// A part of a file: the place of its first record, and the one behind its last.
+#[derive(Clone, Copy)]
+struct Window {
+    from: usize,
+    to: usize,
 }
 
-/// The records of frames, each by itself; national attributes are at the level NALL.
-fn read_window(alloc: Global, nall: u8, frames: &[Frame<'_>]) -> Result<Vec<Rec>, RecordRefusal>
-    ensures { IfOk result (λ recs. AllZip (IsKeptOfFrame nall) frames.now recs.items) }
+/// The place behind the record at a place, by the length that its leader tells.
+fn place_behind(bytes: &[u8], at: usize) -> Option<usize>
+    ensures { IfSome result (λ next. (at < next) × (next ≤ length bytes.now)) }
 {
-    let mut recs = Vec::with_capacity(alloc, frames.len())?;
-    for frame in frames {
-        let rec = read_record(alloc, nall, frame)?;
+    let next = at.checked_add(told_length(bytes, at)?)?;
+    if next <= at || next > bytes.len() {
+        return None;
+    }
+    Some(next)
+}
+
+/// Where a window ends: behind as many records as a thread decodes at a time, or else with the file. That they are records is seen when they
+/// are decoded.
+fn window_end(bytes: &[u8], from: usize) -> usize
+    requires { from < length bytes.now }
+    ensures { (from < result) × (result ≤ length bytes.now) }
+{
+    let mut at = from;
+    for _ in 0..WINDOW {
+        let Some(next) = place_behind(bytes, at) else {
+            return bytes.len();
+        };
+        at = next;
+    }
+    at
+}
+
+/// The windows from a place to the end of the file.
+fn windows_from(alloc: Global, bytes: &[u8], start: usize) -> Result<Vec<Window>, AllocError>
+    requires { start ≤ length bytes.now }
+    ensures { IfOk result (λ windows. AreWindows start (length bytes.now) windows.items) }
+{
+    let mut windows = Vec::new(alloc);
+    let mut from = start;
+    while from < bytes.len() {
+        let to = window_end(bytes, from);
+        windows.push(Window { from, to })?;
+        from = to;
+    }
+    Ok(windows)
+}
+
+/// The records of a window, each by itself; national attributes are at the level NALL. An `Err` says that some record has a fault, that they
+/// don't end where the window does, or that memory ran out.
+fn read_window(
+    alloc: Global,
+    nall: u8,
+    bytes: &[u8],
+    window: Window,
+) -> Result<Vec<Rec>, RecordRefusal>
+    requires { window.to ≤ length bytes.now }
+    ensures { IfOk result (λ recs. AreKeptFrom nall bytes.now window.from window.to recs.items) }
+{
+    let mut recs = Vec::with_capacity(alloc, WINDOW)?;
+    let mut at = window.from;
+    while at < window.to {
+        let frame = next_record(bytes, at, false)?;
+        let rec = read_record(alloc, nall, &frame)?;
         if recs.push(rec).is_err() {
             return Err(RecordRefusal::NoMemory);
         }
+        at += frame.length();
+    }
+    if at != window.to {
+        return Err(RecordRefusal::Fault(RecordFault::BadLeader));
     }
     Ok(recs)
 }
 
-/// The records of frames in windows one after the other, which threads share.
+/// The records of windows one after the other, which threads share.
 fn read_windows<R: Threads + Sync>(
     rt: &R,
     alloc: Global,
     nall: u8,
-    frames: &[Frame<'_>],
+    bytes: &[u8],
+    windows: &[Window],
 ) -> Result<Vec<Vec<Rec>>, RecordRefusal>
-    ensures { IfOk result (λ windows. AllZip (IsKeptOfFrame nall) frames.now (records_in windows.items)) }
+    requires { All (λ (w : SpecWindow). w.to ≤ length bytes.now) windows.now }
+    ensures { IfOk result (λ read. (from to : _) → AreWindows from to windows.now → AreKeptFrom nall bytes.now from to (records_in read.items)) }
 {
-    let windows = frames
-        .par_chunks(WINDOW)
+    let read = windows
+        .par_iter()
         .map(
-            |window: &[Frame<'_>]| -> Result<Vec<Rec>, RecordRefusal>
-                ensures { IfOk result (λ recs. AllZip (IsKeptOfFrame nall) window.now recs.items) }
-            { read_window(alloc, nall, window) },
+            |window: &Window| -> Result<Vec<Rec>, RecordRefusal>
+                requires { window.now.to ≤ length bytes.now }
+                ensures { IfOk result (λ recs. AreKeptFrom nall bytes.entry.now window.now.from window.now.to recs.items) }
+            { read_window(alloc, nall, bytes, *window) },
         )
         .collect::<Result<Vec<Vec<Rec>>, RecordRefusal>>(rt, alloc)?;
-    windows
+    read
 }
 
 /// Adds the records of a window behind the others.
@@ -110,9 +155,9 @@ fn read_following<R: Threads + Sync>(
     ensures { IfOk result (λ cell. with_following 4 (empty_cell head) (records_after bytes.now start false) ≡ Ok cell) }
 {
     let nall = head.nall;
-    let frames = frames_from(alloc, bytes, start)?;
-    let windows = read_windows(rt, alloc, nall, &frames)?;
-    joined(alloc, head, windows)
+    let windows = windows_from(alloc, bytes, start)?;
+    let read = read_windows(rt, alloc, nall, bytes, &windows)?;
+    joined(alloc, head, read)
 }
 
 /// The cell of a file, as `read_cell` gives it, where threads share the decoding.

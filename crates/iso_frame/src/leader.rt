@@ -1,7 +1,7 @@
 //! The leader of a record and its directory.
 
-ghost use Rattle.std.specs.Prelude.{◌≡◌, ◌+◌, ◌*◌, ◌^◌, ◌<◌, ◌≤◌, length, MatchOption};
-ghost use Rattle.frame_spec.specs.RecordFrame.{AreDigits, decimal_value, IsLeader, IsDirectory, entry_size_at, count_at, length_text, position_text};
+ghost use Rattle.std.specs.Prelude.{◌≡◌, ◌+◌, ◌*◌, ◌^◌, ◌<◌, ◌≤◌, length, IfSome, MatchOption};
+ghost use Rattle.frame_spec.specs.RecordFrame.{AreDigits, decimal_value, IsLeader, IsDirectory, entry_size_at, count_at, length_at, length_text, position_text};
 ghost use Rattle.frame_spec.specs.RecordFrame.{field_length, field_position, field_tag, entry_place, bytes_at};
 ghost use Rattle.iso_frame.specs.Numbers.{AreNumbers, IsRead};
 
@@ -76,6 +76,16 @@ pub fn read_leader(bytes: &[u8], at: usize, first: bool) -> Option<Leader>
         length_size: (length_size - b'0') as usize,
         position_size: (position_size - b'0') as usize,
     })
+}
+
+/// The length of the record at a place, if there are as many bytes as a leader has and it is written in digits. Nothing else is looked at.
+pub fn told_length(bytes: &[u8], at: usize) -> Option<usize>
+    ensures { IfSome result (λ n. n ≡ length_at bytes.now at) }
+{
+    if bytes.len() < LEADER || at > bytes.len() - LEADER {
+        return None;
+    }
+    decimal(&bytes[at..at + NUMBER])
 }
 
 /// What an entry of the directory says.

@@ -6,3 +6,4 @@ mod leader;
 
 pub use frame::{Frame, next_record};
 pub use frame_spec::FrameFault;
+pub use leader::told_length;

@@ -1,7 +1,9 @@
-use Rattle.std.proofs.Common.{take}
-use Rattle.std.specs.List.{AllZip}
-use Rattle.cell_read.specs.Windows.{IsKeptOfFrame}
+use Rattle.std.proofs.Common.{◌-◌, length}
+use Rattle.cell_read.specs.Windows.{AreKeptFrom}
 use Rattle.cell_read.proofs.threads.read_window.Given as goal
 
-abbrev pub invariant-loop-frame : goal.invariant-loop-frame
-invariant-loop-frame l = AllZip (IsKeptOfFrame l.nall) (take l.frame-index l.frames) l.recs.items
+abbrev pub invariant-loop-at : goal.invariant-loop-at
+invariant-loop-at l = AreKeptFrom l.nall l.bytes l.window.from l.at l.recs.items
+
+abbrev pub decreases-loop-at : goal.decreases-loop-at
+decreases-loop-at l = length l.bytes - l.at
