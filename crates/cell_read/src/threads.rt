@@ -17,7 +17,7 @@ use std::alloc::{AllocError, Global};
 use std::thread::Threads;
 
 /// How many records a thread decodes at a time. A file with fewer starts no thread.
-const WINDOW: usize = 2048;
+const WINDOW: usize = 1024;
 
 /// A part of a file: the place of its first record, and the one behind its last.
 #[derive(Clone, Copy)]
@@ -108,6 +108,7 @@ fn read_windows<R: Threads + Sync>(
 {
     let read = windows
         .par_iter()
+        .with_min_len(1)
         .map(
             |window: &Window| -> Result<Vec<Rec>, RecordRefusal>
                 requires { window.now.to ≤ length bytes.now }
