@@ -1,6 +1,8 @@
 -- Answers to ascending keys are found again by their keys.
-use Rattle.std.proofs.Common.{◌≡◌, ℕ, ◌+◌, ◌<◌, ◌≤◌, inl, inr, true, false, true≢false, List, [], ◌∷◌, length, map, fold, get_or, refl, sym}
-use Rattle.std.proofs.Common.{ap, ◌∙◌, subst, arith}
+use Rattle.std.proofs.Common.{◌≡◌, ℕ, ◌+◌, ◌<◌, ◌≤◌, inl, inr, ◌||◌, Bool, true, false, true≢false, Option, Some, List, [], ◌∷◌, length, map, fold, find}
+use Rattle.std.proofs.Common.{cond, get_or, option_map, refl, sym, ap, ◌∙◌, subst, arith}
+use Rattle.std.specs.Cmp.{Equal-is}
+use Rattle.std.specs.List.{list_any}
 use Rattle.std.specs.List.Sorted.{IsSortedByKey, IsStrictlySortedBy, IsPartitionPoint}
 use Rattle.std.specs.Ordering.{is_eq, is_lt, match_ordering, ordering_reverse}
 use Rattle.std.specs.declared.cmp.Ordering.{Ordering}
@@ -13,10 +15,10 @@ use Rattle.std.proofs.lemmas.Map.Keys.{Less-from_sorted}
 use Rattle.s57_types.specs.declared.cell.Cell.{Cell}
 use Rattle.cell_spec.specs.declared.key.Key.{Key}
 use Rattle.cell_spec.specs.Ascending.{put_in_order, ascending}
-use Rattle.cell_spec.specs.Names.{key_order}
+use Rattle.cell_spec.specs.Names.{key_order, same_key}
 use Rattle.cell_spec.proofs.Ascending.{already_ascending, holds-ascending, sorted-ascending}
 use Rattle.cell_spec.proofs.Orders.{exact_keys, total_keys}
-use Rattle.near_records.specs.Near.{AreAnswers, IsNear, KeyAnswer, answer_held, answer_to, has_key}
+use Rattle.near_records.specs.Near.{AreAnswers, FindsAnswer, IsNear, KeyAnswer, answer_held, answer_to, has_key}
 use Rattle.near_records.specs.declared.near.Answer.{Answer}
 use Rattle.near_records.specs.declared.near.NearRecords.{NearRecords}
 
@@ -105,6 +107,28 @@ module _ (c : Cell) (keys : List Key) (answers : List Answer) (all : map answer_
         | inr h ↦ ap is_eq (turned ∙ ap ordering_reverse (parts.1 k d h within))
       ])) in
       true≢false (sym asked ∙ sym (holds-ascending key_order exact_keys key keys) ∙ ap (λ ks. has_key ks key) (sym same_keys) ∙ none)
+
+-- ---- among a cell's answers to keys the first that is to one of them is its answer to it
+module _ (c : Cell) (key : Key) where
+  first_by : (a : Answer) (rest : Option Answer) (k : Key) (tie later : Bool) → same_key key k ≡ tie → answer_held a ≡ answer_to c k → (tie || later) ≡ true
+      → (later ≡ true → option_map answer_held rest ≡ Some (answer_to c key)) → option_map answer_held (cond tie (Some a) rest) ≡ Some (answer_to c key)
+  first_by a rest k true later ties held asked then =
+      ap Some (held ∙ ap (answer_to c) (sym (exact_keys key k ((Equal-is (key_order key k)).0 ties))))
+  first_by a rest k false later ties held asked then = then asked
+
+  first_of : (answers : List Answer) (keys : List Key) → map answer_held answers ≡ map (answer_to c) keys → list_any (same_key key) keys ≡ true
+      → option_map answer_held (find (λ (a : Answer). same_key key a.key) answers) ≡ Some (answer_to c key)
+  first_of answers [] all asked = absurd (cc)
+  first_of [] (k ∷ keys) all asked = absurd (cc)
+  first_of (a ∷ answers) (k ∷ keys) all asked =
+      let held : answer_held a ≡ answer_to c k = cc in
+      let others : map answer_held answers ≡ map (answer_to c) keys = cc in
+      let rest = find (λ (b : Answer). same_key key b.key) answers in
+      ap (λ (x : KeyAnswer). option_map answer_held (cond (same_key key x.key) (Some a) rest)) held
+      ∙ first_by a rest k (same_key key k) (list_any (same_key key) keys) refl held asked (first_of answers keys others)
+
+pub finds_first : (answers : List Answer) (key : Key) → FindsAnswer answers key (find (λ (a : Answer). same_key key a.key) answers)
+finds_first answers key = λ c keys all asked. first_of c key answers (ascending key_order keys) all (holds-ascending key_order exact_keys key keys ∙ asked)
 
 -- the answers to keys in order are those to the keys, ascending
 pub near_in_order : (c : Cell) (keys : List Key) (near : NearRecords) → IsStrictlySortedBy key_order keys

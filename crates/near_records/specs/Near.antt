@@ -1,5 +1,5 @@
 -- What a cell answers to some keys. This project's own.
-use Rattle.std.specs.Prelude.{◌≡◌, Bool, false, List, Option, None, length, map, nat_lt}
+use Rattle.std.specs.Prelude.{◌≡◌, Bool, true, false, List, Option, None, Some, length, map, nat_lt, option_map}
 use Rattle.std.specs.List.{All, list_any}
 use Rattle.std.specs.Option.{option_copied}
 use Rattle.std.specs.Ordering.{is_eq}
@@ -46,6 +46,12 @@ AreAnswers c answers = All (λ (a : Answer). answer_held a ≡ answer_to c a.key
 -- whether a key is among some
 abbrev pub has_key : List Key → Key → Bool
 has_key keys key = list_any (λ other. is_eq (key_order key other)) keys
+
+-- what is found among a cell's answers to some keys is its answer to a key among them
+abbrev pub FindsAnswer : List Answer → Key → Option Answer → Type 0
+FindsAnswer answers key found =
+    (c : Cell) (keys : List Key) → map answer_held answers ≡ map (answer_to c) (ascending key_order keys) → has_key keys key ≡ true
+    → option_map answer_held found ≡ Some (answer_to c key)
 
 -- what a cell answers to some keys, ascending, each once
 pub record IsNear (c : Cell) (keys : List Key) (near : NearRecords) : Type 0 where

@@ -1,13 +1,12 @@
 //! The answers to some keys, found again by their keys.
 
-ghost use Rattle.std.specs.Prelude.{◌≡◌, ◌+◌, ◌≤◌, IfOk, List, Some, length, map, option_map, true};
+ghost use Rattle.std.specs.Prelude.{◌≡◌, ◌+◌, ◌≤◌, IfOk, find, length, map, true};
 ghost use Rattle.std.specs.Option.{option_copied};
-ghost use Rattle.s57_types.specs.declared.cell.Cell.{Cell as SpecCell};
 ghost use Rattle.std.specs.List.Sorted.{IsBinarySearchResult, IsSearchInRange};
-ghost use Rattle.cell_spec.specs.{declared.key.Key.{Key as SpecKey}, declared.key.Key.TheVariants.{Name as KeyName}, Ascending.{ascending}};
-ghost use Rattle.cell_spec.specs.Names.{key_order};
+ghost use Rattle.cell_spec.specs.{declared.key.Key.TheVariants.{Name as KeyName}, Ascending.{ascending}};
+ghost use Rattle.cell_spec.specs.Names.{key_order, same_key};
 ghost use Rattle.near_records.specs.declared.near.Answer.{Answer as SpecAnswer};
-ghost use Rattle.near_records.specs.Near.{AreAnswers, IsNear, answer_held, answer_to as spec_answer, has_key};
+ghost use Rattle.near_records.specs.Near.{AreAnswers, FindsAnswer, IsNear, answer_held, answer_to as spec_answer};
 
 use crate::told::Near;
 use cell_spec::{Key, Keys, ascending_keys, keys_ascend, orders_are_by_parts};
@@ -221,12 +220,40 @@ fn place_of(answers: &[Answer<'_>], key: Key) -> Result<usize, usize>
 }
 
 fn find_answer<'a, 'b>(answers: &'b [Answer<'a>], key: Key) -> Option<&'b Answer<'a>>
-    ensures { (c : SpecCell) (keys : List SpecKey) → map answer_held answers.now ≡ map (spec_answer c) (ascending key_order keys)
-        → has_key keys key ≡ true → option_map answer_held (option_copied result) ≡ Some (spec_answer c key) }
+    ensures { FindsAnswer answers.now key (option_copied result) }
 {
     match place_of(answers, key) {
         Ok(k) => Some(&answers[k]),
         Err(_) => None,
+    }
+}
+
+/// Whether an answer is that to a name.
+fn is_to_name(answer: &Answer<'_>, name: RecName) -> bool
+    ensures { result ≡ same_key (KeyName name) answer.now.key }
+{
+    match answer.key {
+        Key::Name(other) => other == name,
+        _ => false,
+    }
+}
+
+fn first_to_name<'a, 'b>(answers: &'b [Answer<'a>], name: RecName) -> Option<&'b Answer<'a>>
+    ensures { option_copied result ≡ find (λ (a : SpecAnswer). same_key (KeyName name) a.key) answers.now }
+{
+    answers.iter().find(|answer| is_to_name(answer, name))
+}
+
+/// At most this many answers are gone through from the front. By halves it takes longer there, as no processor foresees which half is next.
+const FEW_ANSWERS: usize = 16;
+
+fn find_named<'a, 'b>(answers: &'b [Answer<'a>], name: RecName) -> Option<&'b Answer<'a>>
+    ensures { FindsAnswer answers.now (KeyName name) (option_copied result) }
+{
+    if answers.len() <= FEW_ANSWERS {
+        first_to_name(answers, name)
+    } else {
+        find_answer(answers, Key::Name(name))
     }
 }
 
@@ -243,7 +270,7 @@ impl<'a> Near for NearRecords<'a> {
     ghost tells = { λ near c keys. IsNear c keys near };
 
     fn record(&self, name: RecName) -> Option<&Rec> {
-        match find_answer(&self.answers, Key::Name(name)) {
+        match find_named(&self.answers, name) {
             Some(answer) => answer.record,
             None => None,
         }
