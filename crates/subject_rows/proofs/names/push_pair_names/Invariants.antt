@@ -7,4 +7,4 @@ use Rattle.subject_rows.proofs.names.push_pair_names.Given as goal
 abbrev pub invariant-loop-subject : goal.invariant-loop-subject
 invariant-loop-subject l =
     ((n : RecName) → is_among l.names.items n ≡ (is_among l.fn.names.items n || is_among (flat_map names_of_pair (take l.subject-index l.subjects)) n))
-    × AreThere l.before l.names.items
+    × AreThere l.known l.names.items
