@@ -48,10 +48,10 @@ fn enter_fresh<B: Look, L: Ledger>(
     ensures steps { steps.new ≤ steps.old + 4 * reads_anew (B.cell look.now) ready.now.stale ready.now.rows subject }
 {
     match ready.get(place, subject) {
-        Some(row) => rejudged.enter(alloc, row),
+        Some(row) => rejudged.enter_copy(alloc, row),
         None => {
             let row = row_of(alloc, look, subject, steps)?;
-            rejudged.enter(alloc, &row)
+            rejudged.enter(alloc, row)
         }
     }
 }
@@ -131,7 +131,7 @@ fn enter_all(alloc: Global, rows: &[Row], rejudged: &mut Rejudged) -> Result<(),
     ensures err { IfErr result (IsFull (rejudged.old.fresh + fresh_among rows.now)) }
 {
     for row in rows {
-        rejudged.enter(alloc, row)?;
+        rejudged.enter_copy(alloc, row)?;
     }
     Ok(())
 }

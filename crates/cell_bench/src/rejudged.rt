@@ -1,7 +1,6 @@
 //! What judging subjects anew makes of the findings and of the read sets.
 
-ghost use Rattle.std.specs.Prelude.{◌≡◌, ◌+◌, ◌++◌, ◌≤◌, IfErr, IfOk, OnOk, length};
-ghost use Rattle.std.specs.Option.{option_copied};
+ghost use Rattle.std.specs.Prelude.{◌≡◌, ◌+◌, ◌++◌, ◌≤◌, IfErr, IfOk, OnOk, length, true};
 ghost use Rattle.history_spec.specs.Steps.{finding_limit};
 ghost use Rattle.cell_bench.specs.Limits.{IsFull};
 ghost use Rattle.cell_bench.specs.Rejudging.{change_of, unchanged, with_change, with_row_of, without_all};
@@ -15,6 +14,9 @@ use history_spec::StateRefusal;
 use s57_types::Duplicate;
 use std::alloc::{AllocError, Global};
 use std::marker::Model;
+
+/// For how many changes of read sets there is room at first: few edits of one record make more.
+const USUAL_CHANGES: usize = 16;
 
 /// The findings so far, the changes of read sets so far, and how many of the findings are fresh.
 pub(crate) struct Rejudged {
@@ -54,7 +56,7 @@ impl Rejudged {
     {
         Ok(Rejudged {
             verdicts: verdicts.share()?,
-            changes: Vec::new(alloc),
+            changes: Vec::with_capacity(alloc, USUAL_CHANGES)?,
             fresh: 0,
         })
     }
@@ -72,16 +74,15 @@ impl Rejudged {
         alloc: Global,
         subject: Subject,
         findings: Findings,
-        reads: Option<&Keys>,
+        reads: Option<Keys>,
     ) -> Result<(), AllocError>
         requires { self.old.fresh + length findings ≤ finding_limit }
-        ensures { OnOk result (self.new ≡ with_change self.old subject findings (option_copied reads.entry)) }
+        ensures { OnOk result (self.new ≡ with_change self.old subject findings reads) }
     {
         let count = findings.len() as u32;
         self.verdicts.put(alloc, subject, findings)?;
         self.fresh += count;
-        push_change(alloc, &mut self.changes, subject, reads)?;
-        Ok(())
+        push_change(&mut self.changes, subject, reads)
     }
 
     /// Takes out what subjects have, which are none of the edited cell.
@@ -96,19 +97,46 @@ impl Rejudged {
         Ok(())
     }
 
+    // Whether a row changes nothing, as those of most pairs: one without findings, which had none. What a pair reads isn't kept.
+    fn is_unchanged_by(&self, row: &Row) -> bool
+        ensures { result ≡ true → with_row_of self.now row.now ≡ self.now }
+    {
+        matches!(row.subject, Subject::Pair(..))
+            && row.findings.is_empty()
+            && self.verdicts.lacks(&row.subject)
+    }
+
     /// Gives a subject what its row says.
     ///
     /// An `Err` says that there are more fresh findings than the cell may have, or is out of memory.
-    pub(crate) fn enter(&mut self, alloc: Global, row: &Row) -> Result<(), PlanRefusal>
+    pub(crate) fn enter(&mut self, alloc: Global, row: Row) -> Result<(), PlanRefusal>
+        ensures ok { OnOk result (self.new ≡ with_row_of self.old row) }
+        ensures err { IfErr result (IsFull (self.old.fresh + length row.findings)) }
+    {
+        if self.is_unchanged_by(&row) {
+            return Ok(());
+        }
+        let Row {
+            subject,
+            findings,
+            reads,
+        } = row;
+        if findings.len() > self.room() {
+            return Err(PlanRefusal::State(StateRefusal::FindingsFull));
+        }
+        self.give(alloc, subject, findings, Some(reads))?;
+        Ok(())
+    }
+
+    /// The same of a row that stays where it is: only one that changes something is copied.
+    pub(crate) fn enter_copy(&mut self, alloc: Global, row: &Row) -> Result<(), PlanRefusal>
         ensures ok { OnOk result (self.new ≡ with_row_of self.old row.now) }
         ensures err { IfErr result (IsFull (self.old.fresh + length row.now.findings)) }
     {
-        if row.findings.len() > self.room() {
-            return Err(PlanRefusal::State(StateRefusal::FindingsFull));
+        if self.is_unchanged_by(row) {
+            return Ok(());
         }
-        let findings = row.findings.copy(alloc)?;
-        self.give(alloc, row.subject, findings, Some(&row.reads))?;
-        Ok(())
+        self.enter(alloc, copy_of(alloc, row)?)
     }
 
     /// The findings, and the changes of read sets.
@@ -125,29 +153,28 @@ impl Rejudged {
     }
 }
 
-// Appends the change of what a subject reads. There is none for a pair, so that what that reads isn't copied.
+// Appends the change of what a subject reads. There is none for a pair.
 fn push_change(
-    alloc: Global,
     changes: &mut Vec<ReadChange>,
     subject: Subject,
-    reads: Option<&Keys>,
+    reads: Option<Keys>,
 ) -> Result<(), AllocError>
-    ensures { OnOk result (changes.new.items ≡ changes.old.items ++ change_of subject (option_copied reads.entry)) }
+    ensures { OnOk result (changes.new.items ≡ changes.old.items ++ change_of subject reads) }
 {
     if let Subject::Pair(..) = subject {
         return Ok(());
     }
-    let reads = copy_of(alloc, reads)?;
     changes.push(ReadChange { subject, reads })?;
     Ok(())
 }
 
-// A copy of the keys, if there are any.
-fn copy_of(alloc: Global, keys: Option<&Keys>) -> Result<Option<Keys>, AllocError>
-    ensures { IfOk result (λ copy. copy ≡ option_copied keys.entry) }
+// A copy of a row.
+fn copy_of(alloc: Global, row: &Row) -> Result<Row, AllocError>
+    ensures { IfOk result (λ copy. copy ≡ row.now) }
 {
-    match keys {
-        Some(keys) => Ok(Some(keys.copy(alloc)?)),
-        None => Ok(None),
-    }
+    Ok(Row {
+        subject: row.subject,
+        findings: row.findings.copy(alloc)?,
+        reads: row.reads.copy(alloc)?,
+    })
 }

@@ -88,8 +88,8 @@ impl Verdicts {
         }
     }
 
-    // Whether a subject has no row, so that nothing goes where it has no findings any more.
-    fn lacks(&self, subject: &Subject) -> bool
+    /// Whether a subject has no row, so that nothing goes where it has no findings any more.
+    pub(crate) fn lacks(&self, subject: &Subject) -> bool
         ensures { result ≡ true → without_key subject_order self.now subject.now ≡ self.now }
     {
         orders_are_by_parts();
