@@ -1,9 +1,10 @@
 -- The records of a file in windows, one after the other.
-use Rattle.std.specs.Prelude.{◌≡◌, ◌≤◌, ◌+◌, ℕ, false, All, List, [], ◌∷◌, None, Ok, Vec}
+use Rattle.std.specs.Prelude.{◌≡◌, ◌≤◌, ◌+◌, ℕ, false, true, nat_le, All, List, [], ◌∷◌, None, Ok, Vec}
 use Rattle.std.specs.Global.{Global}
 use Rattle.std.specs.List.{flat_map}
 use Rattle.frame_spec.specs.FrameDecision.{frame_at}
 use Rattle.frame_spec.specs.RecordFrame.{FrameView}
+use Rattle.s57_types.specs.RecordFields.{written_length, length_limit}
 use Rattle.s57_types.specs.declared.cell.Cell.{Cell}
 use Rattle.s57_types.specs.declared.name.Kind.TheVariants.{Head}
 use Rattle.s57_types.specs.declared.record.Rec.{Rec}
@@ -23,15 +24,23 @@ AreWindows from to (window ∷ windows) = (window.from ≡ from) × (window.to �
 abbrev pub IsKeptOfFrame : ℕ → FrameView → Rec → Type 0
 IsKeptOfFrame nall frame rec = IsKeptOfSaid nall rec (record_said nall frame.fields)
 
--- what is kept of the records from a place to another, each behind the one before
+-- a record that isn't too long when it is written again
+abbrev pub IsShort : ℕ → Rec → Type 0
+IsShort nall rec = nat_le (written_length nall rec) length_limit ≡ true
+
+-- what is kept of the records from a place to another, each behind the one before, none of which is too long
 abbrev pub AreKeptFrom : ℕ → List ℕ → ℕ → ℕ → List Rec → Type 0
 AreKeptFrom nall b from to [] = from ≡ to
 AreKeptFrom nall b from to (rec ∷ recs) =
-    (frame : FrameView) × (frame_at b from false ≡ Ok frame) × IsKeptOfFrame nall frame rec × AreKeptFrom nall b (from + frame.length) to recs
+    (frame : FrameView) × (frame_at b from false ≡ Ok frame) × IsKeptOfFrame nall frame rec × IsShort nall rec
+    × AreKeptFrom nall b (from + frame.length) to recs
 
--- records that stand in the lists of a cell
-abbrev pub AreListed : List Rec → Type 0
-AreListed recs = All (λ (r : Rec). is_of_kind Head (name_of r) ≡ false) recs
+-- a record that stands in the lists of a cell, and isn't too long when it is written again
+abbrev pub IsListed : ℕ → Rec → Type 0
+IsListed nall r = (is_of_kind Head (name_of r) ≡ false) × IsShort nall r
+
+abbrev pub AreListed : ℕ → List Rec → Type 0
+AreListed nall recs = All (IsListed nall) recs
 
 -- the records of windows
 abbrev pub records_in : List (Vec Rec Global) → List Rec

@@ -13,6 +13,7 @@ use crate::reading::{Reading, add_record, empty_reading};
 use crate::records::read_record;
 use crate::refusal::{ReadRefusal, RecordRefusal};
 use iso_frame::next_record;
+use record_fit::is_short;
 use s57_types::{Cell, Dsid, Dspm, Dssi, Head};
 use std::alloc::Global;
 
@@ -33,7 +34,8 @@ fn read_next(
 {
     let frame = next_record(bytes, at, false)?;
     let rec = read_record(alloc, reading.cell.head.nall, &frame)?;
-    add_record(reading, rec)?;
+    let short = is_short(&rec, reading.cell.head.nall);
+    add_record(reading, rec, short)?;
     Ok(frame.length())
 }
 

@@ -1,6 +1,7 @@
 //! A cell that grows by the records of its file.
 
-ghost use Rattle.std.specs.Prelude.{◌≡◌, ◌==◌, false, None, OnOk, IfErr};
+ghost use Rattle.std.specs.Prelude.{◌≡◌, ◌==◌, false, nat_le, None, OnOk, IfErr};
+ghost use Rattle.s57_types.specs.RecordFields.{written_length, length_limit};
 ghost use Rattle.s57_types.specs.declared.name.Kind.TheVariants.{Head as HeadKind};
 ghost use Rattle.cell_spec.specs.Lookup.{name_of};
 ghost use Rattle.cell_spec.specs.Names.{is_of_kind, kind_rank};
@@ -12,7 +13,6 @@ ghost use Rattle.cell_read.specs.RecordsFrom.{following_fault};
 use crate::names::Names;
 use crate::refusal::RecordRefusal;
 use file_spec::RecordFault;
-use record_fit::is_short;
 use s57_types::{Cell, Head, Kind, Rec, Recs};
 use std::alloc::{AllocError, Global};
 
@@ -59,9 +59,11 @@ fn push_record(cell: &mut Cell, kind: Kind, rec: Rec) -> Result<(), AllocError>
     }
 }
 
-/// Adds a record behind the others: its name is new, it isn't too long when it is written again, and there is room.
-pub fn add_record(reading: &mut Reading, rec: Rec) -> Result<(), RecordRefusal>
+/// Adds a record behind the others: its name is new, it isn't too long when it is written again, and there is room. Its length was judged before,
+/// since the thread that decodes a record can do that.
+pub fn add_record(reading: &mut Reading, rec: Rec, short: bool) -> Result<(), RecordRefusal>
     requires listed { is_of_kind HeadKind (name_of rec) ≡ false }
+    requires short { short ≡ nat_le (written_length reading.old.cell.head.nall rec) length_limit }
     requires known { IsKnown reading.old }
     ensures known { OnOk result (IsKnown reading.new) }
     ensures cell { OnOk result (reading.new.cell ≡ with_record rec reading.old.cell) }
@@ -72,7 +74,7 @@ pub fn add_record(reading: &mut Reading, rec: Rec) -> Result<(), RecordRefusal>
     if !reading.names.add(name)? {
         return Err(RecordRefusal::Fault(RecordFault::TwiceName));
     }
-    if !is_short(&rec, reading.cell.head.nall) {
+    if !short {
         return Err(RecordRefusal::Fault(RecordFault::TooLong));
     }
     if reading.count >= RECORD_LIMIT {

@@ -12,12 +12,14 @@ use crate::refusal::{ReadRefusal, RecordRefusal};
 use file_spec::RecordFault;
 use iso_frame::{next_record, told_length};
 use rayon::prelude::*;
+use record_fit::is_short;
 use s57_types::{Cell, Head, Rec};
 use std::alloc::{AllocError, Global};
 use std::thread::Threads;
 
-/// How many records a thread decodes at a time. A file with fewer starts no thread.
-const WINDOW: usize = 1024;
+/// How many records a thread decodes at a time. A file with fewer starts no thread. A list of so many lies just below the size from which
+/// the system maps and clears memory of its own for each list.
+const WINDOW: usize = 896;
 
 /// A part of a file: the place of its first record, and the one behind its last.
 #[derive(Clone, Copy)]
@@ -68,8 +70,8 @@ fn windows_from(alloc: Global, bytes: &[u8], start: usize) -> Result<Vec<Window>
     Ok(windows)
 }
 
-/// The records of a window, each by itself; national attributes are at the level NALL. An `Err` says that some record has a fault, that they
-/// don't end where the window does, or that memory ran out.
+/// The records of a window, each by itself; national attributes are at the level NALL. An `Err` says that some record has a fault or is too long
+/// when it is written again, that they don't end where the window does, or that memory ran out.
 fn read_window(
     alloc: Global,
     nall: u8,
@@ -84,6 +86,9 @@ fn read_window(
     while at < window.to {
         let frame = next_record(bytes, at, false)?;
         let rec = read_record(alloc, nall, &frame)?;
+        if !is_short(&rec, nall) {
+            return Err(RecordRefusal::Fault(RecordFault::TooLong));
+        }
         if recs.push(rec).is_err() {
             return Err(RecordRefusal::NoMemory);
         }
@@ -119,22 +124,22 @@ fn read_windows<R: Threads + Sync>(
     read
 }
 
-/// Adds the records of a window behind the others.
+/// Adds the records of a window behind the others. The thread that decoded them judged their lengths.
 fn add_window(reading: &mut Reading, window: Vec<Rec>) -> Result<(), RecordRefusal>
-    requires listed { AreListed window.items }
+    requires listed { AreListed reading.old.cell.head.nall window.items }
     requires known { IsKnown reading.old }
     ensures known { OnOk result (IsKnown reading.new) }
     ensures added { OnOk result (AreAdded reading.old.cell window.items reading.new.cell) }
 {
     for rec in window {
-        add_record(reading, rec)?;
+        add_record(reading, rec, true)?;
     }
     Ok(())
 }
 
 /// The cell of a head and of the records of windows.
 fn joined(alloc: Global, head: Head, windows: Vec<Vec<Rec>>) -> Result<Cell, RecordRefusal>
-    requires { AreListed (records_in windows.items) }
+    requires { AreListed head.nall (records_in windows.items) }
     ensures { IfOk result (λ cell. AreAdded (empty_cell head) (records_in windows.items) cell) }
 {
     let mut reading = empty_reading(alloc, head);

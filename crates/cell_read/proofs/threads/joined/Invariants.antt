@@ -7,6 +7,6 @@ use Rattle.cell_read.proofs.threads.joined.Given as goal
 abbrev pub invariant-loop-window : goal.invariant-loop-window
 invariant-loop-window l = record {
   known : IsKnown l.reading;
-  listed : AreListed (records_in l.window-iterator.rest.items);
+  listed : AreListed l.reading.cell.head.nall (records_in l.window-iterator.rest.items);
   added : (d : Cell) → AreAdded l.reading.cell (records_in l.window-iterator.rest.items) d → AreAdded (empty_cell l.fn.head) (records_in l.fn.windows.items) d;
 }

@@ -17,4 +17,5 @@ loop-at-preserved c =
     let more = c.push.ensures.items ∙ ap (λ b. cond b (recs ++ rec ∷ []) recs) (c.is_err.ensures.negation ∙ ap not c.if-is_err.false) in
     subst (λ at. AreKeptFrom c.args.nall bytes from at c.push.new.self.items) (ap (λ n. c.loop-at.at + n) (sym c.length-at.ensures))
     (subst (AreKeptFrom c.args.nall bytes from (c.loop-at.at + frame.length)) (sym more)
-    (kept_more c.args.nall bytes from c.loop-at.at recs frame rec c.loop-at.invariant (sym c.in_ok-frame.ensures.exact) c.in_ok-rec.ensures))
+    (kept_more c.args.nall bytes from c.loop-at.at recs frame rec c.loop-at.invariant (sym c.in_ok-frame.ensures.exact) c.in_ok-rec.ensures
+    (sym c.if-not-is_short.ensures)))
