@@ -3,6 +3,7 @@
 #![tactic(auto)]
 
 mod judging;
+mod known;
 mod loading;
 mod pairs;
 mod parts;

@@ -7,6 +7,7 @@ ghost use Rattle.rule_spec.specs.Affected.{RowsAreExact};
 ghost use Rattle.recheck.specs.Preparing.{edited_rows, prepared_rows};
 
 use crate::judging::judge_all;
+use crate::known::KnownLook;
 use crate::parts::parts_of;
 use cell_bench::{Bench, BenchPlan, PlanRefusal, Prepared, Reach};
 use cell_overlay::Overlay;
@@ -47,8 +48,9 @@ impl<'a, 'b> Proposal<'a, 'b> {
         let subjects = reach.judged.as_slice();
         let names = part_names(alloc, subjects)?;
         let names = names.as_slice();
-        let parts = parts_of(rt, alloc, &over, names)?;
-        judge_all(rt, alloc, &over, &parts, subjects)
+        let known = KnownLook::keeping(&over, names, steps);
+        let parts = parts_of(rt, alloc, &known, names)?;
+        judge_all(rt, alloc, &known, &parts, subjects)
     }
 
     /// The bench that edits leave, built of these rows. One with too many findings isn't built: those are told in the turn.
