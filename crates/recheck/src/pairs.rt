@@ -1,7 +1,8 @@
 //! The rows of pairs of which both were gathered.
 
-ghost use Rattle.std.specs.Prelude.{◌≡◌, ◌+◌, ◌*◌, ◌≤◌, All, IfOk, IfSome, IsTrue, true};
+ghost use Rattle.std.specs.Prelude.{◌≡◌, All, IfOk, IfSome, IsTrue};
 ghost use Rattle.s57_types.specs.declared.cell.Cell.{Cell as SpecCell};
+ghost use Rattle.cell_spec.specs.declared.key.Subject.TheVariants.{Pair as SpecPair};
 ghost use Rattle.check_pairs.specs.Parts.{IsPart};
 ghost use Rattle.rule_spec.specs.Affected.{exact_row};
 ghost use Rattle.rule_spec.specs.Findings.{is_subject};
@@ -62,25 +63,22 @@ fn part_near<'a, 'b>(
     Some(part)
 }
 
-/// The row of a pair of which both are among these parts.
-fn row_among(
-    alloc: Global,
-    parts: &[ChainPart<'_>],
+/// The two of a pair, if both are among these parts.
+fn both_among<'a, 'b>(
+    parts: &'b [ChainPart<'a>],
     near: &mut PairPlaces,
     subject: Subject,
-) -> Result<Option<Row>, AllocError>
-    ensures { (c : SpecCell) → All (IsPart c) parts.now → is_subject c subject ≡ true → IfOk result (λ row. IfSome row (λ row. row ≡ exact_row c subject)) }
+) -> Option<(&'b ChainPart<'a>, &'b ChainPart<'a>)>
+    ensures named { IfSome result (λ both. subject ≡ SpecPair both.0.now.name both.1.now.name) }
+    ensures first { (c : SpecCell) → All (IsPart c) parts.now → IfSome result (λ both. IsPart c both.0.now) }
+    ensures second { (c : SpecCell) → All (IsPart c) parts.now → IfSome result (λ both. IsPart c both.1.now) }
 {
     let Subject::Pair(first, second) = subject else {
-        return Ok(None);
+        return None;
     };
-    let Some(first) = part_near(parts, &mut near.first, first) else {
-        return Ok(None);
-    };
-    let Some(second) = part_near(parts, &mut near.second, second) else {
-        return Ok(None);
-    };
-    Ok(Some(pair_row(alloc, first, second)?))
+    let first = part_near(parts, &mut near.first, first)?;
+    let second = part_near(parts, &mut near.second, second)?;
+    Some((first, second))
 }
 
 /// The row of a subject of a cell. The parts are connected nodes and edges of the cell, in the order of their names: a pair of which both are
@@ -99,8 +97,8 @@ pub(crate) fn row_by_parts<B: Look, L: Ledger>(
     requires parts { All (IsPart (B.cell look.now)) parts.now }
     ensures { IfOk result (λ row. row ≡ exact_row (B.cell look.now) subject) }
 {
-    match row_among(alloc, parts, near, subject)? {
-        Some(row) => Ok(row),
+    match both_among(parts, near, subject) {
+        Some((first, second)) => pair_row(alloc, first, second),
         None => row_of(alloc, look, subject, steps),
     }
 }

@@ -40,6 +40,23 @@ fn find<'a, B: Look>(alloc: Global, look: &'a B, name: RecName) -> Result<ChainP
     counted::<B, Brand>(alloc, look, name, Blank::new(1))
 }
 
+/// The connected nodes and edges of a few names, one after the other.
+fn few_parts<'a, B: Look>(
+    alloc: Global,
+    look: &'a B,
+    names: &[RecName],
+) -> Result<Vec<ChainPart<'a>>, AllocError>
+    requires { All (λ n. IsTrue (is_chain_part (B.cell look.now) n)) names.now }
+    ensures { IfOk result (λ parts. All (IsPart (B.cell look.now)) parts.items) }
+{
+    let mut parts = Vec::with_capacity(alloc, names.len())?;
+    for name in names {
+        let part = find(alloc, look, *name)?;
+        parts.push(part)?;
+    }
+    Ok(parts)
+}
+
 /// The connected nodes and edges of names, in their order, each looked up once. Threads share them where there are many.
 ///
 /// An `Err` is out of memory.
@@ -52,6 +69,9 @@ pub(crate) fn parts_of<'a, R: Threads + Sync, B: Look + Sync>(
     requires { All (λ n. IsTrue (is_chain_part (B.cell look.now) n)) names.now }
     ensures { IfOk result (λ parts. All (IsPart (B.cell look.now)) parts.items) }
 {
+    if names.len() < FEWEST {
+        return few_parts(alloc, look, names);
+    }
     let parts = names
         .par_iter()
         .with_min_len(FEWEST)
