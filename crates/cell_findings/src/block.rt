@@ -23,17 +23,26 @@ pub(crate) enum Block<'a> {
     Identities(&'a [Lnam]),
 }
 
-/// Into about how many blocks all is cut, each of about the same work.
-const BLOCKS: usize = 64;
+/// Into about how many blocks all is cut, each of about the same work: many for each thread, so that threads end together.
+const BLOCKS: usize = 256;
 
-/// The least work of a block: less isn't worth a thread.
-const LEAST_WORK: usize = 1024;
+/// The work of a node or an edge as a record. That of others is told by the instructions that each takes.
+const RECORD_WORK: usize = 5;
 
-/// The work of a feature, where that of a node, an edge, a side or an identifier is 1.
-const FEATURE_WORK: usize = 8;
+/// The work of a feature.
+const FEATURE_WORK: usize = 55;
+
+/// The work of a side of an edge.
+const SIDE_WORK: usize = 10;
 
 /// The work of a connected node or an edge with those near it.
-const PAIRS_WORK: usize = 8;
+const PAIRS_WORK: usize = 35;
+
+/// The work of an identifier.
+const IDENTITY_WORK: usize = 7;
+
+/// The least work of a block: less isn't worth a thread.
+const LEAST_WORK: usize = 1024 * RECORD_WORK;
 
 /// Appends records in blocks of at most `len`.
 fn push_record_blocks<'a>(
@@ -144,16 +153,17 @@ impl<'a> Drop for Judged<'a> {
 }
 
 impl<'a> Judged<'a> {
-    /// The work of judging all, where that of a node is 1.
+    /// The work of judging all.
     fn work(&self) -> usize {
         let names = self.names.as_slice();
-        let features = names.len() - first_feature(names);
-        names
-            .len()
-            .saturating_add(self.edges.len())
-            .saturating_add(self.identities.len())
+        let others = first_feature(names);
+        let features = names.len() - others;
+        others
+            .saturating_mul(RECORD_WORK)
             .saturating_add(features.saturating_mul(FEATURE_WORK))
+            .saturating_add(self.edges.len().saturating_mul(SIDE_WORK))
             .saturating_add(self.placed.leaves.len().saturating_mul(PAIRS_WORK))
+            .saturating_add(self.identities.len().saturating_mul(IDENTITY_WORK))
     }
 
     /// All of it in blocks of about the same work, in the order of subjects.
@@ -168,11 +178,11 @@ impl<'a> Judged<'a> {
         let names = self.names.as_slice();
         let (others, features) = names.split_at(first_feature(names));
         let mut cut = Vec::new(alloc);
-        push_record_blocks(&mut cut, others, block_len(work, 1))?;
+        push_record_blocks(&mut cut, others, block_len(work, RECORD_WORK))?;
         push_record_blocks(&mut cut, features, block_len(work, FEATURE_WORK))?;
-        push_side_blocks(&mut cut, &self.edges, block_len(work, 1))?;
+        push_side_blocks(&mut cut, &self.edges, block_len(work, SIDE_WORK))?;
         push_pair_blocks(&mut cut, &self.placed.leaves, block_len(work, PAIRS_WORK))?;
-        push_identity_blocks(&mut cut, &self.identities, block_len(work, 1))?;
+        push_identity_blocks(&mut cut, &self.identities, block_len(work, IDENTITY_WORK))?;
         Ok(cut)
     }
 }

@@ -10,6 +10,7 @@ mod list;
 mod names;
 mod pairing;
 mod part;
+mod part_window;
 mod refusal;
 mod search;
 mod single;

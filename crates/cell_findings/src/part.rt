@@ -1,14 +1,15 @@
 //! Connected nodes and edges with the boxes around them.
 
-ghost use Rattle.std.specs.Prelude.{◌≡◌, ◌≤◌, ◌+◌, ◌++◌, [], All, IfOk, IfSome, IsPermutation, IsTrue, OnOk};
+ghost use Rattle.std.specs.Prelude.{◌≡◌, ◌≤◌, ◌+◌, All, IfOk, IfSome, IsPermutation, IsTrue};
 ghost use Rattle.s57_types.specs.declared.cell.Cell.{Cell as SpecCell};
 ghost use Rattle.s57_types.specs.declared.name.RecName.{RecName as SpecRecName};
 ghost use Rattle.check_pairs.specs.Parts.{IsPart};
 ghost use Rattle.rule_spec.specs.EdgePoints.{node_position};
 ghost use Rattle.rule_spec.specs.Records.{is_chain_part, the_only};
-ghost use Rattle.cell_findings.specs.Near.{leaves_at, leaves_in};
-ghost use Rattle.cell_findings.specs.Parts.{AreParts};
+ghost use Rattle.cell_findings.specs.Near.{leaves_in};
+ghost use Rattle.cell_findings.specs.Parts.{AreParts, HaveParts, leaves_of_windows};
 
+use crate::part_window::PartWindow;
 use box_tree::{BoxTree, Leaf};
 use chain_topo::{ListLook, Look, Steps};
 use check_pairs::{ChainPart, part_named};
@@ -39,82 +40,59 @@ pub(crate) fn position_at<B: Look, L: Ledger>(
     }
 }
 
-/// Connected nodes and edges of a cell in the order of their names, and the boxes around those that have a point.
+/// Where the connected nodes or the edges begin among ascending names: the place of the first one, and its number.
+#[derive(Clone, Copy)]
+struct Beginning {
+    place: usize,
+    id: u32,
+}
+
+impl Beginning {
+    /// That of the names from a place on.
+    fn at(names: &[RecName], place: usize) -> Beginning {
+        let id = match names.get(place) {
+            Some(name) => name.id,
+            None => 0,
+        };
+        Beginning { place, id }
+    }
+
+    /// The place of a number where none is left out between it and the first one.
+    fn place_of(self, id: u32) -> usize {
+        let behind = id.saturating_sub(self.id) as usize;
+        self.place.saturating_add(behind)
+    }
+}
+
+/// Connected nodes and edges of a cell in the order of their names, in windows of which all but the last are equally long, and the
+/// boxes around those that have a point.
 pub(crate) struct PlacedParts<'a> {
-    pub(crate) nodes: Vec<ChainPart<'a>>,
-    pub(crate) edges: Vec<ChainPart<'a>>,
+    windows: Vec<PartWindow<'a>>,
     pub(crate) leaves: Vec<Leaf>,
+    nodes: Beginning,
+    edges: Beginning,
 }
 
 impl<'a> Drop for PlacedParts<'a> {
     fn drop(self) {
         let PlacedParts {
+            windows: _,
+            leaves: _,
             nodes: _,
             edges: _,
-            leaves: _,
         } = self;
     }
 }
 
-fn push_leaf(leaves: &mut Vec<Leaf>, part: &ChainPart) -> Result<(), AllocError>
-    ensures { OnOk result ((c : SpecCell) → IsPart c part.now → leaves.new.items ≡ leaves.old.items ++ leaves_at c part.now.name) }
+/// The boxes of windows, one window after the other. There is memory for `count` of them.
+fn leaves_of(alloc: Global, windows: &[PartWindow], count: usize) -> Result<Vec<Leaf>, AllocError>
+    ensures { IfOk result (λ leaves. leaves.items ≡ leaves_of_windows windows.now) }
 {
-    if let Some(around) = part.extent() {
-        leaves.push(Leaf {
-            name: part.name(),
-            around,
-        })?;
+    let mut leaves = Vec::with_capacity(alloc, count)?;
+    for window in windows {
+        leaves.extend_from_slice(&window.leaves)?;
     }
-    Ok(())
-}
-
-impl<'a> PlacedParts<'a> {
-    /// No parts, with the memory for `count` boxes.
-    ///
-    /// An `Err` means out of memory.
-    pub(crate) fn with_capacity(alloc: Global, count: usize) -> Result<PlacedParts<'a>, AllocError>
-        ensures nodes { IfOk result (λ placed. placed.nodes.items ≡ []) }
-        ensures edges { IfOk result (λ placed. placed.edges.items ≡ []) }
-        ensures leaves { IfOk result (λ placed. placed.leaves.items ≡ []) }
-    {
-        Ok(PlacedParts {
-            nodes: Vec::new(alloc),
-            edges: Vec::new(alloc),
-            leaves: Vec::with_capacity(alloc, count)?,
-        })
-    }
-
-    /// Appends a connected node or an edge, and the box around it.
-    pub(crate) fn push(&mut self, part: ChainPart<'a>) -> Result<(), AllocError>
-        ensures parts { OnOk result ((c : SpecCell) → IsPart c part.entry → AreParts c self.old → AreParts c self.new) }
-        ensures leaves { OnOk result ((c : SpecCell) → IsPart c part.entry → self.new.leaves.items ≡ self.old.leaves.items ++ leaves_at c part.entry.name) }
-    {
-        push_leaf(&mut self.leaves, &part)?;
-        if is_edge_name(part.name()) {
-            self.edges.push(part)?;
-            return Ok(());
-        }
-        self.nodes.push(part)?;
-        Ok(())
-    }
-}
-
-/// Appends the connected node or the edge of a name, which is looked up, and the box around it.
-fn push_part<'a, L: Ledger>(
-    alloc: Global,
-    placed: &mut PlacedParts<'a>,
-    look: &'a ListLook,
-    name: RecName,
-    steps: &mut Steps<L>,
-) -> Result<(), AllocError>
-    requires named { IsTrue (is_chain_part look.now name) }
-    requires parts { AreParts look.now placed.old }
-    ensures parts { OnOk result (AreParts look.now placed.new) }
-    ensures leaves { OnOk result (placed.new.leaves.items ≡ placed.old.leaves.items ++ leaves_at look.now name) }
-{
-    let part = ChainPart::find(alloc, look, name, steps)?;
-    placed.push(part)?;
-    Ok(())
+    Ok(leaves)
 }
 
 /// The connected nodes and edges of some names, each looked up once, with the least box around the points of each.
@@ -128,33 +106,32 @@ pub(crate) fn parts_of<'a, L: Ledger>(
     ensures parts { IfOk result (AreParts look.now) }
     ensures leaves { IfOk result (λ placed. placed.leaves.items ≡ leaves_in look.now names.now) }
 {
-    let mut placed = PlacedParts::with_capacity(alloc, names.len())?;
-    for name in names {
-        push_part(alloc, &mut placed, look, *name, steps)?;
-    }
-    Ok(placed)
-}
-
-/// The place of a name among ascending parts of one kind where no number is left out between them.
-fn likely_place(parts: &[ChainPart], name: RecName) -> usize {
-    match parts.first() {
-        Some(part) => name.id.saturating_sub(part.name().id) as usize,
-        None => 0,
-    }
-}
-
-/// The part of a name among ascending ones of its kind.
-fn part_among<'a, 'b>(parts: &'b [ChainPart<'a>], name: RecName) -> Option<&'b ChainPart<'a>>
-    ensures named { IfSome result (λ part. part.now.name ≡ name) }
-    ensures held { (c : SpecCell) → All (IsPart c) parts.now → IfSome result (λ part. IsPart c part.now) }
-{
-    match parts.get(likely_place(parts, name)) {
-        Some(part) if part.name() == name => Some(part),
-        _ => part_named(parts, name),
-    }
+    let window = PartWindow::find(alloc, look, names, steps)?;
+    PlacedParts::of_windows(alloc, vec![in alloc; window]?, names)
 }
 
 impl<'a> PlacedParts<'a> {
+    /// The parts in windows of these names.
+    ///
+    /// An `Err` means out of memory.
+    pub(crate) fn of_windows(
+        alloc: Global,
+        windows: Vec<PartWindow<'a>>,
+        names: &[RecName],
+    ) -> Result<PlacedParts<'a>, AllocError>
+        ensures parts { IfOk result (λ placed. (c : SpecCell) → HaveParts c windows.entry.items → AreParts c placed) }
+        ensures leaves { IfOk result (λ placed. placed.leaves.items ≡ leaves_of_windows windows.entry.items) }
+    {
+        let leaves = leaves_of(alloc, &windows, names.len())?;
+        let first_edge = names.partition_point(|name| !is_edge_name(*name));
+        Ok(PlacedParts {
+            windows,
+            leaves,
+            nodes: Beginning::at(names, 0),
+            edges: Beginning::at(names, first_edge),
+        })
+    }
+
     /// The tree of the boxes.
     pub(crate) fn tree(&self, alloc: Global) -> Result<BoxTree, AllocError>
         ensures { IfOk result (λ tree. IsPermutation self.now.leaves.items tree) }
@@ -162,14 +139,40 @@ impl<'a> PlacedParts<'a> {
         BoxTree::make(alloc, self.leaves.to_vec(alloc)?)
     }
 
+    /// The part at the place of a name where no number is left out between it and the first of its kind.
+    fn likely_part(&self, name: RecName) -> Option<&ChainPart<'a>>
+        ensures { (c : SpecCell) → AreParts c self.now → IfSome result (λ part. IsPart c part.now) }
+    {
+        let beginning = match name.kind {
+            Kind::Ve => self.edges,
+            _ => self.nodes,
+        };
+        let place = beginning.place_of(name.id);
+        let len = self.windows.first()?.parts.len().max(1);
+        let window = self.windows.get(place / len)?;
+        window.parts.get(place % len)
+    }
+
+    /// The part of a name, sought by halves in the last window that doesn't begin above it.
+    fn sought_part(&self, name: RecName) -> Option<&ChainPart<'a>>
+        ensures named { IfSome result (λ part. part.now.name ≡ name) }
+        ensures held { (c : SpecCell) → AreParts c self.now → IfSome result (λ part. IsPart c part.now) }
+    {
+        let behind = self
+            .windows
+            .partition_point(|window| window.begins_by(name));
+        let window = self.windows.get(behind.saturating_sub(1))?;
+        part_named(&window.parts, name)
+    }
+
     /// The connected node or the edge of a name.
     pub(crate) fn part(&self, name: RecName) -> Option<&ChainPart<'a>>
         ensures named { IfSome result (λ part. part.now.name ≡ name) }
         ensures held { (c : SpecCell) → AreParts c self.now → IfSome result (λ part. IsPart c part.now) }
     {
-        match name.kind {
-            Kind::Ve => part_among(&self.edges, name),
-            _ => part_among(&self.nodes, name),
+        match self.likely_part(name) {
+            Some(part) if part.name() == name => Some(part),
+            _ => self.sought_part(name),
         }
     }
 }
