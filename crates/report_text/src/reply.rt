@@ -11,6 +11,9 @@ use s57_types::{RecName, Unfit};
 use std::alloc::AllocError;
 use text_lines::{push_bytes, push_name, push_number, push_numbered, push_text};
 
+/// How many bytes a line has room for at first: most lines of a session are shorter.
+pub(crate) const LINE_ROOM: usize = 64;
+
 /// Appends the words of why a record can't be written.
 fn push_unfit(out: &mut Vec<u8>, why: Unfit) -> Result<(), AllocError>
     ensures { OnOk result (out.new.items ≡ out.old.items ++ spaced_words (unfit_words why)) }
@@ -142,7 +145,7 @@ pub(crate) fn push_reply(out: &mut Vec<u8>, reply: &Reply) -> Result<(), AllocEr
     ensures ok { OnOk result (out.new.items ≡ out.old.items ++ reply_line reply.now) }
     ensures err { OnErr result (out.new.items ≡ out.old.items) }
 {
-    let mut line = Vec::new(*out.allocator());
+    let mut line = Vec::with_capacity(*out.allocator(), LINE_ROOM)?;
     push_reply_line(&mut line, reply)?;
     push_bytes(out, &line)
 }

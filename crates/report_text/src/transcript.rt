@@ -4,7 +4,7 @@ ghost use Rattle.std.specs.Prelude.{◌≡◌, ◌++◌, [], IfOk, OnErr, OnOk};
 ghost use Rattle.history_spec.specs.ReportText.{draft_line, list_lines, reply_line};
 
 use crate::first::first_findings;
-use crate::reply::{push_reply, push_state};
+use crate::reply::{LINE_ROOM, push_reply, push_state};
 use cell_bench::Bench;
 use cell_findings::push_findings;
 use history_spec::Reply;
@@ -83,7 +83,7 @@ impl Transcript {
         ensures ok { OnOk result (self.new ≡ self.old ++ draft_line count) }
         ensures err { OnErr result (self.new ≡ self.old) }
     {
-        let mut line = Vec::new(*self.lines.allocator());
+        let mut line = Vec::with_capacity(*self.lines.allocator(), LINE_ROOM)?;
         push_draft(&mut line, count)?;
         push_bytes(&mut self.lines, &line)
     }
