@@ -1,6 +1,6 @@
 //! The look-ups of a plan, within a number that was worked out by hand.
 
-ghost use Rattle.std.specs.Prelude.{◌≡◌, ◌+◌, ◌<◌, ◌≤◌, [], ◌∷◌};
+ghost use Rattle.std.specs.Prelude.{◌≡◌, ◌+◌, ◌<◌, ◌≤◌};
 ghost use Rattle.cell_make.specs.Square.{square};
 ghost use Rattle.bench_tests.specs.Moves.{moved_node};
 
@@ -25,14 +25,14 @@ fn move_node<L: Ledger>(
     rt: &impl Abort,
     alloc: Global,
     bench: &mut Bench,
-    edits: &[Edit],
+    edit: Edit,
     steps: &mut Steps<L>,
 ) -> Result<bool, AllocError>
     requires bench { bench.old ≡ square }
-    requires edits { edits.now ≡ moved_node ∷ [] }
+    requires edit { edit ≡ moved_node }
     ensures { steps.new ≤ steps.old + 776 }
 {
-    commit(rt, alloc, bench, edits, steps)
+    commit(rt, alloc, bench, &[edit], steps)
 }
 
 fn check_move<L: Ledger>(rt: &impl Abort, alloc: Global, blank: Blank) -> Result<(), AllocError>
@@ -43,8 +43,8 @@ fn check_move<L: Ledger>(rt: &impl Abort, alloc: Global, blank: Blank) -> Result
     one_square_is_made();
     let mut steps = start_counter::<L>(blank);
     let mut bench = open_bench(rt, alloc, 1, &mut steps)?;
-    let edits = [Edit::Set(node(alloc, 1, (1, 1))?)];
-    assert!(rt; move_node(rt, alloc, &mut bench, &edits, &mut steps)?);
+    let edit = Edit::Set(node(alloc, 1, (1, 1))?);
+    assert!(rt; move_node(rt, alloc, &mut bench, edit, &mut steps)?);
     assert_eq!(rt; bench.finding_count(), 0);
     Ok(())
 }
