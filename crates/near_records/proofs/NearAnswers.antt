@@ -1,5 +1,6 @@
 -- Answers to ascending keys are found again by their keys.
-use Rattle.std.proofs.Common.{◌≡◌, ℕ, ◌+◌, ◌<◌, ◌≤◌, inl, inr, ◌||◌, Bool, true, false, true≢false, Option, Some, List, [], ◌∷◌, length, map, fold, find}
+use Rattle.std.proofs.Common.{◌≡◌, IfOk, Result, Ok, Err, ℕ, ◌+◌, ◌<◌, ◌≤◌, inl, inr, ◌||◌, Bool, true, false, true≢false, Option, Some}
+use Rattle.std.proofs.Common.{List, [], ◌∷◌, length, map, fold, find}
 use Rattle.std.proofs.Common.{cond, get_or, option_map, refl, sym, ap, ◌∙◌, subst, arith}
 use Rattle.std.specs.Cmp.{Equal-is}
 use Rattle.std.specs.List.{list_any}
@@ -42,16 +43,19 @@ module _ {X : Type 0} (order : X → X → Ordering) where
   shorter_ascending xs = omega (arith, all_put [] xs)
 
 -- ---- what is near are answers, each to its own key
-pub near_are_answers : (c : Cell) (keys : List Key) (near : NearRecords) → IsNear c keys near → AreAnswers c near.answers.items
-near_are_answers c keys near is = λ k d within.
-    let answers = near.answers.items in
+pub are_answers : (c : Cell) (keys : List Key) (answers : List Answer)
+    → map answer_held answers ≡ map (answer_to c) (ascending key_order keys) → AreAnswers c answers
+are_answers c keys answers all = λ k d within.
     let asked = ascending key_order keys in
-    let there : k < length asked = omega (arith, within, length-map answers answer_held, ap length is.answers, length-map asked (answer_to c)) in
+    let there : k < length asked = omega (arith, within, length-map answers answer_held, ap length all, length-map asked (answer_to c)) in
     let at : answer_held (get_or answers k d) ≡ answer_to c (get_or asked k d.key) =
     sym (get_or-map answer_held answers k d (answer_held d) within)
-    ∙ ap (λ xs. get_or xs k (answer_held d)) is.answers
+    ∙ ap (λ xs. get_or xs k (answer_held d)) all
     ∙ get_or-map (answer_to c) asked k d.key (answer_held d) there in
     at ∙ ap (answer_to c) (sym (ap (λ (x : KeyAnswer). x.key) at))
+
+pub near_are_answers : (c : Cell) (keys : List Key) (near : NearRecords) → IsNear c keys near → AreAnswers c near.answers.items
+near_are_answers c keys near is = are_answers c keys near.answers.items is.answers
 
 -- ---- the keys of answers
 abbrev pub key_in : Answer → Key
@@ -130,8 +134,15 @@ module _ (c : Cell) (key : Key) where
 pub finds_first : (answers : List Answer) (key : Key) → FindsAnswer answers key (find (λ (a : Answer). same_key key a.key) answers)
 finds_first answers key = λ c keys all asked. first_of c key answers (ascending key_order keys) all (holds-ascending key_order exact_keys key keys ∙ asked)
 
--- the answers to keys in order are those to the keys, ascending
-pub near_in_order : (c : Cell) (keys : List Key) (near : NearRecords) → IsStrictlySortedBy key_order keys
-    → map answer_held near.answers.items ≡ map (answer_to c) keys → IsNear c keys near
-near_in_order c keys near rises answers =
-    record { answers = answers ∙ ap (map (answer_to c)) (sym (already_ascending key_order total_keys exact_keys keys rises)) }
+-- what is made of answers that are near is near
+pub near_made : (c : Cell) (keys : List Key) (answers : List Answer) {E : Type 0} (made : Result NearRecords E)
+    → IfOk made (λ (near : NearRecords). near.answers.items ≡ answers) → map answer_held answers ≡ map (answer_to c) (ascending key_order keys)
+    → IfOk made (IsNear c keys)
+near_made c keys answers (Ok near) same all = record { answers = ap (map answer_held) same ∙ all }
+near_made c keys answers (Err e) same all = tt
+
+pub near_made_in_order : (c : Cell) (keys : List Key) (answers : List Answer) {E : Type 0} (made : Result NearRecords E)
+    → IfOk made (λ (near : NearRecords). near.answers.items ≡ answers) → IsStrictlySortedBy key_order keys
+    → map answer_held answers ≡ map (answer_to c) keys → IfOk made (IsNear c keys)
+near_made_in_order c keys answers made same rises all = near_made c keys answers made same
+    (all ∙ ap (map (answer_to c)) (sym (already_ascending key_order total_keys exact_keys keys rises)))

@@ -3,6 +3,7 @@
 
 mod ends;
 mod near;
+mod slots;
 mod told;
 
 pub use ends::{LineEnd, line_end};

@@ -8,6 +8,7 @@ ghost use Rattle.cell_spec.specs.Names.{key_order, same_key};
 ghost use Rattle.near_records.specs.declared.near.Answer.{Answer as SpecAnswer};
 ghost use Rattle.near_records.specs.Near.{AreAnswers, FindsAnswer, IsNear, answer_held, answer_to as spec_answer};
 
+use crate::slots::{FEW_ANSWERS, answer_in_slot, slots_of};
 use crate::told::Near;
 use cell_spec::{Key, Keys, ascending_keys, keys_ascend, orders_are_by_parts};
 use chain_topo::{Look, Steps};
@@ -46,11 +47,25 @@ impl<'a> Answer<'a> {
 /// record aren't kept. Each key was looked up once; to find its answer again takes no look-up.
 pub struct NearRecords<'a> {
     pub(crate) answers: Vec<Answer<'a>>,
+    /// Where the answers to names are likely to stand.
+    pub(crate) slots: Vec<usize>,
 }
 
 impl<'a> Drop for NearRecords<'a> {
     fn drop(self) {
-        let NearRecords { answers: _ } = self;
+        let NearRecords {
+            answers: _,
+            slots: _,
+        } = self;
+    }
+}
+
+impl<'a> NearRecords<'a> {
+    fn of(alloc: Global, answers: Vec<Answer<'a>>) -> Result<NearRecords<'a>, AllocError>
+        ensures { IfOk result (λ near. near.answers.items ≡ answers.entry.items) }
+    {
+        let slots = slots_of(alloc, &answers)?;
+        Ok(NearRecords { answers, slots })
     }
 }
 
@@ -166,13 +181,12 @@ pub fn gather<'a, B: Look, L: Ledger>(
     ensures steps { steps.new ≤ steps.old + length keys.now }
 {
     if keys_ascend(keys) {
-        return Ok(NearRecords {
-            answers: answers_to(alloc, look, keys, steps)?,
-        });
+        let answers = answers_to(alloc, look, keys, steps)?;
+        return NearRecords::of(alloc, answers);
     }
     let held = ascending_copy(alloc, keys)?;
     let answers = answers_to(alloc, look, held.as_slice(), steps)?;
-    Ok(NearRecords { answers })
+    NearRecords::of(alloc, answers)
 }
 
 /// The same as `gather`, where the answers to some of the keys are known: keys that ascend are looked up only where they aren't among these.
@@ -192,9 +206,8 @@ pub fn gather_beside<'a, B: Look, L: Ledger>(
     if !keys_ascend(keys) {
         return gather(alloc, look, keys, steps);
     }
-    Ok(NearRecords {
-        answers: answers_beside(alloc, look, keys, &known.answers, steps)?,
-    })
+    let answers = answers_beside(alloc, look, keys, &known.answers, steps)?;
+    NearRecords::of(alloc, answers)
 }
 
 /// The order of a key and that of a name. Names are compared here, without a call.
@@ -229,7 +242,7 @@ fn find_answer<'a, 'b>(answers: &'b [Answer<'a>], key: Key) -> Option<&'b Answer
 }
 
 /// Whether an answer is that to a name.
-fn is_to_name(answer: &Answer<'_>, name: RecName) -> bool
+pub(crate) fn is_to_name(answer: &Answer<'_>, name: RecName) -> bool
     ensures { result ≡ same_key (KeyName name) answer.now.key }
 {
     match answer.key {
@@ -244,16 +257,21 @@ fn first_to_name<'a, 'b>(answers: &'b [Answer<'a>], name: RecName) -> Option<&'b
     answers.iter().find(|answer| is_to_name(answer, name))
 }
 
-/// At most this many answers are gone through from the front. By halves it takes longer there, as no processor foresees which half is next.
-const FEW_ANSWERS: usize = 16;
-
-fn find_named<'a, 'b>(answers: &'b [Answer<'a>], name: RecName) -> Option<&'b Answer<'a>>
+/// Few answers are gone through from the front. Among more, the name's slot is looked at first. By halves it takes longer, as no processor
+/// foresees which half is next.
+fn find_named<'a, 'b>(
+    answers: &'b [Answer<'a>],
+    slots: &[usize],
+    name: RecName,
+) -> Option<&'b Answer<'a>>
     ensures { FindsAnswer answers.now (KeyName name) (option_copied result) }
 {
     if answers.len() <= FEW_ANSWERS {
-        first_to_name(answers, name)
-    } else {
-        find_answer(answers, Key::Name(name))
+        return first_to_name(answers, name);
+    }
+    match answer_in_slot(answers, slots, name) {
+        Some(answer) => Some(answer),
+        None => find_answer(answers, Key::Name(name)),
     }
 }
 
@@ -270,7 +288,7 @@ impl<'a> Near for NearRecords<'a> {
     ghost tells = { λ near c keys. IsNear c keys near };
 
     fn record(&self, name: RecName) -> Option<&Rec> {
-        match find_named(&self.answers, name) {
+        match find_named(&self.answers, &self.slots, name) {
             Some(answer) => answer.record,
             None => None,
         }
