@@ -2,13 +2,15 @@
 
 ghost use Rattle.std.specs.Prelude.{◌≡◌, ◌==◌, ◌++◌, [], IfOk, OnOk, Some, flat_map, if◌then◌else◌, map};
 ghost use Rattle.s57_types.specs.{declared.cell.Cell.{Cell as SpecCell}, declared.name.RecName.{RecName as SpecName}, declared.record.Rec.TheVariants.{F, V}};
-ghost use Rattle.cell_spec.specs.{declared.key.Subject.TheVariants.{Rec as SubjectRec}, Ascending.{ascending}, Lookup.{lookup_record}, Names.{key_order}};
+ghost use Rattle.s57_types.specs.declared.record.Spot.{Spot as SpecSpot};
+ghost use Rattle.cell_spec.specs.{declared.key.Subject.TheVariants.{Rec as SubjectRec}, Ascending.{ascending}, Lookup.{lookup_record}};
+ghost use Rattle.cell_spec.specs.Names.{key_order, name_order};
 ghost use Rattle.cell_spec.specs.declared.key.Key.TheVariants.{Name as KeyName};
 ghost use Rattle.rule_spec.specs.Reads.{end_keys, read_set};
 ghost use Rattle.near_records.specs.Near.{IsNear};
 ghost use Rattle.check_record.specs.EndKeys.{ends_of_answer, named_by, partner_keys};
 
-use cell_spec::{Key, Keys, ascending_keys, ascending_names};
+use cell_spec::{Key, Keys, Names, ascending_keys, ascending_names};
 use check_words::AREA;
 use near_records::{Answer, NearRecords};
 use read_sets::push_vector_keys;
@@ -39,17 +41,42 @@ fn push_name_keys(keys: &mut Vec<Key>, names: &[RecName]) -> Result<(), AllocErr
     Ok(())
 }
 
+/// From so many names on they are put in order by a sort that merges what rises or falls already, as the names of a boundary mostly do.
+const MANY_NAMES: usize = 32;
+
+/// The names in order, each once.
+fn in_order(mut names: Vec<RecName>) -> Result<Names, AllocError>
+    ensures { IfOk result (λ held. held ≡ ascending name_order names.items) }
+{
+    if names.len() < MANY_NAMES {
+        return Ok(ascending_names(names));
+    }
+    names.sort()?;
+    Ok(ascending_names(names))
+}
+
 /// The keys of names in order, each once, with room for `more`. Names take less to put in order than their keys.
 fn keys_of_names(alloc: Global, names: Vec<RecName>, more: usize) -> Result<Keys, AllocError>
     ensures { IfOk result (λ keys. keys ≡ ascending key_order (map KeyName names.items)) }
 {
-    let names = ascending_names(names);
+    let names = in_order(names)?;
     let mut keys = Vec::with_capacity(alloc, names.len().saturating_add(more))?;
     push_name_keys(&mut keys, names.as_slice())?;
     Ok(Items::of_vec(keys))
 }
 
-/// The names of a feature, of the head and of the records that its spatial pointers name, each once.
+/// Appends the names of the records that a feature's spatial pointers name (FSPT, S-57 Part 3, 7.6.8).
+fn push_place_names(names: &mut Vec<RecName>, feature: &Feature) -> Result<(), AllocError>
+    ensures { OnOk result (map KeyName names.new.items ≡ map KeyName names.old.items ++ map (λ (s : SpecSpot). KeyName s.to) feature.now.places) }
+{
+    for spot in feature.places.as_slice() {
+        names.push(spot.to)?;
+    }
+    Ok(())
+}
+
+/// The names of a feature, of the head and of the records that its spatial pointers name, each once. Those of the pointers come first, as they
+/// do in order: so the names mostly ascend already.
 pub(crate) fn named_keys(
     alloc: Global,
     name: RecName,
@@ -59,11 +86,9 @@ pub(crate) fn named_keys(
 {
     let room = feature.places.len().saturating_add(2);
     let mut names = Vec::with_capacity(alloc, room)?;
+    push_place_names(&mut names, feature)?;
     names.push(name)?;
     names.push(RecName::of_head())?;
-    for spot in feature.places.as_slice() {
-        names.push(spot.to)?;
-    }
     keys_of_names(alloc, names, 0)
 }
 

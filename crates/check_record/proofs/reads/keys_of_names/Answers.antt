@@ -8,7 +8,7 @@ use Rattle.check_record.proofs.reads.keys_of_names.Goals as goal
 pub returns : goal.returns
 returns c =
     let names = c.args.names.items in
-    let same : c.as_slice.result.now ≡ ascending name_order names = cc (c.ascending_names-names.ensures) in
+    let same : c.as_slice.result.now ≡ ascending name_order names = cc (c.in_ok-names.ensures) in
     c.of_vec.ensures
     ∙ c.in_ok-push_name_keys.ensures
     ∙ ap (λ xs. xs ++ map Name c.as_slice.result.now) c.in_ok-keys.ensures.items
