@@ -5,16 +5,17 @@ ghost use Rattle.check_pairs.specs.Parts.{IsPart};
 ghost use Rattle.rule_spec.specs.Affected.{exact_row};
 ghost use Rattle.rule_spec.specs.Findings.{is_subject};
 
-use crate::pairs::{PairPlaces, row_by_parts};
+use crate::pairs::{PairPlaces, both_among};
 use cell_spec::{Row, Rows, Subject};
 use chain_topo::Look;
-use check_pairs::ChainPart;
+use check_pairs::{ChainPart, pair_row};
 use look_counter::start_counter;
 use rayon::prelude::*;
 use std::alloc::{AllocError, Global};
 use std::marker::Brand;
 use std::sync::ledger::{Blank, Ledger};
 use std::thread::Threads;
+use subject_rows::row_of;
 
 /// The fewest subjects or parts for which a thread is started: starting one takes as long as judging or finding some of them.
 pub(crate) const FEWEST: usize = 256;
@@ -23,23 +24,31 @@ pub(crate) const FEWEST: usize = 256;
 fn counted<B: Look, L: Ledger>(
     alloc: Global,
     look: &B,
-    parts: &[ChainPart<'_>],
-    near: &mut PairPlaces,
     subject: Subject,
     blank: Blank,
 ) -> Result<Row, AllocError>
     requires subject { IsTrue (is_subject (B.cell look.now) subject) }
-    requires held { All (IsPart (B.cell look.now)) parts.now }
     requires name { blank.name ≡ L.name }
     requires parts { blank.parts ≡ L.parts }
     requires some_part { 0 < L.parts }
     ensures { IfOk result (λ row. row ≡ exact_row (B.cell look.now) subject) }
 {
     let mut steps = start_counter::<L>(blank);
-    row_by_parts(alloc, look, parts, near, subject, &mut steps)
+    row_of(alloc, look, subject, &mut steps)
 }
 
-/// The row of a subject of a cell. It has a counter of its own, since nobody asks how many look-ups are made before a turn.
+/// The row of a subject of a cell, by look-ups. It has a counter of its own, since nobody asks how many look-ups are made before a turn. It stays a
+/// call, so that pairs don't set up what the other rules have on the stack.
+#[inline(never)]
+fn look_and_judge<B: Look>(alloc: Global, look: &B, subject: Subject) -> Result<Row, AllocError>
+    requires { IsTrue (is_subject (B.cell look.now) subject) }
+    ensures { IfOk result (λ row. row ≡ exact_row (B.cell look.now) subject) }
+{
+    counted::<B, Brand>(alloc, look, subject, Blank::new(1))
+}
+
+/// The row of a subject of a cell. The parts are connected nodes and edges of the cell, in the order of their names: a pair of which both are
+/// among them is judged without a look-up, and they are looked for near those of the pair before.
 fn judge<B: Look>(
     alloc: Global,
     look: &B,
@@ -51,7 +60,10 @@ fn judge<B: Look>(
     requires parts { All (IsPart (B.cell look.now)) parts.now }
     ensures { IfOk result (λ row. row ≡ exact_row (B.cell look.now) subject) }
 {
-    counted::<B, Brand>(alloc, look, parts, near, subject, Blank::new(1))
+    match both_among(parts, near, subject) {
+        Some((first, second)) => pair_row(alloc, first, second),
+        None => look_and_judge(alloc, look, subject),
+    }
 }
 
 /// The rows of a few subjects of a cell, one after the other.

@@ -1,19 +1,13 @@
-//! The rows of pairs of which both were gathered.
+//! Pairs of which both were gathered.
 
-ghost use Rattle.std.specs.Prelude.{◌≡◌, All, IfOk, IfSome, IsTrue};
+ghost use Rattle.std.specs.Prelude.{◌≡◌, All, IfSome};
 ghost use Rattle.s57_types.specs.declared.cell.Cell.{Cell as SpecCell};
 ghost use Rattle.cell_spec.specs.declared.key.Subject.TheVariants.{Pair as SpecPair};
 ghost use Rattle.check_pairs.specs.Parts.{IsPart};
-ghost use Rattle.rule_spec.specs.Affected.{exact_row};
-ghost use Rattle.rule_spec.specs.Findings.{is_subject};
 
-use cell_spec::{Row, Subject};
-use chain_topo::{Look, Steps};
-use check_pairs::{ChainPart, pair_row};
+use cell_spec::Subject;
+use check_pairs::ChainPart;
 use s57_types::RecName;
-use std::alloc::{AllocError, Global};
-use std::sync::ledger::Ledger;
-use subject_rows::row_of;
 
 /// How many places are looked at before parts are searched by halves.
 const PLACES_BEHIND: usize = 4;
@@ -64,7 +58,7 @@ fn part_near<'a, 'b>(
 }
 
 /// The two of a pair, if both are among these parts.
-fn both_among<'a, 'b>(
+pub(crate) fn both_among<'a, 'b>(
     parts: &'b [ChainPart<'a>],
     near: &mut PairPlaces,
     subject: Subject,
@@ -79,26 +73,4 @@ fn both_among<'a, 'b>(
     let first = part_near(parts, &mut near.first, first)?;
     let second = part_near(parts, &mut near.second, second)?;
     Some((first, second))
-}
-
-/// The row of a subject of a cell. The parts are connected nodes and edges of the cell, in the order of their names: a pair of which both are
-/// among them is judged without a look-up, and they are looked for near those of the pair before.
-///
-/// An `Err` means out of memory.
-pub(crate) fn row_by_parts<B: Look, L: Ledger>(
-    alloc: Global,
-    look: &B,
-    parts: &[ChainPart<'_>],
-    near: &mut PairPlaces,
-    subject: Subject,
-    steps: &mut Steps<L>,
-) -> Result<Row, AllocError>
-    requires subject { IsTrue (is_subject (B.cell look.now) subject) }
-    requires parts { All (IsPart (B.cell look.now)) parts.now }
-    ensures { IfOk result (λ row. row ≡ exact_row (B.cell look.now) subject) }
-{
-    match both_among(parts, near, subject) {
-        Some((first, second)) => pair_row(alloc, first, second),
-        None => row_of(alloc, look, subject, steps),
-    }
 }

@@ -1,4 +1,4 @@
-use Rattle.recheck.proofs.judging.judge.Given as goal
+use Rattle.recheck.proofs.judging.look_and_judge.Given as goal
 
 -- the counter is the one that the blank becomes
 abbrev pub ghosts-counted : goal.ghosts-counted
