@@ -168,7 +168,8 @@ fn push_change(
     Ok(())
 }
 
-// A copy of a row.
+// A copy of a row. It stays a call, since most rows change nothing and aren't copied.
+#[inline(never)]
 fn copy_of(alloc: Global, row: &Row) -> Result<Row, AllocError>
     ensures { IfOk result (λ copy. copy ≡ row.now) }
 {
