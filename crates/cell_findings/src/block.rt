@@ -26,20 +26,20 @@ pub(crate) enum Block<'a> {
 /// Into about how many blocks all is cut, each of about the same work: many for each thread, so that threads end together.
 const BLOCKS: usize = 256;
 
-/// The work of a node or an edge as a record. That of others is told by the instructions that each takes.
-const RECORD_WORK: usize = 5;
+/// The work of a node or an edge as a record. That of others is told by the time that each takes: pairs are far apart in memory.
+const RECORD_WORK: usize = 3;
 
 /// The work of a feature.
-const FEATURE_WORK: usize = 55;
+const FEATURE_WORK: usize = 27;
 
 /// The work of a side of an edge.
-const SIDE_WORK: usize = 10;
+const SIDE_WORK: usize = 5;
 
 /// The work of a connected node or an edge with those near it.
 const PAIRS_WORK: usize = 35;
 
 /// The work of an identifier.
-const IDENTITY_WORK: usize = 7;
+const IDENTITY_WORK: usize = 6;
 
 /// The least work of a block: less isn't worth a thread.
 const LEAST_WORK: usize = 1024 * RECORD_WORK;
